@@ -1,0 +1,7 @@
+pub mod Inside
+pub mod Limits
+pub mod Preset
+pub mod Rounding
+pub mod Serial
+pub mod Setup
+pub mod WeightField

@@ -1,0 +1,11 @@
+-- The serial of an instrument.
+use Rattle.std.specs.Prelude.{ℕ, Bool, ◌&&◌, ◌||◌, nat_le, List, length}
+use Rattle.std.specs.List.{list_all}
+
+-- one of A-Z and 0-9
+abbrev pub is_serial_byte : ℕ → Bool
+is_serial_byte byte = (nat_le 65 byte && nat_le byte 90) || (nat_le 48 byte && nat_le byte 57)
+
+-- 1 to 16 characters of A-Z and 0-9
+abbrev pub is_serial : List ℕ → Bool
+is_serial text = nat_le 1 (length text) && nat_le (length text) 16 && list_all is_serial_byte text

@@ -1,0 +1,55 @@
+//! Limits of indication and of the zero.
+ghost use Rattle.std.specs.Prelude.{◌≡◌, ◌↔◌, IsTrue, pos};
+ghost use Rattle.wb_instrument.specs.Limits.{IsOver, IsUnder, tracking_gap, zero_limit};
+ghost use Rattle.wb_instrument.specs.Setup.{IsSetup, intervals};
+
+use crate::Instrument;
+
+/// The intervals above Max that are still indicated (OIML R 76-1:2006, 4.2.3).
+const OVER_RANGE_INTERVALS: i32 = 9;
+
+/// The least gross that is indicated, in intervals.
+const LEAST_INTERVALS: i32 = -20;
+
+/// Steps of zero tracking that may correct half an interval a second.
+const STEPS_A_SECOND: u32 = 5;
+
+impl Instrument {
+    /// n, the intervals of e in Max.
+    pub fn intervals(&self) -> u32
+        ensures value { result ≡ intervals self.now }
+        ensures setup { IsSetup self.now }
+    {
+        self.max_kg() / self.interval_kg()
+    }
+
+    /// Whether so many intervals are above Max + 9 e.
+    pub fn is_over(&self, gross: i32) -> bool
+        ensures { IsTrue result ↔ IsOver self.now gross }
+    {
+        self.intervals() as i32 + OVER_RANGE_INTERVALS < gross
+    }
+
+    /// Whether so many intervals are below -20 e.
+    pub fn is_under(&self, gross: i32) -> bool
+        ensures { IsTrue result ↔ IsUnder gross }
+    {
+        gross < LEAST_INTERVALS
+    }
+
+    /// How far from the calibration zero the zero may lie, in tenths of e: n/5, rounded down.
+    pub fn zero_limit(&self) -> i32
+        ensures value { result ≡ pos (zero_limit self.now) }
+        ensures setup { IsSetup self.now }
+    {
+        (self.intervals() / 5) as i32
+    }
+
+    /// K: of so many readings in a row at most one makes a step of zero tracking.
+    pub fn tracking_gap(&self) -> u32
+        ensures value { result ≡ tracking_gap self.now }
+        ensures setup { IsSetup self.now }
+    {
+        self.pace().div_ceil(STEPS_A_SECOND)
+    }
+}
