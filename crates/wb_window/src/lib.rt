@@ -1,0 +1,16 @@
+//! The last readings of a load converter, and whether they are stable.
+//!
+//! A window keeps the last N readings. It is stable where it has N of them, all are loads and any two differ by at
+//! most the stability band. Whatever keeps the readings, a window is seen as the list of them, the newest first. Only
+//! making a window takes memory.
+#![tactic(auto)]
+
+mod reading;
+mod ring;
+#[cfg(test)]
+mod tests;
+mod window;
+
+pub use reading::Reading;
+pub use ring::RingWindow;
+pub use window::Window;
