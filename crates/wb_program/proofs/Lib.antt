@@ -1,0 +1,4 @@
+pub mod Digits
+pub mod FirstLine
+pub mod Replaying
+pub mod Windows

@@ -1,0 +1,10 @@
+pub mod Event
+pub mod Indication
+pub mod LineEvents
+pub mod Numerals
+pub mod Performed
+pub mod Printed
+pub mod Replayed
+pub mod Stands
+pub mod Trace
+pub mod TraceLines

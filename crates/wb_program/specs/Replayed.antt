@@ -1,0 +1,46 @@
+-- What a replay did.
+use Rattle.std.specs.Prelude.{◌≡◌, ℕ, ◌+◌, ◌≤◌, ◌<◌, List, length, take, reverse, Option, Some, None, IfSome, option_map, slice_get}
+use Rattle.std.specs.Io.KnownBytes.{Appends}
+use Rattle.std.specs.Str.Lines.{lines}
+use Rattle.wb_instrument.specs.Setup.{Setup}
+use Rattle.wb_program.specs.declared.replay.ReplayEnd.{ReplayEnd}
+use Rattle.wb_program.specs.declared.replay.ReplayEnd.TheVariants.{Done, BadLine, TooLong, ReadFault, WriteFault, Memory}
+use Rattle.wb_program.specs.Event.{Event}
+use Rattle.wb_program.specs.TraceLines.{line_events}
+use Rattle.wb_program.specs.Trace.{trace_events, trace_limit}
+use Rattle.wb_program.specs.Printed.{printed}
+
+-- lines were understood, and what was written is the printed form of the replies to their events
+pub record Replayed (s : Setup) (ls : List (List ℕ)) (w w' : Option (List ℕ)) : Type 0 where
+  pub events : List Event
+  pub understood : trace_events ls ≡ Some events
+  pub written : Appends w w' (printed s (reverse events))
+
+-- line n, counted from 1, is the first that isn't understood, and those before it were replayed
+pub record StopsAt (s : Setup) (ls : List (List ℕ)) (n : ℕ) (w w' : Option (List ℕ)) : Type 0 where
+  pub before : ℕ
+  pub number : n ≡ before + 1
+  pub replayed : Replayed s (take before ls) w w'
+  pub not_understood : option_map line_events (slice_get ls before) ≡ Some None
+
+-- what an end says of lines that were replayed
+abbrev pub ReplaysLines : ReplayEnd → Setup → List (List ℕ) → Option (List ℕ) → Option (List ℕ) → Type 0
+ReplaysLines Done s ls w w' = Replayed s ls w w'
+ReplaysLines (BadLine n) s ls w w' = StopsAt s ls n w w'
+ReplaysLines TooLong s ls w w' = ⊥
+ReplaysLines ReadFault s ls w w' = ⊥
+ReplaysLines WriteFault s ls w w' = Unit {0}
+ReplaysLines Memory s ls w w' = ⊥
+
+-- what an end says of a trace of these bytes: only a trace that is not too long is run, and before it is read nothing is written
+abbrev pub EndsOn : ReplayEnd → Setup → Option (List ℕ) → Option (List ℕ) → List ℕ → Type 0
+EndsOn Done s w w' trace = (length trace ≤ trace_limit) × ReplaysLines Done s (lines trace) w w'
+EndsOn (BadLine n) s w w' trace = (length trace ≤ trace_limit) × ReplaysLines (BadLine n) s (lines trace) w w'
+EndsOn TooLong s w w' trace = (trace_limit < length trace) × (w' ≡ w)
+EndsOn ReadFault s w w' trace = w' ≡ w
+EndsOn WriteFault s w w' trace = length trace ≤ trace_limit
+EndsOn Memory s w w' trace = w' ≡ w
+
+-- the same of what the reader has left, where it tells that
+abbrev pub Ends : ReplayEnd → Setup → Option (List ℕ) → Option (List ℕ) → Option (List ℕ) → Type 0
+Ends end s unread w w' = IfSome unread (EndsOn end s w w')

@@ -1,0 +1,53 @@
+-- The lines of a trace, by their first byte.
+use Rattle.std.specs.Prelude.{ℕ, ◌==◌, List, [], ◌∷◌, ◌++◌, map, replicate, if◌then◌else◌, Option, Some, None, option_map, nat_eq, is_some}
+use Rattle.std.specs.List.{position, before_first, after_first}
+use Rattle.std.specs.Cmp.Lexicographic.{pointwise}
+use Rattle.wb_window.specs.Reading.{reading_of}
+use Rattle.wb_window.specs.declared.reading.Reading.{Reading}
+use Rattle.wb_window.specs.declared.reading.Reading.TheVariants.{Lost}
+use Rattle.wb_program.specs.Event.{Event, reading, byte}
+use Rattle.wb_program.specs.Numerals.{number, count}
+
+-- `lost`, or a number of tenths
+abbrev pub reading_word : List ℕ → Option Reading
+reading_word word = if pointwise nat_eq word (108 ∷ 111 ∷ 115 ∷ 116 ∷ []) then Some Lost else option_map reading_of (number word)
+
+-- so many times the reading, where both are there
+abbrev pub repeated : Option Reading → Option ℕ → Option (List Event)
+repeated None n = None
+repeated (Some r) None = None
+repeated (Some r) (Some n) = Some (replicate n (reading r))
+
+-- a reading, then optionally a blank and a count
+abbrev pub reading_line : List ℕ → Option (List Event)
+reading_line text =
+    if is_some (position (λ b. b == 32) text)
+    then repeated (reading_word (before_first (λ b. b == 32) text)) (count (after_first (λ b. b == 32) text))
+    else repeated (reading_word text) (Some 1)
+
+-- the bytes of a text typed at the terminal, and the line's end
+abbrev pub typed : List ℕ → List Event
+typed text = map byte (text ++ 13 ∷ 10 ∷ [])
+
+-- `SI`; no other text is understood yet
+abbrev pub text_line : List ℕ → Option (List Event)
+text_line text = if pointwise nat_eq text (83 ∷ 73 ∷ []) then Some (typed text) else None
+
+-- what stands after one blank
+abbrev pub without_blank : List ℕ → Option (List ℕ)
+without_blank [] = None
+without_blank (b ∷ text) = if b == 32 then Some text else None
+
+-- the events of the text, where there is one
+abbrev pub of_text : (List ℕ → Option (List Event)) → Option (List ℕ) → Option (List Event)
+of_text events None = None
+of_text events (Some text) = events text
+
+-- the events of a line, the first first; none where it isn't understood
+abbrev pub line_events : List ℕ → Option (List Event)
+line_events [] = Some []
+line_events (kind ∷ rest) =
+    if kind == 35 then Some []
+    else if kind == 114 then of_text reading_line (without_blank rest)
+    else if kind == 116 then of_text text_line (without_blank rest)
+    else None
