@@ -1,0 +1,11 @@
+pub mod Balances
+pub mod Calls
+pub mod Moments
+pub mod Pauses
+pub mod Spacing
+pub mod Standing
+pub mod Steadiness
+pub mod Tracks
+pub mod Windows
+pub mod ZeroRange
+pub mod Zeros

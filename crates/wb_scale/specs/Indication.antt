@@ -1,0 +1,44 @@
+-- What is indicated.
+use Rattle.std.specs.Prelude.{◌+◌, Bool, if◌then◌else◌, List, Option, Some, None, option_map, ℤ, pos, ◌-ℤ◌, neg_ℤ, int_lt, ◌≤ℤ◌}
+use Rattle.wb_instrument.specs.Rounding.{round}
+use Rattle.wb_instrument.specs.Setup.{Setup, intervals}
+use Rattle.wb_window.specs.Stability.{is_stable}
+use Rattle.wb_scale.specs.declared.answers.Indicated.{Indicated}
+use Rattle.wb_scale.specs.declared.answers.Indicated.TheVariants.{NoLoad, Over, Under, Shown}
+use Rattle.wb_scale.specs.declared.answers.TareNow.{TareNow}
+use Rattle.wb_scale.specs.Moment.{Moment, readings}
+use Rattle.wb_scale.specs.Tare.{tare_now, tare_tenths}
+use Rattle.wb_scale.specs.Zero.{above_zero}
+
+-- gross, in whole e: the load above the zero, rounded
+abbrev pub gross : List Moment → Option ℤ
+gross ms = option_map round (above_zero ms)
+
+-- net, in whole e: the load above the zero less the tare, rounded
+abbrev pub net : List Moment → Option ℤ
+net ms = option_map (λ tenths. round (tenths -ℤ tare_tenths (tare_now ms))) (above_zero ms)
+
+-- gross and net are indicated, unless gross is above Max + 9 e (OIML R 76-1:2006, 4.2.3) or below -20 e
+abbrev pub shown : Setup → Bool → ℤ → ℤ → Indicated
+shown s stable gross net =
+    if int_lt (pos (intervals s + 9)) gross then Over
+    else if int_lt gross (neg_ℤ (pos 20)) then Under
+    else Shown gross net stable
+
+-- so many tenths above the zero are indicated, with a tare
+abbrev pub indicated_at : Setup → Bool → TareNow → Option ℤ → Indicated
+indicated_at s stable tare None = NoLoad
+indicated_at s stable tare (Some tenths) = shown s stable (round tenths) (round (tenths -ℤ tare_tenths tare))
+
+-- what is indicated after these moments
+unfoldable pub indicated : Setup → List Moment → Indicated
+indicated s ms = indicated_at s (is_stable s.window s.band (readings ms)) (tare_now ms) (above_zero ms)
+
+-- what is shown is in range
+abbrev pub IsInRange : Setup → Indicated → Type 0
+IsInRange s NoLoad = Unit {0}
+IsInRange s Over = Unit {0}
+IsInRange s Under = Unit {0}
+IsInRange s (Shown gross net stable) =
+    (neg_ℤ (pos 20) ≤ℤ gross) × (gross ≤ℤ pos (intervals s + 9))
+    × (neg_ℤ (pos (intervals s + 20)) ≤ℤ net) × (net ≤ℤ pos (intervals s + 9))

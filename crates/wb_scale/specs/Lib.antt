@@ -1,0 +1,14 @@
+pub mod After
+pub mod Call
+pub mod Cleared
+pub mod Drift
+pub mod History
+pub mod Indication
+pub mod Load
+pub mod Moment
+pub mod Stands
+pub mod State
+pub mod Steady
+pub mod Tare
+pub mod Tracking
+pub mod Zero

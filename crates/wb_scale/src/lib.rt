@@ -1,0 +1,21 @@
+//! A scale: its zero, zero tracking, tares, what it indicates, and whether the bridge was cleared.
+//!
+//! A scale takes readings of a load in tenths of the verification scale interval e, and calls that set its zero or its
+//! tare. What it answers is defined on the whole history of its calls: see `specs/`. No call takes memory.
+#![tactic(auto)]
+
+mod answers;
+mod cleared;
+mod drift;
+mod indication;
+mod load;
+mod scale;
+mod tare;
+#[cfg(test)]
+mod tests;
+mod tracking;
+mod zero_setting;
+
+pub use answers::{Indicated, PresetAnswer, TareAnswer, TareNow, ZeroAnswer};
+pub use drift::{law_of_drift, law_of_steady_indication, law_of_zero_range};
+pub use scale::Scale;

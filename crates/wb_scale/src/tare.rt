@@ -1,0 +1,143 @@
+//! Weighed and preset tares.
+ghost use Rattle.std.specs.Prelude.{◌≡◌, ◌∷◌, ◌*ℤ◌, ◌≤ℤ◌, false, IfErr, IfOk, IfSome, if◌then◌else◌, List, None, pos, Some};
+ghost use Rattle.wb_instrument.specs.Rounding.{round};
+ghost use Rattle.wb_scale.specs.Call.{Call, clear_tare, preset, tare};
+ghost use Rattle.wb_scale.specs.History.{moments};
+ghost use Rattle.wb_scale.specs.Load.{IsAbove};
+ghost use Rattle.wb_scale.specs.Stands.{Stands};
+ghost use Rattle.wb_scale.specs.Tare.{IsTare, is_preset, is_preset_done, is_tared, is_weighed, preset_answer, tare_answer, tare_answer_of, tare_tenths};
+
+use crate::Scale;
+use crate::answers::{PresetAnswer, TareAnswer, TareNow};
+use wb_instrument::{Instrument, round_tenths};
+use wb_window::Window;
+
+/// Tenths of an interval.
+const TENTHS: i32 = 10;
+
+impl<W: Window> Scale<W> {
+    /// Tares the last load, in stable equilibrium; the tare takes the place of an older weighed one.
+    pub fn tare(&mut self) -> TareAnswer
+        ensures answer { (h : List Call) → Stands self.old h → result ≡ tare_answer self.old.setup (moments self.old.setup h) }
+        ensures setup { self.new.setup ≡ self.old.setup }
+        ensures stands { (h : List Call) → Stands self.old h → Stands self.new (tare ∷ h) }
+        ensures refused { is_tared result ≡ false → self.new ≡ self.old }
+    {
+        let stable = self.window.stable();
+        match tare_target(&self.instrument, stable, self.tare, self.above_zero()) {
+            Ok(tenths) => {
+                self.tare = TareNow::Weighed(tenths);
+                TareAnswer::Done(kilograms(&self.instrument, round_tenths(tenths)))
+            }
+            Err(answer) => answer,
+        }
+    }
+
+    /// Sets a preset tare of so many grams, rounded to e; it takes the place of an older preset tare.
+    pub fn preset(&mut self, grams: u64) -> PresetAnswer
+        ensures answer { (h : List Call) → Stands self.old h → result ≡ preset_answer self.old.setup (moments self.old.setup h) grams }
+        ensures setup { self.new.setup ≡ self.old.setup }
+        ensures stands { (h : List Call) → Stands self.old h → Stands self.new (preset grams ∷ h) }
+        ensures refused { is_preset_done result ≡ false → self.new ≡ self.old }
+    {
+        match preset_target(self.tare, self.instrument.preset_of_grams(grams)) {
+            Ok(whole) => {
+                self.tare = TareNow::Preset(whole);
+                PresetAnswer::Done(kilograms(&self.instrument, whole))
+            }
+            Err(answer) => answer,
+        }
+    }
+
+    /// Clears the tare.
+    pub fn clear_tare(&mut self)
+        ensures setup { self.new.setup ≡ self.old.setup }
+        ensures stands { (h : List Call) → Stands self.old h → Stands self.new (clear_tare ∷ h) }
+    {
+        self.tare = TareNow::Empty;
+    }
+}
+
+/// The tenths above the zero that may be the weighed tare, or why they may not.
+fn tare_target(
+    instrument: &Instrument,
+    stable: bool,
+    tare: TareNow,
+    above_zero: Option<i32>,
+) -> Result<i32, TareAnswer>
+    requires { IfSome above_zero IsAbove }
+    ensures ok { IfOk result (λ target. (above_zero ≡ Some target)
+        × (tare_answer_of instrument.now stable tare above_zero ≡ TareAnswer.Done (pos instrument.now.interval_kg *ℤ round target))) }
+    ensures in_range { IfOk result (λ target. IsTare instrument.now (TareNow.Weighed target)) }
+    ensures err { IfErr result (λ answer. tare_answer_of instrument.now stable tare above_zero ≡ answer) }
+    ensures refused { IfErr result (λ answer. is_tared answer ≡ false) }
+{
+    if !stable {
+        return Err(TareAnswer::NotStable);
+    }
+    if preset_in_force(tare) {
+        return Err(TareAnswer::PresetInUse);
+    }
+    let most = TENTHS * instrument.intervals() as i32;
+    match above_zero {
+        Some(tenths) => {
+            if most < tenths {
+                Err(TareAnswer::Above)
+            } else if round_tenths(tenths) <= 0 {
+                Err(TareAnswer::Below)
+            } else {
+                Ok(tenths)
+            }
+        }
+        None => Err(TareAnswer::NotStable),
+    }
+}
+
+/// The whole intervals that may be the preset tare, or why they may not.
+fn preset_target(tare: TareNow, whole: Option<i32>) -> Result<i32, PresetAnswer>
+    ensures ok { IfOk result (λ target. (whole ≡ Some target) × (is_weighed tare ≡ false)) }
+    ensures err { IfErr result (λ answer. answer ≡ (if is_weighed tare then PresetAnswer.WeighedInUse else PresetAnswer.OutOfRange)) }
+    ensures refused { IfErr result (λ _. (if is_weighed tare then None else whole) ≡ None) }
+{
+    if weighed_in_force(tare) {
+        return Err(PresetAnswer::WeighedInUse);
+    }
+    match whole {
+        Some(target) => Ok(target),
+        None => Err(PresetAnswer::OutOfRange),
+    }
+}
+
+/// So many intervals, in kilograms.
+fn kilograms(instrument: &Instrument, whole: i32) -> i32
+    requires { (pos 0 ≤ℤ whole) × (whole ≤ℤ pos 10_000) }
+    ensures { result ≡ (pos instrument.now.interval_kg *ℤ whole) }
+{
+    instrument.interval_kg() as i32 * whole
+}
+
+/// The tenths of a tare.
+pub(crate) fn tenths_of(instrument: &Instrument, tare: TareNow) -> i32
+    requires { IsTare instrument.now tare }
+    ensures value { result ≡ tare_tenths tare }
+    ensures in_range { (pos 0 ≤ℤ result) × (result ≤ℤ pos 100_000) }
+{
+    let _intervals = instrument.intervals();
+    match tare {
+        TareNow::Empty => 0,
+        TareNow::Weighed(tenths) => tenths,
+        TareNow::Preset(whole) => TENTHS * whole,
+    }
+}
+
+fn preset_in_force(tare: TareNow) -> bool
+    ensures { result ≡ is_preset tare }
+{
+    matches!(tare, TareNow::Preset(_))
+}
+
+fn weighed_in_force(tare: TareNow) -> bool
+    ensures { result ≡ is_weighed tare }
+{
+    matches!(tare, TareNow::Weighed(_))
+}

@@ -1,0 +1,101 @@
+//! Zero tracking.
+ghost use Rattle.std.specs.Prelude.{◌≡◌, ◌≤◌, ◌+ℤ◌, ◌≤ℤ◌, IfSome, neg_ℤ, pos, Some};
+ghost use Rattle.wb_scale.specs.After.{pause_from, step_of, tracked};
+ghost use Rattle.wb_scale.specs.Load.{IsLoad};
+ghost use Rattle.wb_scale.specs.Tracking.{is_within as is_within_limit, step_to, towards};
+
+use crate::Scale;
+use crate::cleared::cleared_by;
+use crate::load::load_above;
+use wb_instrument::round_tenths;
+use wb_window::Window;
+
+impl<W: Window> Scale<W> {
+    /// Zero tracking, and whether the bridge is cleared, at the reading that the window has taken.
+    pub(crate) fn track(&mut self)
+        ensures { self.new ≡ tracked self.old }
+    {
+        let load = self.load();
+        let limit = self.instrument.zero_limit();
+        let gap = self.instrument.tracking_gap();
+        let step = tracking_step(self.window.stable(), self.pause, load, self.zero, limit);
+        let zero = self.zero + step;
+        self.zero = zero;
+        self.pause = pause_after(step, self.pause, gap);
+        self.cleared = cleared_by(self.cleared, load_above(load, zero));
+    }
+}
+
+/// The step of zero tracking at a load, in tenths of e: none in a pause, or where the scale is not stable.
+fn tracking_step(stable: bool, pause: u32, load: Option<i32>, zero: i32, limit: i32) -> i32
+    requires load { IfSome load IsLoad }
+    requires zero { (neg_ℤ limit ≤ℤ zero) × (zero ≤ℤ limit) }
+    requires limit { limit ≤ℤ pos 2_000 }
+    ensures value { result ≡ step_of stable pause limit zero load }
+    ensures within { (neg_ℤ limit ≤ℤ (zero +ℤ result)) × ((zero +ℤ result) ≤ℤ limit) }
+{
+    if pause > 0 {
+        return 0;
+    }
+    if !stable {
+        return 0;
+    }
+    match load {
+        Some(tenths) => step_to_load(tenths, zero, limit),
+        None => 0,
+    }
+}
+
+/// The step at a load: a tenth towards it, where gross is 0 and the moved zero stays within the limit.
+fn step_to_load(load: i32, zero: i32, limit: i32) -> i32
+    requires load { IsLoad load }
+    requires zero { (neg_ℤ limit ≤ℤ zero) × (zero ≤ℤ limit) }
+    requires limit { limit ≤ℤ pos 2_000 }
+    ensures value { result ≡ step_to limit zero (Some load) }
+    ensures within { (neg_ℤ limit ≤ℤ (zero +ℤ result)) × ((zero +ℤ result) ≤ℤ limit) }
+{
+    let gross = round_tenths(load - zero);
+    if gross != 0 {
+        return 0;
+    }
+    let step = tenth_towards(zero, load);
+    if is_within(limit, zero + step) {
+        step
+    } else {
+        0
+    }
+}
+
+/// Whether a zero is within the limit on either side of the calibration zero.
+fn is_within(limit: i32, zero: i32) -> bool
+    requires { (pos 0 ≤ℤ limit) × (limit ≤ℤ pos 2_000) }
+    ensures { result ≡ is_within_limit limit zero }
+{
+    -limit <= zero && zero <= limit
+}
+
+/// A tenth from the zero towards a load.
+fn tenth_towards(zero: i32, load: i32) -> i32
+    ensures value { result ≡ towards zero load }
+    ensures tenth { (neg_ℤ (pos 1) ≤ℤ result) × (result ≤ℤ pos 1) }
+{
+    if zero < load {
+        1
+    } else if load < zero {
+        -1
+    } else {
+        0
+    }
+}
+
+/// The readings to come that make no step, after a reading that made this one.
+pub(crate) fn pause_after(step: i32, pause: u32, gap: u32) -> u32
+    requires { 1 ≤ gap }
+    ensures { result ≡ pause_from step pause gap }
+{
+    if step == 0 {
+        pause.saturating_sub(1)
+    } else {
+        gap - 1
+    }
+}
