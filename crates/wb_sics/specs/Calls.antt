@@ -1,0 +1,39 @@
+-- What a terminal's history asks of its scale.
+use Rattle.std.specs.Prelude.{◌==◌, Bool, true, false, List, [], ◌∷◌, ◌++◌, if◌then◌else◌}
+use Rattle.wb_instrument.specs.Setup.{Setup}
+use Rattle.wb_window.specs.declared.reading.Reading.{Reading}
+use Rattle.wb_scale.specs.Call.{Call, read, read_for_zero, set_zero, tare, preset, clear_tare, stored as stored_call}
+use Rattle.wb_sics.specs.declared.command.Command.{Command}
+use Rattle.wb_sics.specs.declared.command.Command.TheVariants.{Weight, WeightNow, Zero, Tare, TareValue, PresetTare, BadTare, ClearTare, Cancel, Commands, SerialNumber, Unknown}
+use Rattle.wb_sics.specs.Event.{Event, reading, byte, hang_up, stored}
+use Rattle.wb_sics.specs.Lines.{line_command}
+use Rattle.wb_sics.specs.Waiting.{zero_waits, tare_waits}
+
+-- what a command asks of the scale at its LF
+abbrev pub asked : Command → List Call
+asked Weight = []
+asked WeightNow = []
+asked Zero = set_zero ∷ []
+asked Tare = tare ∷ []
+asked TareValue = []
+asked (PresetTare grams) = preset grams ∷ []
+asked BadTare = []
+asked ClearTare = clear_tare ∷ []
+asked Cancel = clear_tare ∷ []
+asked Commands = []
+asked SerialNumber = []
+asked Unknown = []
+
+-- what a reading asks of it: a waiting zero setting is decided before tracking, a waiting tare balancing after it
+abbrev pub asked_at : Bool → Bool → Reading → List Call
+asked_at true tared r = read_for_zero r ∷ []
+asked_at false true r = tare ∷ read r ∷ []
+asked_at false false r = read r ∷ []
+
+-- the scale's own history, the newest call first
+abbrev pub calls : Setup → List Event → List Call
+calls s [] = []
+calls s (reading r ∷ h) = asked_at (zero_waits s h) (tare_waits s h) r ++ calls s h
+calls s (byte b ∷ h) = if b == 10 then asked (line_command h) ++ calls s h else calls s h
+calls s (hang_up ∷ h) = calls s h
+calls s (stored ∷ h) = stored_call ∷ calls s h

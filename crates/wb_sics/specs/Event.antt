@@ -1,0 +1,22 @@
+-- What comes to a terminal.
+use Rattle.std.specs.Prelude.{ℕ, List, [], ◌∷◌}
+use Rattle.wb_window.specs.declared.reading.Reading.{Reading}
+
+-- an event; a history is the list of these, the newest first
+pub data Event : Type 0 where
+  -- a reading of the load converter
+  reading : Reading → Event
+  -- a byte of the terminal's stream
+  byte : ℕ → Event
+  -- the connection ends
+  hang_up : Event
+  -- the office stored a weighing
+  stored : Event
+
+-- the readings of a history, the newest first
+abbrev pub readings_of : List Event → List Reading
+readings_of [] = []
+readings_of (reading r ∷ h) = r ∷ readings_of h
+readings_of (byte b ∷ h) = readings_of h
+readings_of (hang_up ∷ h) = readings_of h
+readings_of (stored ∷ h) = readings_of h

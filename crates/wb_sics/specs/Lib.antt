@@ -1,0 +1,10 @@
+pub mod Answers
+pub mod Calls
+pub mod Commands
+pub mod Event
+pub mod Kept
+pub mod Lines
+pub mod Replies
+pub mod ReplyText
+pub mod Stands
+pub mod Waiting

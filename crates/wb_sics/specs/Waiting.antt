@@ -1,0 +1,76 @@
+-- Waiting commands: `S`, `Z` and `T` (times and order are this project's own).
+use Rattle.std.specs.Prelude.{ℕ, ◌==◌, ◌+◌, Bool, true, false, not, ◌&&◌, ◌||◌, nat_lt, List, [], ◌∷◌, if◌then◌else◌, Option, Some, None}
+use Rattle.wb_instrument.specs.Setup.{Setup}
+use Rattle.wb_window.specs.Stability.{is_stable}
+use Rattle.wb_sics.specs.declared.command.Command.{Command}
+use Rattle.wb_sics.specs.declared.command.Command.TheVariants.{Weight, WeightNow, Zero, Tare, TareValue, PresetTare, BadTare, ClearTare, Cancel, Commands, SerialNumber, Unknown}
+use Rattle.wb_sics.specs.declared.waiting.Awaited.{Awaited}
+use Rattle.wb_sics.specs.declared.waiting.Awaited.TheVariants.{Weight as AwaitedWeight, Zero as AwaitedZero, Tare as AwaitedTare}
+use Rattle.wb_sics.specs.Event.{Event, reading, byte, hang_up, stored, readings_of}
+use Rattle.wb_sics.specs.Lines.{commanded}
+
+-- what a command may wait for
+abbrev pub awaited_by : Command → Option Awaited
+awaited_by Weight = Some AwaitedWeight
+awaited_by WeightNow = None
+awaited_by Zero = Some AwaitedZero
+awaited_by Tare = Some AwaitedTare
+awaited_by TareValue = None
+awaited_by (PresetTare grams) = None
+awaited_by BadTare = None
+awaited_by ClearTare = None
+awaited_by Cancel = None
+awaited_by Commands = None
+awaited_by SerialNumber = None
+awaited_by Unknown = None
+
+abbrev pub same : Awaited → Awaited → Bool
+same AwaitedWeight AwaitedWeight = true
+same AwaitedWeight AwaitedZero = false
+same AwaitedWeight AwaitedTare = false
+same AwaitedZero AwaitedWeight = false
+same AwaitedZero AwaitedZero = true
+same AwaitedZero AwaitedTare = false
+same AwaitedTare AwaitedWeight = false
+same AwaitedTare AwaitedZero = false
+same AwaitedTare AwaitedTare = true
+
+abbrev pub may_be : Awaited → Option Awaited → Bool
+may_be kind None = false
+may_be kind (Some awaited) = same kind awaited
+
+-- a command waits for this
+abbrev pub asks_for : Awaited → Option Command → Bool
+asks_for kind None = false
+asks_for kind (Some command) = may_be kind (awaited_by command)
+
+-- how many readings came since the last line or hang-up
+abbrev pub readings_since : List Event → ℕ
+readings_since [] = 0
+readings_since (reading r ∷ h) = readings_since h + 1
+readings_since (byte b ∷ h) = if b == 10 then 0 else readings_since h
+readings_since (hang_up ∷ h) = 0
+readings_since (stored ∷ h) = readings_since h
+
+-- the condition held at the last LF, or at some reading since, with no hang-up since
+abbrev pub held_since : (List Event → Bool) → List Event → Bool
+held_since now [] = false
+held_since now (reading r ∷ h) = now (reading r ∷ h) || held_since now h
+held_since now (byte b ∷ h) = if b == 10 then now (byte b ∷ h) else held_since now h
+held_since now (hang_up ∷ h) = false
+held_since now (stored ∷ h) = held_since now h
+
+-- the last line's command waits for this: its condition has not held since, and fewer readings than the limit came since
+unfoldable pub waits : Awaited → (List Event → Bool) → ℕ → List Event → Bool
+waits kind now limit h = asks_for kind (commanded h) && not (held_since now h) && nat_lt (readings_since h) limit
+
+-- the scale is stable
+abbrev pub stable_at : Setup → List Event → Bool
+stable_at s h = is_stable s.window s.band (readings_of h)
+
+-- zero setting waits, and tare balancing waits, until the scale is stable
+abbrev pub zero_waits : Setup → List Event → Bool
+zero_waits s h = waits AwaitedZero (stable_at s) s.wait h
+
+abbrev pub tare_waits : Setup → List Event → Bool
+tare_waits s h = waits AwaitedTare (stable_at s) s.wait h

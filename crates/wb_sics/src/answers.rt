@@ -1,0 +1,116 @@
+//! The replies that the scale's answers give.
+ghost use Rattle.std.specs.Prelude.{◌≡◌, ◌≤ℤ◌, ◌*ℤ◌, ◌+◌, neg_ℤ, pos};
+ghost use Rattle.wb_instrument.specs.Setup.{intervals};
+ghost use Rattle.wb_scale.specs.Indication.{IsInRange};
+ghost use Rattle.wb_scale.specs.Tare.{IsTare};
+ghost use Rattle.wb_sics.specs.Answers.{preset_reply as preset_reply_of, tare_reply as tare_reply_of, tare_value as tare_value_of, weight_now as weight_now_of, weight_reply as weight_reply_of, weight_shown, zero_reply as zero_reply_of};
+
+use crate::reply::Reply;
+use wb_instrument::{Instrument, round_tenths};
+use wb_scale::{Indicated, PresetAnswer, TareAnswer, TareNow, ZeroAnswer};
+
+/// The reply to `SI`.
+pub(crate) fn weight_now(instrument: &Instrument, indicated: Indicated) -> Reply
+    requires { IsInRange instrument.now indicated }
+    ensures { result ≡ weight_now_of instrument.now indicated }
+{
+    match indicated {
+        Indicated::NoLoad => Reply::WeightRefused,
+        Indicated::Over => Reply::WeightOver,
+        Indicated::Under => Reply::WeightUnder,
+        Indicated::Shown {
+            gross: _,
+            net,
+            stable,
+        } => weight(stable, kilograms(instrument, net)),
+    }
+}
+
+fn weight(stable: bool, kg: i32) -> Reply
+    ensures { result ≡ weight_shown stable kg }
+{
+    if stable {
+        Reply::WeightStable(kg)
+    } else {
+        Reply::WeightMoving(kg)
+    }
+}
+
+/// The decided reply to `S`: where over, under or stable.
+pub(crate) fn weight_reply(instrument: &Instrument, indicated: Indicated) -> Option<Reply>
+    requires { IsInRange instrument.now indicated }
+    ensures { result ≡ weight_reply_of instrument.now indicated }
+{
+    match indicated {
+        Indicated::NoLoad => None,
+        Indicated::Over => Some(Reply::WeightOver),
+        Indicated::Under => Some(Reply::WeightUnder),
+        Indicated::Shown {
+            gross: _,
+            net,
+            stable,
+        } => {
+            if stable {
+                Some(Reply::WeightStable(kilograms(instrument, net)))
+            } else {
+                None
+            }
+        }
+    }
+}
+
+/// The decided reply to `Z`: where stable.
+pub(crate) fn zero_reply(answer: ZeroAnswer) -> Option<Reply>
+    ensures { result ≡ zero_reply_of answer }
+{
+    match answer {
+        ZeroAnswer::Done => Some(Reply::ZeroDone),
+        ZeroAnswer::NotStable => None,
+        ZeroAnswer::Above => Some(Reply::ZeroAbove),
+        ZeroAnswer::Below => Some(Reply::ZeroBelow),
+    }
+}
+
+/// The decided reply to `T`: where stable.
+pub(crate) fn tare_reply(answer: TareAnswer) -> Option<Reply>
+    ensures { result ≡ tare_reply_of answer }
+{
+    match answer {
+        TareAnswer::Done(kg) => Some(Reply::TareDone(kg)),
+        TareAnswer::NotStable => None,
+        TareAnswer::PresetInUse => Some(Reply::TareRefused),
+        TareAnswer::Above => Some(Reply::TareAbove),
+        TareAnswer::Below => Some(Reply::TareBelow),
+    }
+}
+
+/// The reply to `TA`: the tare in kilograms, a weighed tare rounded.
+pub(crate) fn tare_value(instrument: &Instrument, tare: TareNow) -> Reply
+    requires { IsTare instrument.now tare }
+    ensures { result ≡ tare_value_of instrument.now tare }
+{
+    match tare {
+        TareNow::Empty => Reply::TareValue(0),
+        TareNow::Weighed(tenths) => Reply::TareValue(kilograms(instrument, round_tenths(tenths))),
+        TareNow::Preset(whole) => Reply::TareValue(kilograms(instrument, whole)),
+    }
+}
+
+/// The reply to a preset tare.
+pub(crate) fn preset_reply(answer: PresetAnswer) -> Reply
+    ensures { result ≡ preset_reply_of answer }
+{
+    match answer {
+        PresetAnswer::Done(kg) => Reply::TareValue(kg),
+        PresetAnswer::WeighedInUse => Reply::PresetRefused,
+        PresetAnswer::OutOfRange => Reply::PresetBad,
+    }
+}
+
+fn kilograms(instrument: &Instrument, whole: i32) -> i32
+    requires least { neg_ℤ (pos (intervals instrument.now + 20)) ≤ℤ whole }
+    requires most { whole ≤ℤ pos (intervals instrument.now + 9) }
+    ensures { result ≡ pos instrument.now.interval_kg *ℤ whole }
+{
+    instrument.interval_kg() as i32 * whole
+}

@@ -1,0 +1,149 @@
+//! Replies, and their texts (MT-SICS levels 0 and 1).
+ghost use Rattle.std.specs.Prelude.{◌≡◌, ◌≤◌, ◌+◌, ◌++◌, codes, length};
+ghost use Rattle.arrayvec.specs.ArrayString.{array_string_len};
+ghost use Rattle.wb_sics.specs.ReplyText.{listed_text, reply_text, weight_reply as weight_reply_of};
+
+use arrayvec::{ArrayString, ArrayVec};
+use wb_instrument::{Serial, weight_field};
+
+/// The bytes of a reply: at most 32, its CR LF among them.
+pub type ReplyText = ArrayString<32>;
+
+/// The replies at one event, in their order.
+pub type Replies = ArrayVec<Reply, 12>;
+
+/// A reply of the terminal; weights are in kilograms.
+#[derive(Debug, Drop, Default)]
+pub enum Reply {
+    /// `S S`: a stable net weight.
+    WeightStable(i32),
+    /// `S D`: a net weight that is not stable.
+    WeightMoving(i32),
+    /// `S I`: no weight can be told.
+    WeightRefused,
+    /// `S +`: gross is above Max + 9 e.
+    WeightOver,
+    /// `S -`: gross is below -20 e.
+    WeightUnder,
+    /// `Z A`: the zero was set.
+    ZeroDone,
+    /// `Z I`: not stable in time.
+    ZeroRefused,
+    /// `Z +`: the load is above the zero's range.
+    ZeroAbove,
+    /// `Z -`: the load is below it.
+    ZeroBelow,
+    /// `T S`: the load was tared.
+    TareDone(i32),
+    /// `T I`: not stable in time, or a preset tare is in force.
+    TareRefused,
+    /// `T +`: the load is above Max.
+    TareAbove,
+    /// `T -`: the load is at or below zero.
+    TareBelow,
+    /// `TA A`: the tare in force, or the preset tare as it was taken.
+    TareValue(i32),
+    /// `TA I`: a weighed tare is in force.
+    PresetRefused,
+    /// `TA L`: no value, or one out of range.
+    PresetBad,
+    /// `TAC A`: the tare is cleared.
+    TareCleared,
+    /// `I4 A`: the serial.
+    SerialNumber(Serial),
+    /// `I0 B` or, for the last, `I0 A`: a command of the terminal.
+    Listed(CommandName),
+    /// `ES`: the line was not understood.
+    #[default]
+    Error,
+}
+
+/// The commands that `I0` lists, in its order.
+#[derive(Clone, Copy, Debug, PartialEq, Eq)]
+pub enum CommandName {
+    Cancel,
+    Commands,
+    SerialNumber,
+    Weight,
+    WeightNow,
+    Zero,
+    Tare,
+    TareValue,
+    ClearTare,
+}
+
+impl Reply {
+    /// The reply with its CR LF.
+    pub fn bytes(&self) -> ReplyText
+        ensures { result.bytes ≡ reply_text self.now }
+    {
+        match self {
+            Reply::WeightStable(kg) => weight_reply("S S ", *kg),
+            Reply::WeightMoving(kg) => weight_reply("S D ", *kg),
+            Reply::WeightRefused => text_of("S I\r\n"),
+            Reply::WeightOver => text_of("S +\r\n"),
+            Reply::WeightUnder => text_of("S -\r\n"),
+            Reply::ZeroDone => text_of("Z A\r\n"),
+            Reply::ZeroRefused => text_of("Z I\r\n"),
+            Reply::ZeroAbove => text_of("Z +\r\n"),
+            Reply::ZeroBelow => text_of("Z -\r\n"),
+            Reply::TareDone(kg) => weight_reply("T S ", *kg),
+            Reply::TareRefused => text_of("T I\r\n"),
+            Reply::TareAbove => text_of("T +\r\n"),
+            Reply::TareBelow => text_of("T -\r\n"),
+            Reply::TareValue(kg) => weight_reply("TA A ", *kg),
+            Reply::PresetRefused => text_of("TA I\r\n"),
+            Reply::PresetBad => text_of("TA L\r\n"),
+            Reply::TareCleared => text_of("TAC A\r\n"),
+            Reply::SerialNumber(serial) => serial_reply(serial),
+            Reply::Listed(name) => text_of(listed(*name)),
+            Reply::Error => text_of("ES\r\n"),
+        }
+    }
+}
+
+fn listed(name: CommandName) -> &'static str
+    ensures value { result.now ≡ listed_text name }
+    ensures fits { length result.now ≤ 32 }
+{
+    match name {
+        CommandName::Cancel => "I0 B 0 \"@\"\r\n",
+        CommandName::Commands => "I0 B 0 \"I0\"\r\n",
+        CommandName::SerialNumber => "I0 B 0 \"I4\"\r\n",
+        CommandName::Weight => "I0 B 0 \"S\"\r\n",
+        CommandName::WeightNow => "I0 B 0 \"SI\"\r\n",
+        CommandName::Zero => "I0 B 0 \"Z\"\r\n",
+        CommandName::Tare => "I0 B 1 \"T\"\r\n",
+        CommandName::TareValue => "I0 B 1 \"TA\"\r\n",
+        CommandName::ClearTare => "I0 A 1 \"TAC\"\r\n",
+    }
+}
+
+fn serial_reply(serial: &Serial) -> ReplyText
+    ensures { result.bytes ≡ codes "I4 A \"" ++ serial.now ++ codes "\"\r\n" }
+{
+    let mut text = text_of("I4 A \"");
+    text.push_str(serial.as_str());
+    text.push_str("\"\r\n");
+    text
+}
+
+/// A text, and a weight.
+fn weight_reply(words: &str, kg: i32) -> ReplyText
+    requires { length words.now ≤ 5 }
+    ensures { result.bytes ≡ weight_reply_of words.now kg }
+{
+    let mut text = text_of(words);
+    text.push_str(weight_field(kg).as_str());
+    text.push_str(" kg\r\n");
+    text
+}
+
+fn text_of(words: &str) -> ReplyText
+    requires { length words.now ≤ 32 }
+    ensures { result.bytes ≡ words.now }
+{
+    let mut text = ReplyText::new();
+    text.push_str(words);
+    text
+}

@@ -1,0 +1,236 @@
+//! The terminal, proved for every history of readings, bytes, hang-ups and stored weighings.
+ghost use Rattle.arrayvec.specs.ArrayVec.{array_vec_len};
+ghost use Rattle.std.specs.Prelude.{◌≡◌, ◌≤◌, ◌∷◌, ◌++◌, [], List};
+ghost use Rattle.wb_scale.specs.Call.{Call};
+ghost use Rattle.wb_scale.specs.History.{moments};
+ghost use Rattle.wb_scale.specs.Stands.{Stands as ScaleStands};
+ghost use Rattle.wb_sics.specs.Calls.{asked, asked_at};
+ghost use Rattle.wb_sics.specs.Kept.{asked_waiting, decided_at as decided_at_of, replies_read, waiting_from, waiting_read};
+ghost use Rattle.wb_sics.specs.Replies.{listed as listed_of, own_reply};
+ghost use Rattle.wb_sics.specs.Waiting.{same};
+ghost use Rattle.wb_sics.specs.declared.waiting.Awaited.TheVariants.{Tare as AwaitedTare, Zero as AwaitedZero};
+ghost use Rattle.wb_window.specs.Reading.{IsReading};
+
+use crate::answers::{preset_reply, tare_reply, tare_value, weight_now, weight_reply, zero_reply};
+use crate::command::Command;
+use crate::line::{Line, keep, kept_command};
+use crate::reply::{CommandName, Replies, Reply};
+use crate::waiting::{Awaited, Waiting, after_reading, at_line_end, given_up};
+use std::marker::Model;
+use wb_scale::Scale;
+use wb_window::{Reading, Window};
+
+/// The end of a line.
+const LINE_FEED: u8 = b'\n';
+
+/// A terminal over a scale.
+#[derive(Drop)]
+pub struct Terminal<W: Window> {
+    scale: Scale<W>,
+    waiting: Option<Waiting>,
+    line: Line,
+}
+
+impl<W: Window> Model for Terminal<W> {
+    ghost use Rattle.wb_sics.specs.Stands.{TerminalState};
+
+    ghost Value = { TerminalState };
+
+    ghost use Rattle.wb_sics.specs.Kept.{left_for};
+    ghost use Rattle.wb_sics.specs.declared.waiting.Awaited.TheVariants.{Tare, Weight, Zero};
+
+    ghost view = { λ t. record { scale = t.scale; weight = left_for Weight t.waiting; zero = left_for Zero t.waiting; tare = left_for Tare t.waiting; line = t.line.items } };
+}
+
+impl<W: Window> Terminal<W> {
+    ghost use Rattle.std.specs.Borrow.{Lends, sem};
+    ghost use Rattle.wb_scale.specs.contracts.scale.Scale.{the_row as scale_row};
+    ghost use Rattle.wb_sics.specs.Event.{Event, byte as byte_event, hang_up, reading as reading_event};
+    ghost use Rattle.wb_sics.specs.Replies.{replies};
+    ghost use Rattle.wb_sics.specs.Stands.{Stands};
+    ghost use Rattle.wb_sics.specs.contracts.terminal.Terminal.{the_row};
+
+    /// A terminal over a scale, with nothing waiting and no line begun.
+    pub fn new(scale: Scale<W>) -> Self
+        ensures scale { result.scale ≡ scale }
+        ensures stands { ScaleStands scale [] → Stands result [] }
+    {
+        Terminal {
+            scale,
+            waiting: None,
+            line: Line::new(),
+        }
+    }
+
+    /// The scale.
+    pub fn scale(&self) -> &Scale<W>
+        ensures { result.now ≡ self.now.scale }
+    {
+        &self.scale
+    }
+
+    /// The scale, to be changed by the office: it only marks a stored weighing.
+    pub fn scale_mut(&mut self) -> &mut Scale<W>
+        ensures* lends { sem 𝓛 (Lends (the_row W.row W.Window) (scale_row W.row W.Window) self.entry result (λ s. record self.old { scale = s })) }
+        ensures value { result.now ≡ self.old.scale }
+    {
+        &mut self.scale
+    }
+
+    /// Takes a reading, and gives the replies at it.
+    pub fn reading(&mut self, reading: Reading) -> Replies
+        requires { IsReading reading }
+        ensures setup { self.new.scale.setup ≡ self.old.scale.setup }
+        ensures stands { (h : List Event) → Stands self.old h → Stands self.new (reading_event reading ∷ h) }
+        ensures replies { (h : List Event) → Stands self.old h → result.items ≡ replies self.old.scale.setup (reading_event reading ∷ h) }
+    {
+        let (waiting, replies) = take_reading(&mut self.scale, reading, self.waiting);
+        self.waiting = waiting;
+        replies
+    }
+
+    /// Takes a byte of the stream, and gives the replies at it.
+    pub fn byte(&mut self, byte: u8) -> Replies
+        ensures setup { self.new.scale.setup ≡ self.old.scale.setup }
+        ensures stands { (h : List Event) → Stands self.old h → Stands self.new (byte_event byte ∷ h) }
+        ensures replies { (h : List Event) → Stands self.old h → result.items ≡ replies self.old.scale.setup (byte_event byte ∷ h) }
+    {
+        if byte != LINE_FEED {
+            keep(&mut self.line, byte);
+            return Replies::new();
+        }
+        let command = kept_command(self.line.as_slice());
+        self.line.clear();
+        let mut replies = given_up(self.waiting, command);
+        let waiting = perform(&mut self.scale, command, &mut replies);
+        self.waiting = waiting;
+        replies
+    }
+
+    /// The connection ended: the unfinished line and a waiting command are dropped without a reply.
+    pub fn hangup(&mut self)
+        ensures setup { self.new.scale.setup ≡ self.old.scale.setup }
+        ensures stands { (h : List Event) → Stands self.old h → Stands self.new (hang_up ∷ h) }
+    {
+        self.waiting = None;
+        self.line.clear();
+    }
+}
+
+/// Hands a reading to the scale, and answers what waits.
+fn take_reading<W: Window>(
+    scale: &mut Scale<W>,
+    reading: Reading,
+    waiting: Option<Waiting>,
+) -> (Option<Waiting>, Replies)
+    requires { IsReading reading }
+    ensures window { 1 ≤ scale.old.setup.window }
+    ensures setup { scale.new.setup ≡ scale.old.setup }
+    ensures stands { (h : List Call) → ScaleStands scale.old h → ScaleStands scale.new (asked_waiting waiting reading ++ h) }
+    ensures waiting { (h : List Call) → ScaleStands scale.old h → result.0 ≡ waiting_read scale.old.setup h reading waiting }
+    ensures replies { (h : List Call) → ScaleStands scale.old h → result.1.items ≡ replies_read scale.old.setup h reading waiting }
+{
+    let _setup = scale.instrument();
+    match waiting {
+        None => {
+            scale.read(reading);
+            (None, Replies::new())
+        }
+        Some(waiting) => {
+            let decided = decided_at(scale, reading, waiting.awaited);
+            after_reading(waiting, decided)
+        }
+    }
+}
+
+/// Hands a reading to the scale, and gives the reply that is decided at it.
+fn decided_at<W: Window>(scale: &mut Scale<W>, reading: Reading, awaited: Awaited) -> Option<Reply>
+    requires { IsReading reading }
+    ensures setup { scale.new.setup ≡ scale.old.setup }
+    ensures stands { (h : List Call) → ScaleStands scale.old h
+        → ScaleStands scale.new (asked_at (same AwaitedZero awaited) (same AwaitedTare awaited) reading ++ h) }
+    ensures decided { (h : List Call) → ScaleStands scale.old h → result ≡ decided_at_of scale.old.setup h reading awaited }
+{
+    match awaited {
+        Awaited::Weight => {
+            scale.read(reading);
+            weight_reply(scale.instrument(), scale.indicated())
+        }
+        Awaited::Zero => zero_reply(scale.read_for_zero(reading)),
+        Awaited::Tare => {
+            scale.read(reading);
+            tare_reply(scale.tare())
+        }
+    }
+}
+
+/// Does what a command asks, appends its own reply, and returns what waits from then on.
+fn perform<W: Window>(
+    scale: &mut Scale<W>,
+    command: Command,
+    replies: &mut Replies,
+) -> Option<Waiting>
+    requires few { array_vec_len replies.old ≤ 1 }
+    ensures wait { 1 ≤ scale.old.setup.wait }
+    ensures window { 1 ≤ scale.old.setup.window }
+    ensures setup { scale.new.setup ≡ scale.old.setup }
+    ensures stands { (h : List Call) → ScaleStands scale.old h → ScaleStands scale.new (asked command ++ h) }
+    ensures waiting { (h : List Call) → ScaleStands scale.old h
+        → result ≡ waiting_from scale.old.setup (moments scale.old.setup h) command }
+    ensures replies { (h : List Call) → ScaleStands scale.old h
+        → replies.new.items ≡ replies.old.items ++ own_reply scale.old.setup (moments scale.old.setup h) command }
+{
+    let wait = scale.instrument().wait();
+    match command {
+        Command::Weight => {
+            let decided = weight_reply(scale.instrument(), scale.indicated());
+            return at_line_end(Awaited::Weight, decided, wait, replies);
+        }
+        Command::Zero => {
+            let decided = zero_reply(scale.zero());
+            return at_line_end(Awaited::Zero, decided, wait, replies);
+        }
+        Command::Tare => {
+            let decided = tare_reply(scale.tare());
+            return at_line_end(Awaited::Tare, decided, wait, replies);
+        }
+        Command::WeightNow => replies.push(weight_now(scale.instrument(), scale.indicated())),
+        Command::TareValue => replies.push(tare_value(scale.instrument(), scale.tare_in_force())),
+        Command::PresetTare(grams) => replies.push(preset_reply(scale.preset(grams))),
+        Command::BadTare => replies.push(Reply::PresetBad),
+        Command::ClearTare => {
+            scale.clear_tare();
+            replies.push(Reply::TareCleared);
+        }
+        Command::Cancel => {
+            scale.clear_tare();
+            replies.push(serial(scale));
+        }
+        Command::Commands => list_commands(replies),
+        Command::SerialNumber => replies.push(serial(scale)),
+        Command::Unknown => replies.push(Reply::Error),
+    }
+    None
+}
+
+fn serial<W: Window>(scale: &Scale<W>) -> Reply
+    ensures { result ≡ Reply.SerialNumber scale.now.setup.serial }
+{
+    Reply::SerialNumber(scale.instrument().serial().copied())
+}
+
+/// Appends the list of the commands.
+fn list_commands(replies: &mut Replies)
+    requires few { array_vec_len replies.old ≤ 1 }
+    ensures { replies.new.items ≡ replies.old.items ++ listed_of }
+{
+    replies.push(Reply::Listed(CommandName::Cancel));
+    replies.push(Reply::Listed(CommandName::Commands));
+    replies.push(Reply::Listed(CommandName::SerialNumber));
+    replies.push(Reply::Listed(CommandName::Weight));
+    replies.push(Reply::Listed(CommandName::WeightNow));
+    replies.push(Reply::Listed(CommandName::Zero));
+    replies.push(Reply::Listed(CommandName::Tare));
+    replies.push(Reply::Listed(CommandName::TareValue));
+    replies.push(Reply::Listed(CommandName::ClearTare));
+}

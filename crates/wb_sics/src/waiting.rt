@@ -1,0 +1,110 @@
+//! Waiting commands.
+ghost use Rattle.arrayvec.specs.ArrayVec.{array_vec_len};
+ghost use Rattle.std.specs.Prelude.{◌≡◌, ◌≤◌, ◌++◌, ◌∷◌, [], None, is_some, nat_lt, option_to_list, true};
+ghost use Rattle.wb_instrument.specs.Setup.{Setup};
+ghost use Rattle.wb_sics.specs.Answers.{refusal as refusal_of};
+ghost use Rattle.wb_sics.specs.Kept.{one_less, refused_by, still, waiting_after};
+ghost use Rattle.wb_sics.specs.Replies.{reply_to};
+
+use crate::command::Command;
+use crate::reply::{Replies, Reply};
+
+/// What a command waits for.
+#[derive(Clone, Copy, Drop, Debug, PartialEq, Eq)]
+pub(crate) enum Awaited {
+    Weight,
+    Zero,
+    Tare,
+}
+
+/// A waiting command, with the readings that it still waits.
+#[derive(Clone, Copy, Drop, Debug, PartialEq, Eq)]
+pub(crate) struct Waiting {
+    pub(crate) awaited: Awaited,
+    pub(crate) left: u32,
+}
+
+/// What still waits after a reading at which the reply was decided or not, and the reply there.
+pub(crate) fn after_reading(waiting: Waiting, decided: Option<Reply>) -> (Option<Waiting>, Replies)
+    ensures waiting { result.0 ≡ waiting_after (is_some decided) waiting }
+    ensures replies { result.1.items ≡ reply_to true decided (nat_lt 1 waiting.left) waiting.awaited }
+{
+    match decided {
+        Some(reply) => (None, one(reply)),
+        None => not_decided(waiting),
+    }
+}
+
+fn not_decided(waiting: Waiting) -> (Option<Waiting>, Replies)
+    ensures waiting { result.0 ≡ one_less waiting.left waiting.awaited }
+    ensures replies { result.1.items ≡ reply_to true None (nat_lt 1 waiting.left) waiting.awaited }
+{
+    if 1 < waiting.left {
+        let waiting = Waiting {
+            awaited: waiting.awaited,
+            left: waiting.left - 1,
+        };
+        (Some(waiting), Replies::new())
+    } else {
+        (None, one(refusal(waiting.awaited)))
+    }
+}
+
+/// Appends the decided reply at a command's LF, or lets the command wait so many readings.
+pub(crate) fn at_line_end(
+    awaited: Awaited,
+    decided: Option<Reply>,
+    wait: u32,
+    replies: &mut Replies,
+) -> Option<Waiting>
+    requires few { array_vec_len replies.old ≤ 1 }
+    ensures waiting { (s : Setup) → s.wait ≡ wait → result ≡ still s awaited decided }
+    ensures replies { replies.new.items ≡ replies.old.items ++ option_to_list decided }
+{
+    match decided {
+        Some(reply) => {
+            replies.push(reply);
+            None
+        }
+        None => Some(Waiting {
+            awaited,
+            left: wait,
+        }),
+    }
+}
+
+/// The refusal of what waits when a line comes; `@` alone drops it unanswered.
+pub(crate) fn given_up(waiting: Option<Waiting>, command: Command) -> Replies
+    ensures items { result.items ≡ refused_by command waiting }
+    ensures few { array_vec_len result ≤ 1 }
+{
+    match waiting {
+        Some(waiting) => {
+            if command == Command::Cancel {
+                Replies::new()
+            } else {
+                one(refusal(waiting.awaited))
+            }
+        }
+        None => Replies::new(),
+    }
+}
+
+fn refusal(awaited: Awaited) -> Reply
+    ensures { result ≡ refusal_of awaited }
+{
+    match awaited {
+        Awaited::Weight => Reply::WeightRefused,
+        Awaited::Zero => Reply::ZeroRefused,
+        Awaited::Tare => Reply::TareRefused,
+    }
+}
+
+fn one(reply: Reply) -> Replies
+    ensures items { result.items ≡ reply ∷ [] }
+    ensures few { array_vec_len result ≤ 1 }
+{
+    let mut replies = Replies::new();
+    replies.push(reply);
+    replies
+}
