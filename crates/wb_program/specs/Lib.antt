@@ -1,10 +1,8 @@
-pub mod Event
-pub mod Indication
+pub mod Hexadecimal
 pub mod LineEvents
 pub mod Numerals
 pub mod Performed
 pub mod Printed
 pub mod Replayed
-pub mod Stands
 pub mod Trace
 pub mod TraceLines

@@ -1,20 +1,20 @@
 -- The printed form of replies.
-use Rattle.std.specs.Prelude.{ℕ, ◌==◌, List, [], ◌∷◌, ◌++◌, if◌then◌else◌}
+use Rattle.std.specs.Prelude.{ℕ, ◌-◌, List, [], ◌∷◌, ◌++◌, length, take}
 use Rattle.wb_instrument.specs.Setup.{Setup}
-use Rattle.wb_program.specs.Event.{Event, reading, byte, readings}
-use Rattle.wb_program.specs.Indication.{indication}
+use Rattle.wb_sics.specs.declared.reply.Reply.{Reply}
+use Rattle.wb_sics.specs.Event.{Event}
+use Rattle.wb_sics.specs.Replies.{replies}
+use Rattle.wb_sics.specs.ReplyText.{reply_text}
 
--- the replies at the newest event, each without its line end: every line of the terminal is `SI` as yet
-abbrev pub replies : Setup → List Event → List (List ℕ)
-replies s [] = []
-replies s (reading r ∷ h) = []
-replies s (byte b ∷ h) = if b == 10 then indication s (readings h) ∷ [] else []
+-- a reply without its CR LF
+abbrev pub without_line_end : List ℕ → List ℕ
+without_line_end text = take (length text - 2) text
 
--- `t `, the reply, and a line feed
-abbrev pub printed_reply : List ℕ → List ℕ
-printed_reply reply = (116 ∷ 32 ∷ []) ++ reply ++ 10 ∷ []
+-- `t `, the reply without its CR LF, and a line feed
+abbrev pub printed_reply : Reply → List ℕ
+printed_reply reply = (116 ∷ 32 ∷ []) ++ without_line_end (reply_text reply) ++ 10 ∷ []
 
-abbrev pub printed_replies : List (List ℕ) → List ℕ
+abbrev pub printed_replies : List Reply → List ℕ
 printed_replies [] = []
 printed_replies (reply ∷ more) = printed_reply reply ++ printed_replies more
 

@@ -5,7 +5,7 @@ use Rattle.std.specs.Str.Lines.{lines}
 use Rattle.wb_instrument.specs.Setup.{Setup}
 use Rattle.wb_program.specs.declared.replay.ReplayEnd.{ReplayEnd}
 use Rattle.wb_program.specs.declared.replay.ReplayEnd.TheVariants.{Done, BadLine, TooLong, ReadFault, WriteFault, Memory}
-use Rattle.wb_program.specs.Event.{Event}
+use Rattle.wb_sics.specs.Event.{Event}
 use Rattle.wb_program.specs.TraceLines.{line_events}
 use Rattle.wb_program.specs.Trace.{trace_events, trace_limit}
 use Rattle.wb_program.specs.Printed.{printed}

@@ -1,6 +1,6 @@
 -- A trace: the events of its lines.
 use Rattle.std.specs.Prelude.{ℕ, List, [], ◌∷◌, ◌++◌, Option, Some, None}
-use Rattle.wb_program.specs.Event.{Event}
+use Rattle.wb_sics.specs.Event.{Event}
 use Rattle.wb_program.specs.TraceLines.{line_events}
 
 -- the bytes that a trace may have

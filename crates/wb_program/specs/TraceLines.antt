@@ -5,7 +5,8 @@ use Rattle.std.specs.Cmp.Lexicographic.{pointwise}
 use Rattle.wb_window.specs.Reading.{reading_of}
 use Rattle.wb_window.specs.declared.reading.Reading.{Reading}
 use Rattle.wb_window.specs.declared.reading.Reading.TheVariants.{Lost}
-use Rattle.wb_program.specs.Event.{Event, reading, byte}
+use Rattle.wb_sics.specs.Event.{Event, reading, byte, hang_up}
+use Rattle.wb_program.specs.Hexadecimal.{hex_bytes}
 use Rattle.wb_program.specs.Numerals.{number, count}
 
 -- `lost`, or a number of tenths
@@ -29,14 +30,24 @@ reading_line text =
 abbrev pub typed : List ℕ → List Event
 typed text = map byte (text ++ 13 ∷ 10 ∷ [])
 
--- `SI`; no other text is understood yet
-abbrev pub text_line : List ℕ → Option (List Event)
-text_line text = if pointwise nat_eq text (83 ∷ 73 ∷ []) then Some (typed text) else None
+-- nothing, or what stands after one blank
+abbrev pub typed_text : List ℕ → Option (List ℕ)
+typed_text [] = Some []
+typed_text (b ∷ text) = if b == 32 then Some text else None
 
 -- what stands after one blank
 abbrev pub without_blank : List ℕ → Option (List ℕ)
 without_blank [] = None
 without_blank (b ∷ text) = if b == 32 then Some text else None
+
+-- at least one byte in hexadecimal
+abbrev pub bytes_line : List ℕ → Option (List Event)
+bytes_line [] = None
+bytes_line (digit ∷ digits) = option_map (map byte) (hex_bytes (digit ∷ digits))
+
+abbrev pub hang_up_line : List ℕ → Option (List Event)
+hang_up_line [] = Some (hang_up ∷ [])
+hang_up_line (b ∷ rest) = None
 
 -- the events of the text, where there is one
 abbrev pub of_text : (List ℕ → Option (List Event)) → Option (List ℕ) → Option (List Event)
@@ -49,5 +60,7 @@ line_events [] = Some []
 line_events (kind ∷ rest) =
     if kind == 35 then Some []
     else if kind == 114 then of_text reading_line (without_blank rest)
-    else if kind == 116 then of_text text_line (without_blank rest)
+    else if kind == 116 then option_map typed (typed_text rest)
+    else if kind == 98 then of_text bytes_line (without_blank rest)
+    else if kind == 104 then hang_up_line rest
     else None

@@ -5,9 +5,10 @@
 //! around that.
 #![tactic(auto)]
 
-mod indicator;
+mod hexadecimal;
 mod lines;
 mod numerals;
+mod performing;
 mod replay;
 #[cfg(test)]
 mod tests;

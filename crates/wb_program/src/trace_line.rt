@@ -1,27 +1,34 @@
 //! A line of a trace, read.
 ghost use Rattle.std.specs.Option.{option_copied};
-ghost use Rattle.std.specs.Prelude.{◌≡◌, option_map};
-ghost use Rattle.wb_program.specs.TraceLines.{line_events, reading_line, reading_word as reading_of_word, text_line, without_blank};
-ghost use Rattle.wb_program.specs.LineEvents.{events_of};
+ghost use Rattle.std.specs.Prelude.{◌≡◌, IfSome, option_map};
+ghost use Rattle.wb_program.specs.LineEvents.{IsRead, events_of};
+ghost use Rattle.wb_program.specs.TraceLines.{bytes_line, hang_up_line, line_events, reading_line, reading_word as reading_of_word, typed, typed_text as typed_text_of, without_blank};
+ghost use Rattle.wb_window.specs.Reading.{IsReading};
 
+use crate::hexadecimal::is_hexadecimal;
 use crate::lines::split_at_first;
 use crate::numerals::{count, number};
 use wb_window::Reading;
 
 /// What a line of a trace asks for.
-#[derive(Clone, Copy, Debug, PartialEq, Eq)]
-pub(crate) enum TraceLine {
+#[derive(Clone, Copy, Debug)]
+pub(crate) enum TraceLine<'a> {
     /// An empty line, or a comment.
     Nothing,
     /// So many times this reading.
     Readings { reading: Reading, times: u32 },
-    /// The text `SI` and a line end, typed at the terminal.
-    Indicate,
+    /// A text and a line end, typed at the terminal.
+    Text(&'a [u8]),
+    /// Bytes of the terminal's stream, as hexadecimal digits.
+    Bytes(&'a [u8]),
+    /// The terminal's connection ends.
+    HangUp,
 }
 
 /// What a line asks for; none where it isn't understood.
-pub(crate) fn read_line(line: &[u8]) -> Option<TraceLine>
-    ensures { option_map events_of result ≡ line_events line.now }
+pub(crate) fn read_line(line: &[u8]) -> Option<TraceLine<'_>>
+    ensures events { option_map events_of result ≡ line_events line.now }
+    ensures read { IfSome result IsRead }
 {
     match line {
         [] => Some(TraceLine::Nothing),
@@ -31,7 +38,11 @@ pub(crate) fn read_line(line: &[u8]) -> Option<TraceLine>
             } else if *kind == b'r' {
                 readings(after_blank(rest)?)
             } else if *kind == b't' {
-                typed(after_blank(rest)?)
+                Some(TraceLine::Text(typed_text(rest)?))
+            } else if *kind == b'b' {
+                bytes(after_blank(rest)?)
+            } else if *kind == b'h' {
+                hang_up(rest)
             } else {
                 None
             }
@@ -49,26 +60,38 @@ fn after_blank(rest: &[u8]) -> Option<&[u8]>
     }
 }
 
+/// Nothing, or what stands after one blank.
+fn typed_text(rest: &[u8]) -> Option<&[u8]>
+    ensures { option_copied result ≡ typed_text_of rest.now }
+{
+    match rest {
+        [] => Some(rest),
+        [first, text @ ..] => { if *first == b' ' { Some(text) } else { None } }
+    }
+}
+
 /// A reading, then optionally a blank and a count.
-fn readings(text: &[u8]) -> Option<TraceLine>
-    ensures { option_map events_of result ≡ reading_line text.now }
+fn readings(text: &[u8]) -> Option<TraceLine<'_>>
+    ensures events { option_map events_of result ≡ reading_line text.now }
+    ensures read { IfSome result IsRead }
 {
     match split_at_first(text, b' ') {
         Some((word, times)) => {
             let reading = reading_word(word)?;
             let times = count(times)?;
             Some(TraceLine::Readings { reading, times })
-        },
+        }
         None => {
             let reading = reading_word(text)?;
             Some(TraceLine::Readings { reading, times: 1 })
-        },
+        }
     }
 }
 
 /// `lost`, or a number of tenths.
 fn reading_word(word: &[u8]) -> Option<Reading>
-    ensures { result ≡ reading_of_word word.now }
+    ensures value { result ≡ reading_of_word word.now }
+    ensures in_range { IfSome result IsReading }
 {
     if word == b"lost".as_slice() {
         return Some(Reading::Lost);
@@ -76,12 +99,24 @@ fn reading_word(word: &[u8]) -> Option<Reading>
     Some(Reading::of(number(word)?))
 }
 
-/// `SI`; no other text is understood yet.
-fn typed(text: &[u8]) -> Option<TraceLine>
-    ensures { option_map events_of result ≡ text_line text.now }
+/// At least one byte in hexadecimal.
+fn bytes(digits: &[u8]) -> Option<TraceLine<'_>>
+    ensures events { option_map events_of result ≡ bytes_line digits.now }
+    ensures read { IfSome result IsRead }
 {
-    if text == b"SI".as_slice() {
-        Some(TraceLine::Indicate)
+    if !digits.is_empty() && is_hexadecimal(digits) {
+        Some(TraceLine::Bytes(digits))
+    } else {
+        None
+    }
+}
+
+fn hang_up(rest: &[u8]) -> Option<TraceLine<'_>>
+    ensures events { option_map events_of result ≡ hang_up_line rest.now }
+    ensures read { IfSome result IsRead }
+{
+    if rest.is_empty() {
+        Some(TraceLine::HangUp)
     } else {
         None
     }

@@ -6,14 +6,14 @@ use Rattle.wb_program.proofs.replay.replay_lines.Goals as goal
 pub loop-line-preserved : goal.loop-line-preserved
 loop-line-preserved g c =
     Replaying-next c.args.trace.now c.loop-line.rest.now c.in-Some.after.now c.in-Some.line.now c.loop-line.number (events_of c.in-Some-read_line.asked)
-    c.args.indicator.now c.loop-line.indicator c.perform.new.indicator _ _ _ c.in-Some.ensures.first c.in-Some.ensures.shorter (sym c.in-Some-read_line.ensures)
+    c.args.terminal.now c.loop-line.terminal c.perform.new.terminal _ _ _ c.in-Some.ensures.first c.in-Some.ensures.shorter (sym c.in-Some-read_line.ensures.events)
     c.loop-line.invariant c.in-Ok.ensures
 
 pub returns-in_default-read_line : goal.returns-in_default-read_line
 returns-in_default-read_line g c =
-    Replaying-stops c.args.trace.now c.loop-line.rest.now c.in-Some.after.now c.in-Some.line.now c.loop-line.number c.args.indicator.now c.loop-line.indicator _ _
-    c.in-Some.ensures.first (sym c.in_default-read_line.ensures) c.loop-line.invariant
+    Replaying-stops c.args.trace.now c.loop-line.rest.now c.in-Some.after.now c.in-Some.line.now c.loop-line.number c.args.terminal.now c.loop-line.terminal _ _
+    c.in-Some.ensures.first (sym c.in_default-read_line.ensures.events) c.loop-line.invariant
 
 pub returns : goal.returns
 returns g c =
-    Replaying-all c.args.trace.now c.loop-line.rest.now c.loop-line.number c.args.indicator.now c.loop-line.indicator _ _ c.in_default.ensures.first c.loop-line.invariant
+    Replaying-all c.args.trace.now c.loop-line.rest.now c.loop-line.number c.args.terminal.now c.loop-line.terminal _ _ c.in_default.ensures.first c.loop-line.invariant
