@@ -1,4 +1,4 @@
--- Rounding to the verification scale interval (OIML R 76-1:2006, T.5.4; that an exact half goes up is this project's choice).
+-- Rounding to the verification scale interval (OIML R 76-1:2006; that an exact half goes up is this project's choice).
 use Rattle.std.specs.Prelude.{ℤ, pos, ◌+ℤ◌, ◌*ℤ◌, ◌-ℤ◌, ◌≤ℤ◌, ◌<ℤ◌}
 use Rattle.std.specs.Int.{int_div_euclid}
 

@@ -1,4 +1,4 @@
--- The setup of an instrument (class III, OIML R 76-1:2006, 3.3; the last six parts are this project's own).
+-- The setup of an instrument (class III, OIML R 76-1:2006, 3.2; the last six parts are this project's own).
 use Rattle.std.specs.Prelude.{◌≡◌, ℕ, ◌≤◌, ◌/◌, ◌%◌, ◌==◌, true, List, [], ◌∷◌, All, Some, slice_get, take}
 use Rattle.std.specs.List.{list_any}
 use Rattle.wb_instrument.specs.declared.setup.Parts.{Parts}

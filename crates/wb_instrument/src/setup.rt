@@ -6,7 +6,7 @@ use crate::serial::{Serial, is_serial};
 use std::marker::Model;
 use thiserror::Error;
 
-/// The intervals e that an instrument may have, in kilograms: 1, 2 or 5 times a power of ten (OIML R 76-1:2006, 3.2).
+/// The intervals e that an instrument may have, in kilograms: 1, 2 or 5 times a power of ten (OIML R 76-1:2006).
 const INTERVALS_KG: [u32; 6] = [1, 2, 5, 10, 20, 50];
 
 /// What is stated of an instrument at its setup.
