@@ -1,5 +1,5 @@
 //! The serial of an instrument.
-ghost use Rattle.std.specs.Prelude.{◌≡◌, ◌≤◌, IfSome, is_some, length};
+ghost use Rattle.std.specs.Prelude.{◌≡◌, ◌≤◌, IfSome, is_some, length, true};
 ghost use Rattle.wb_instrument.specs.Serial.{is_serial as is_serial_text, is_serial_byte};
 ghost use Rattle.std.specs.List.{list_all};
 
@@ -40,6 +40,7 @@ impl Serial {
     /// The serial as text.
     pub fn as_str(&self) -> &str
         ensures value { result.now ≡ self.now }
+        ensures valid { is_serial_text result.now ≡ true }
         ensures fits { length result.now ≤ 16 }
     {
         self.text.as_str()

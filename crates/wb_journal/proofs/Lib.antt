@@ -1,0 +1,16 @@
+pub mod Appends
+pub mod BoundFacts
+pub mod Calendar
+pub mod CloserFacts
+pub mod CountFacts
+pub mod KindFacts
+pub mod LawFacts
+pub mod Members
+pub mod OpenFacts
+pub mod PairFacts
+pub mod PartnerFacts
+pub mod PurgeFacts
+pub mod Rises
+pub mod ScanFacts
+pub mod Scans
+pub mod Seals
