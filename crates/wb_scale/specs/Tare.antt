@@ -39,7 +39,7 @@ is_preset Empty = false
 is_preset (Weighed tenths) = false
 is_preset (Preset whole) = true
 
--- a weighed tare is more than half an interval and at most Max, a preset tare 1 to n
+-- a weighed tare is at least half an interval and at most Max, a preset tare 1 to n
 abbrev pub IsTare : Setup → TareNow → Type 0
 IsTare s Empty = Unit {0}
 IsTare s (Weighed tenths) = (pos 5 ≤ℤ tenths) × (tenths ≤ℤ pos (10 * intervals s))

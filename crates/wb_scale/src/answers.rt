@@ -30,9 +30,9 @@ pub enum TareAnswer {
     Done(i32),
     NotStable,
     PresetInUse,
-    /// The load is above Max.
+    /// The load above the zero is more than Max.
     Above,
-    /// The load is at or below zero.
+    /// Gross is 0 or less.
     Below,
 }
 
@@ -42,7 +42,7 @@ pub enum PresetAnswer {
     /// The tare in kilograms, as it was rounded to e.
     Done(i32),
     WeighedInUse,
-    /// Less than half an interval, or above Max.
+    /// It rounds to 0, or to more than Max.
     OutOfRange,
 }
 

@@ -37,9 +37,9 @@ pub enum Reply {
     TareDone(i32),
     /// `T I`: not stable in time, or a preset tare is in force.
     TareRefused,
-    /// `T +`: the load is above Max.
+    /// `T +`: the load above the zero is more than Max.
     TareAbove,
-    /// `T -`: the load is at or below zero.
+    /// `T -`: gross is 0 or less.
     TareBelow,
     /// `TA A`: the tare in force, or the preset tare as it was taken.
     TareValue(i32),

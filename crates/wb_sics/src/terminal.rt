@@ -1,6 +1,6 @@
 //! The terminal, proved for every history of readings, bytes, hang-ups and stored weighings.
 ghost use Rattle.arrayvec.specs.ArrayVec.{array_vec_len};
-ghost use Rattle.std.specs.Prelude.{◌≡◌, ◌≤◌, ◌∷◌, ◌++◌, [], List};
+ghost use Rattle.std.specs.Prelude.{◌≡◌, ◌≤◌, ◌∷◌, ◌++◌, [], List, None};
 ghost use Rattle.wb_scale.specs.Call.{Call};
 ghost use Rattle.wb_scale.specs.History.{moments};
 ghost use Rattle.wb_scale.specs.Stands.{Stands as ScaleStands};
@@ -53,6 +53,7 @@ impl<W: Window> Terminal<W> {
     /// A terminal over a scale, with nothing waiting and no line begun.
     pub fn new(scale: Scale<W>) -> Self
         ensures scale { result.scale ≡ scale }
+        ensures idle { (result.weight ≡ None) × (result.zero ≡ None) × (result.tare ≡ None) × (result.line ≡ []) }
         ensures stands { ScaleStands scale [] → Stands result [] }
     {
         Terminal {
