@@ -1,6 +1,6 @@
-use Rattle.std.proofs.Common.{◌≡◌, ℕ, suc, zero as nought, ◌≤◌, ◌==◌, true, [], ◌∷◌, arith}
+use Rattle.std.proofs.Common.{◌≡◌, ℕ, suc, zero as nought, ◌≤◌, true, arith}
 use Rattle.std.specs.Prelude.{All}
-use Rattle.std.specs.List.{list_any}
+use Rattle.wb_instrument.specs.Interval.{is_interval}
 use Rattle.wb_instrument.specs.declared.setup.PartFault.TheVariants.{Interval, Max, Window, Band, Pace, Wait, Serial, Retention, Capacity}
 use Rattle.wb_instrument.specs.Setup.{Setup, IsSetup, IsWithin, judged}
 
@@ -22,6 +22,6 @@ IsSetup-judged s each = record {
 pub one_kilogram : (s : Setup) → IsSetup s → 1 ≤ s.interval_kg
 one_kilogram s is = least s.interval_kg is.interval
   where
-    least : (kg : ℕ) → list_any (λ k. k == kg) (1 ∷ 2 ∷ 5 ∷ 10 ∷ 20 ∷ 50 ∷ []) ≡ true → 1 ≤ kg
+    least : (kg : ℕ) → is_interval kg ≡ true → 1 ≤ kg
     least nought e = absurd (cc)
     least (suc k) e = omega arith

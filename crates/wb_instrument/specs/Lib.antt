@@ -1,4 +1,5 @@
 pub mod Inside
+pub mod Interval
 pub mod Limits
 pub mod Preset
 pub mod Rounding

@@ -1,14 +1,14 @@
 -- Limits of indication and of the zero.
-use Rattle.std.specs.Prelude.{ℕ, ◌+◌, ◌/◌, ℤ, pos, neg_ℤ, ◌<ℤ◌}
+use Rattle.std.specs.Prelude.{ℕ, ◌+◌, ◌/◌, Bool, ℤ, pos, neg_ℤ, int_lt}
 use Rattle.wb_instrument.specs.Setup.{Setup, intervals}
 
 -- no indication above Max + 9 e (OIML R 76-1:2006, 4.2.3)
-abbrev pub IsOver : Setup → ℤ → Type 0
-IsOver s gross = pos (intervals s + 9) <ℤ gross
+abbrev pub is_over : Setup → ℤ → Bool
+is_over s gross = int_lt (pos (intervals s + 9)) gross
 
 -- none below -20 e (this project's own)
-abbrev pub IsUnder : ℤ → Type 0
-IsUnder gross = gross <ℤ neg_ℤ (pos 20)
+abbrev pub is_under : ℤ → Bool
+is_under gross = int_lt gross (neg_ℤ (pos 20))
 
 -- how far from the calibration zero the zero may lie, in tenths of e: 2 % of Max, n/5 rounded down (OIML R 76-1:2006, 4.5.1)
 abbrev pub zero_limit : Setup → ℕ

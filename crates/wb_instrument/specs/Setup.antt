@@ -1,9 +1,9 @@
--- The setup of an instrument (class III, OIML R 76-1:2006, 3.2; the last six parts are this project's own).
-use Rattle.std.specs.Prelude.{◌≡◌, ℕ, ◌≤◌, ◌/◌, ◌%◌, ◌==◌, true, List, [], ◌∷◌, All, Some, slice_get, take}
-use Rattle.std.specs.List.{list_any}
+-- The setup of an instrument (class III, OIML R 76-1:2006, 3.2; the last seven parts are this project's own).
+use Rattle.std.specs.Prelude.{◌≡◌, ℕ, ◌≤◌, ◌/◌, ◌%◌, true, List, [], ◌∷◌, All, Some, slice_get, take}
 use Rattle.wb_instrument.specs.declared.setup.Parts.{Parts}
 use Rattle.wb_instrument.specs.declared.setup.PartFault.{PartFault}
 use Rattle.wb_instrument.specs.declared.setup.PartFault.TheVariants.{Interval, Max, Window, Band, Pace, Wait, Serial, Retention, Capacity}
+use Rattle.wb_instrument.specs.Interval.{is_interval}
 use Rattle.wb_instrument.specs.Serial.{is_serial}
 
 -- what is stated of an instrument at its setup
@@ -49,7 +49,7 @@ IsMax interval_kg max_kg = (max_kg % interval_kg ≡ 0) × (500 ≤ max_kg / int
 
 -- a part is within its limits
 abbrev pub IsWithin : PartFault → Setup → Type 0
-IsWithin Interval s = list_any (λ kg. kg == s.interval_kg) (1 ∷ 2 ∷ 5 ∷ 10 ∷ 20 ∷ 50 ∷ []) ≡ true
+IsWithin Interval s = is_interval s.interval_kg ≡ true
 IsWithin Max s = IsMax s.interval_kg s.max_kg
 IsWithin Window s = (4 ≤ s.window) × (s.window ≤ 64)
 IsWithin Band s = (1 ≤ s.band) × (s.band ≤ 2)

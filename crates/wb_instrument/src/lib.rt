@@ -7,6 +7,7 @@
 #![tactic(auto)]
 
 mod field;
+mod interval;
 mod limits;
 mod preset;
 mod rounding;
@@ -16,6 +17,7 @@ mod setup;
 mod tests;
 
 pub use field::weight_field;
+pub use interval::is_interval;
 pub use rounding::round_tenths;
 pub use serial::Serial;
 pub use setup::{Instrument, PartFault, Parts};

@@ -1,6 +1,6 @@
 //! Limits of indication and of the zero.
-ghost use Rattle.std.specs.Prelude.{◌≡◌, ◌↔◌, IsTrue, pos};
-ghost use Rattle.wb_instrument.specs.Limits.{IsOver, IsUnder, tracking_gap, zero_limit};
+ghost use Rattle.std.specs.Prelude.{◌≡◌, pos};
+ghost use Rattle.wb_instrument.specs.Limits.{is_over, is_under, tracking_gap, zero_limit};
 ghost use Rattle.wb_instrument.specs.Setup.{IsSetup, intervals};
 
 use crate::Instrument;
@@ -25,14 +25,14 @@ impl Instrument {
 
     /// Whether so many intervals are above Max + 9 e.
     pub fn is_over(&self, gross: i32) -> bool
-        ensures { IsTrue result ↔ IsOver self.now gross }
+        ensures { result ≡ is_over self.now gross }
     {
         self.intervals() as i32 + OVER_RANGE_INTERVALS < gross
     }
 
     /// Whether so many intervals are below -20 e.
     pub fn is_under(&self, gross: i32) -> bool
-        ensures { IsTrue result ↔ IsUnder gross }
+        ensures { result ≡ is_under gross }
     {
         gross < LEAST_INTERVALS
     }

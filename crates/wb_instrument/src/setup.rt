@@ -2,12 +2,10 @@
 ghost use Rattle.std.specs.Prelude.{◌≡◌, IfErr, IfOk, IsTrue, ◌↔◌};
 ghost use Rattle.wb_instrument.specs.Setup.{IsFirstFault, IsMax, IsSetup, IsWithin, setup_of};
 
+use crate::interval::is_interval;
 use crate::serial::{Serial, is_serial};
 use std::marker::Model;
 use thiserror::Error;
-
-/// The intervals e that an instrument may have, in kilograms: 1, 2 or 5 times a power of ten (OIML R 76-1:2006).
-const INTERVALS_KG: [u32; 6] = [1, 2, 5, 10, 20, 50];
 
 /// What is stated of an instrument at its setup.
 #[derive(Clone, Copy, Debug)]
@@ -199,7 +197,7 @@ fn is_within(part: PartFault, parts: &Parts<'_>) -> bool
     ensures { IsTrue result ↔ IsWithin part (setup_of parts.now) }
 {
     match part {
-        PartFault::Interval => INTERVALS_KG.contains(&parts.interval_kg),
+        PartFault::Interval => is_interval(parts.interval_kg),
         PartFault::Max => is_max(parts.max_kg, parts.interval_kg),
         PartFault::Window => 4 <= parts.window && parts.window <= 64,
         PartFault::Band => 1 <= parts.band && parts.band <= 2,

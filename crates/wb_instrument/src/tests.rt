@@ -1,5 +1,5 @@
 //! Values from outside: worked rows of a road weighbridge.
-use crate::{Instrument, PartFault, Parts, Serial, round_tenths, weight_field};
+use crate::{Instrument, PartFault, Parts, Serial, is_interval, round_tenths, weight_field};
 use std::test::Fail;
 
 const ROAD: Parts<'static> = Parts {
@@ -115,6 +115,42 @@ fn names_the_first_part_outside_its_limits(rt: HostRuntime) {
 }
 
 #[test]
+fn names_each_fault_by_number_and_part(rt: HostRuntime) -> Result<(), Fail> {
+    for (fault, text) in [
+        (PartFault::Interval, "1 Interval"),
+        (PartFault::Max, "2 Max"),
+        (PartFault::Window, "3 Window"),
+        (PartFault::Band, "4 Band"),
+        (PartFault::Pace, "5 Pace"),
+        (PartFault::Wait, "6 Wait"),
+        (PartFault::Serial, "7 Serial"),
+        (PartFault::Retention, "8 Retention"),
+        (PartFault::Capacity, "9 Capacity"),
+    ] {
+        let printed = format!(in rt.alloc(); "{fault}")?;
+        assert_eq!(rt; printed.as_str(), text);
+    }
+    Ok(())
+}
+
+#[test]
+fn knows_the_intervals_of_an_instrument(rt: HostRuntime) {
+    for (kg, known) in [
+        (1, true),
+        (2, true),
+        (5, true),
+        (10, true),
+        (20, true),
+        (50, true),
+        (0, false),
+        (3, false),
+        (100, false),
+    ] {
+        assert_eq!(rt; is_interval(kg), known, "{kg} kg");
+    }
+}
+
+#[test]
 fn accepts_the_limits_of_interval_and_max(rt: HostRuntime) -> Result<(), Fail> {
     for (interval_kg, max_kg, intervals) in [
         (20, 60_000, 3_000),
@@ -133,7 +169,7 @@ fn accepts_the_limits_of_interval_and_max(rt: HostRuntime) -> Result<(), Fail> {
 }
 
 #[test]
-fn tells_what_was_set_up(rt: HostRuntime) -> Result<(), Fail> {
+fn reports_what_was_set_up(rt: HostRuntime) -> Result<(), Fail> {
     let instrument = Instrument::new(ROAD)?;
     assert_eq!(rt; instrument.serial().as_str(), "WB01");
     assert_eq!(rt; instrument.serial().copied().as_str(), "WB01");
@@ -141,7 +177,7 @@ fn tells_what_was_set_up(rt: HostRuntime) -> Result<(), Fail> {
     assert_eq!(rt; instrument.tracking_gap(), 2);
     assert!(rt; !instrument.is_over(3_009) && instrument.is_over(3_010));
     assert!(rt; !instrument.is_under(-20) && instrument.is_under(-21));
-    let told = [
+    let reported = [
         instrument.interval_kg(),
         instrument.max_kg(),
         instrument.window(),
@@ -151,7 +187,7 @@ fn tells_what_was_set_up(rt: HostRuntime) -> Result<(), Fail> {
         instrument.retention_days(),
         instrument.capacity(),
     ];
-    assert_eq!(rt; told, [20, 60_000, 4, 2, 10, 20, 90, 1_000]);
+    assert_eq!(rt; reported, [20, 60_000, 4, 2, 10, 20, 90, 1_000]);
     assert!(rt; Serial::new("WB-1").is_none());
     Ok(())
 }

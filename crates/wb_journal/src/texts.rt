@@ -32,7 +32,8 @@ pub fn slip_text(entry: &Entry) -> Result<ArrayString<512>, AllocError>
 /// As `civil_of`, it is always there today.
 pub fn ticket_text(entry: &Entry, partner: Option<&Entry>) -> Result<ArrayString<512>, AllocError>
     ensures succeeds { IsOk result }
-    ensures value { IfOk result (λ text. text.bytes ≡ ticket entry.now (option_copied partner.entry)) }
+    ensures value { IfOk result (λ text. text.bytes
+        ≡ ticket entry.now (option_copied partner.entry)) }
     ensures fits { IfOk result (λ text. array_string_len text ≤ 512) }
 {
     let mut text = ArrayString::new();
@@ -56,7 +57,8 @@ fn push_title(text: &mut ArrayString<512>, name: &str, entry: &Entry)
 fn push_partner(text: &mut ArrayString<512>, partner: Option<&Entry>) -> Result<(), AllocError>
     requires { array_string_len text.old + 219 ≤ 512 }
     ensures succeeds { IsOk result }
-    ensures bytes { OnOk result (text.new.bytes ≡ text.old.bytes ++ partner_block (option_copied partner.entry)) }
+    ensures bytes { OnOk result (text.new.bytes
+        ≡ text.old.bytes ++ partner_block (option_copied partner.entry)) }
     ensures room { array_string_len text.new ≤ array_string_len text.old + 219 }
 {
     match partner {

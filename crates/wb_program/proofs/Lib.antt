@@ -1,4 +1,4 @@
-pub mod Digits
 pub mod FirstLine
+pub mod LineKinds
 pub mod Replaying
 pub mod Typing

@@ -8,7 +8,7 @@ use Rattle.wb_sics.specs.declared.reply.Reply.{Reply}
 use Rattle.wb_sics.specs.Event.{Event, byte, hang_up}
 use Rattle.wb_sics.specs.Replies.{replies}
 use Rattle.wb_sics.specs.Replies as the_replies
-use Rattle.wb_sics.specs.Stands.{Stands, TerminalState}
+use Rattle.wb_sics.specs.Stands.{Stands, Takes, TerminalState}
 use Rattle.wb_program.specs.Performed.{Performed}
 use Rattle.wb_program.specs.Printed.{printed, printed_after, printed_replies, printed_reply}
 use Rattle.wb_program.specs.Replayed.{Replayed, StopsAt}
@@ -44,23 +44,24 @@ printed_after-append s es (f ∷ fs) h =
 -- ---- events, one after the other
 
 pub Performed-none : (s : TerminalState) (w : Option (List ℕ)) → Performed [] s s w w
-Performed-none s w = record { setup = refl; stands = λ h st. st; printed = λ h st. Appends-none w }
+Performed-none s w = record { takes = record { setup = refl; stands = λ h st. st }; printed = λ h st. Appends-none w }
 
 pub Performed-append : (ps qs : List Event) (a b c : TerminalState) (x y z : Option (List ℕ)) → Performed ps a b x y → Performed qs b c y z → Performed (qs ++ ps) a c x z
 Performed-append ps qs a b c x y z first next = record {
-  setup = next.setup ∙ first.setup;
-  stands = λ h st. subst (Stands c) (sym (append_assoc qs ps h)) (next.stands (ps ++ h) (first.stands h st));
+  takes = record {
+    setup = next.takes.setup ∙ first.takes.setup;
+    stands = λ h st. subst (Stands c) (sym (append_assoc qs ps h)) (next.takes.stands (ps ++ h) (first.takes.stands h st));
+  };
   printed = λ h st. subst (Appends x z) (sym (printed_after-append a.scale.setup ps qs h))
       (Appends-append (printed_after a.scale.setup ps h) (printed_after a.scale.setup qs (ps ++ h)) x y z (first.printed h st)
-      (subst (λ s. Appends y z (printed_after s qs (ps ++ h))) first.setup (next.printed (ps ++ h) (first.stands h st))));
+      (subst (λ s. Appends y z (printed_after s qs (ps ++ h))) first.takes.setup (next.printed (ps ++ h) (first.takes.stands h st))));
 }
 
 -- one event, whose replies were printed
-pub Performed-one : (e : Event) (a b : TerminalState) (rs : List Reply) (x y : Option (List ℕ)) → b.scale.setup ≡ a.scale.setup → ((h : List Event) → Stands a h → Stands b (e ∷ h))
+pub Performed-one : (e : Event) (a b : TerminalState) (rs : List Reply) (x y : Option (List ℕ)) → Takes a b e
     → ((h : List Event) → Stands a h → rs ≡ replies a.scale.setup (e ∷ h)) → Appends x y (printed_replies rs) → Performed (e ∷ []) a b x y
-Performed-one e a b rs x y setup stands replied printed = record {
-  setup = setup;
-  stands = stands;
+Performed-one e a b rs x y takes replied printed = record {
+  takes = takes;
   printed = λ h st. subst (λ r. Appends x y (printed_replies r)) (replied h st) printed;
 }
 
@@ -69,9 +70,8 @@ pub replies-hang_up : (s : Setup) (h : List Event) → [] ≡ replies s (hang_up
 unfolding the_replies.replies
 replies-hang_up s h = refl
 
-pub Performed-silent : (e : Event) (a b : TerminalState) (x : Option (List ℕ)) → b.scale.setup ≡ a.scale.setup → ((h : List Event) → Stands a h → Stands b (e ∷ h))
-    → ((h : List Event) → [] ≡ replies a.scale.setup (e ∷ h)) → Performed (e ∷ []) a b x x
-Performed-silent e a b x setup stands silent = Performed-one e a b [] x x setup stands (λ h st. silent h) (Appends-none x)
+pub Performed-silent : (e : Event) (a b : TerminalState) (x : Option (List ℕ)) → Takes a b e → ((h : List Event) → [] ≡ replies a.scale.setup (e ∷ h)) → Performed (e ∷ []) a b x x
+Performed-silent e a b x takes silent = Performed-one e a b [] x x takes (λ h st. silent h) (Appends-none x)
 
 pub reversed-push : (bs : List ℕ) (b : ℕ) → reverse (map byte (bs ++ b ∷ [])) ≡ byte b ∷ reverse (map byte bs)
 reversed-push bs b = ap reverse (map-append byte bs (b ∷ [])) ∙ reverse-append (map byte bs) (byte b ∷ [])
@@ -125,8 +125,8 @@ Progress-next done line evs a b c x y z known so_far next = record {
   es = reverse evs ++ so_far.es;
   understood = trace_events-append done (line ∷ []) ∙ rw (so_far.understood, known)
       (ap Some (ap (λ l. reverse so_far.es ++ l) (append-nil evs ∙ sym (reverse-reverse evs)) ∙ sym (reverse-append (reverse evs) so_far.es)));
-  setup = next.setup ∙ so_far.setup;
-  stands = next.stands so_far.es so_far.stands;
+  setup = next.takes.setup ∙ so_far.setup;
+  stands = next.takes.stands so_far.es so_far.stands;
   written = subst (λ l. Appends x z l) (sym (printed_after-append a.scale.setup so_far.es (reverse evs) [] ∙ ap (λ h. printed a.scale.setup so_far.es ++ printed_after a.scale.setup (reverse evs) h) (append-nil so_far.es)))
       (Appends-append (printed a.scale.setup so_far.es) (printed_after a.scale.setup (reverse evs) so_far.es) x y z so_far.written
       (subst (λ s. Appends y z (printed_after s (reverse evs) so_far.es)) so_far.setup (next.printed so_far.es so_far.stands)));

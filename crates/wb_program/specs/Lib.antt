@@ -1,8 +1,8 @@
-pub mod Hexadecimal
 pub mod LineEvents
 pub mod Numerals
 pub mod Performed
 pub mod Printed
+pub mod Reading
 pub mod Replayed
 pub mod Trace
 pub mod TraceLines

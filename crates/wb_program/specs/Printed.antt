@@ -1,18 +1,14 @@
 -- The printed form of replies.
-use Rattle.std.specs.Prelude.{ℕ, ◌-◌, List, [], ◌∷◌, ◌++◌, length, take}
+use Rattle.std.specs.Prelude.{ℕ, List, [], ◌∷◌, ◌++◌}
 use Rattle.wb_instrument.specs.Setup.{Setup}
 use Rattle.wb_sics.specs.declared.reply.Reply.{Reply}
 use Rattle.wb_sics.specs.Event.{Event}
 use Rattle.wb_sics.specs.Replies.{replies}
 use Rattle.wb_sics.specs.ReplyText.{reply_text}
 
--- a reply without its CR LF
-abbrev pub without_line_end : List ℕ → List ℕ
-without_line_end text = take (length text - 2) text
-
 -- `t `, the reply without its CR LF, and a line feed
 abbrev pub printed_reply : Reply → List ℕ
-printed_reply reply = (116 ∷ 32 ∷ []) ++ without_line_end (reply_text reply) ++ 10 ∷ []
+printed_reply reply = (116 ∷ 32 ∷ []) ++ reply_text reply ++ 10 ∷ []
 
 abbrev pub printed_replies : List Reply → List ℕ
 printed_replies [] = []

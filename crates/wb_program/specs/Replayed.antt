@@ -27,19 +27,37 @@ pub record StopsAt (s : Setup) (ls : List (List ℕ)) (n : ℕ) (w w' : Option (
 abbrev pub ReplaysLines : ReplayEnd → Setup → List (List ℕ) → Option (List ℕ) → Option (List ℕ) → Type 0
 ReplaysLines Done s ls w w' = Replayed s ls w w'
 ReplaysLines (BadLine n) s ls w w' = StopsAt s ls n w w'
-ReplaysLines TooLong s ls w w' = ⊥
-ReplaysLines ReadFault s ls w w' = ⊥
+ReplaysLines TooLong s ls w w' = Unit {0}
+ReplaysLines ReadFault s ls w w' = Unit {0}
 ReplaysLines WriteFault s ls w w' = Unit {0}
-ReplaysLines Memory s ls w w' = ⊥
+ReplaysLines Memory s ls w w' = Unit {0}
 
--- what an end says of a trace of these bytes: only a trace that is not too long is run, and before it is read nothing is written
+-- the lines of a trace were run
+abbrev pub WasRun : ReplayEnd → Type 0
+WasRun Done = Unit {0}
+WasRun (BadLine n) = Unit {0}
+WasRun TooLong = ⊥
+WasRun ReadFault = ⊥
+WasRun WriteFault = Unit {0}
+WasRun Memory = ⊥
+
+-- nothing is written where no line is run
+abbrev pub IsUntouched : ReplayEnd → Option (List ℕ) → Option (List ℕ) → Type 0
+IsUntouched Done w w' = Unit {0}
+IsUntouched (BadLine n) w w' = Unit {0}
+IsUntouched TooLong w w' = w' ≡ w
+IsUntouched ReadFault w w' = w' ≡ w
+IsUntouched WriteFault w w' = Unit {0}
+IsUntouched Memory w w' = w' ≡ w
+
+-- what an end says of a trace of these bytes: only a trace that is not too long is run
 abbrev pub EndsOn : ReplayEnd → Setup → Option (List ℕ) → Option (List ℕ) → List ℕ → Type 0
 EndsOn Done s w w' trace = (length trace ≤ trace_limit) × ReplaysLines Done s (lines trace) w w'
 EndsOn (BadLine n) s w w' trace = (length trace ≤ trace_limit) × ReplaysLines (BadLine n) s (lines trace) w w'
-EndsOn TooLong s w w' trace = (trace_limit < length trace) × (w' ≡ w)
-EndsOn ReadFault s w w' trace = w' ≡ w
+EndsOn TooLong s w w' trace = trace_limit < length trace
+EndsOn ReadFault s w w' trace = Unit {0}
 EndsOn WriteFault s w w' trace = length trace ≤ trace_limit
-EndsOn Memory s w w' trace = w' ≡ w
+EndsOn Memory s w w' trace = Unit {0}
 
 -- the same of what the reader has left, where it tells that
 abbrev pub Ends : ReplayEnd → Setup → Option (List ℕ) → Option (List ℕ) → Option (List ℕ) → Type 0

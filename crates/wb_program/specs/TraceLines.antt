@@ -2,11 +2,12 @@
 use Rattle.std.specs.Prelude.{ℕ, ◌==◌, List, [], ◌∷◌, ◌++◌, map, replicate, if◌then◌else◌, Option, Some, None, option_map, nat_eq, is_some}
 use Rattle.std.specs.List.{position, before_first, after_first}
 use Rattle.std.specs.Cmp.Lexicographic.{pointwise}
+use Rattle.std.specs.Result.{result_ok}
+use Rattle.hex.specs.Hex.{decode_of}
 use Rattle.wb_window.specs.Reading.{reading_of}
 use Rattle.wb_window.specs.declared.reading.Reading.{Reading}
 use Rattle.wb_window.specs.declared.reading.Reading.TheVariants.{Lost}
 use Rattle.wb_sics.specs.Event.{Event, reading, byte, hang_up}
-use Rattle.wb_program.specs.Hexadecimal.{hex_bytes}
 use Rattle.wb_program.specs.Numerals.{number, count}
 
 -- `lost`, or a number of tenths
@@ -43,7 +44,7 @@ without_blank (b ∷ text) = if b == 32 then Some text else None
 -- at least one byte in hexadecimal
 abbrev pub bytes_line : List ℕ → Option (List Event)
 bytes_line [] = None
-bytes_line (digit ∷ digits) = option_map (map byte) (hex_bytes (digit ∷ digits))
+bytes_line (digit ∷ digits) = option_map (map byte) (result_ok (decode_of (digit ∷ digits)))
 
 abbrev pub hang_up_line : List ℕ → Option (List Event)
 hang_up_line [] = Some (hang_up ∷ [])

@@ -5,7 +5,6 @@
 //! around that.
 #![tactic(auto)]
 
-mod hexadecimal;
 mod lines;
 mod numerals;
 mod performing;
@@ -17,57 +16,40 @@ mod trace_line;
 mod words;
 
 use crate::replay::ReplayEnd;
-use clap::ArgMatches;
+use crate::words::{Asked, REFUSED, read_words};
 use std::io;
 use std::process::ExitCode;
 use wb_instrument::Instrument;
 
-/// The status of words or a setup that are refused.
-const REFUSED_WORDS: u8 = 2;
-
-/// The status of any other fault.
-const FAULT: u8 = 1;
-
 fn main(rt: HostRuntime) -> io::Result<ExitCode> {
-    let alloc = rt.alloc();
-    let mut given = Vec::new(alloc);
+    let mut words = Vec::new(rt.alloc());
     for word in std::env::args(&rt)? {
-        given.push(word)?;
+        words.push(word)?;
     }
-    match words::command(alloc)?.try_get_matches_from(given.as_slice()) {
-        Ok(matches) => match matches.subcommand() {
-            Some((_, setup)) => run_replay(&rt, setup),
-            None => Ok(ExitCode::from(REFUSED_WORDS)),
-        },
-        Err(error) => {
+    match read_words(rt.alloc(), words.as_slice())? {
+        Asked::Replay(instrument) => run_replay(&rt, instrument),
+        Asked::SetupRefused(fault) => {
+            eprintln!(rt; "{fault}")?;
+            Ok(ExitCode::from(fault.status()))
+        }
+        Asked::WordsRefused(error) => {
             error.print(&rt)?;
             Ok(ExitCode::from(error.exit_code() as u8))
         }
+        Asked::Nothing => Ok(ExitCode::from(REFUSED)),
     }
 }
 
-/// Replays the trace on standard input, with the setup that the words give.
-fn run_replay(rt: &HostRuntime, setup: &ArgMatches<'_>) -> io::Result<ExitCode> {
-    let Some(parts) = words::parts(setup) else {
-        return Ok(ExitCode::from(REFUSED_WORDS));
-    };
-    let instrument = match Instrument::new(parts) {
-        Ok(instrument) => instrument,
-        Err(fault) => {
-            eprintln!(rt; "setup refused: {fault}")?;
-            return Ok(ExitCode::from(REFUSED_WORDS));
-        }
-    };
-    match replay::replay(
+/// Replays the trace on standard input, and reports how it ended, unless it was done.
+fn run_replay(rt: &HostRuntime, instrument: Instrument) -> io::Result<ExitCode> {
+    let end = replay::replay(
         rt.alloc(),
         instrument,
         &mut rt.reader(),
         &mut io::writer(rt),
-    ) {
-        ReplayEnd::Done => Ok(ExitCode::SUCCESS),
-        end => {
-            eprintln!(rt; "{end}")?;
-            Ok(ExitCode::from(FAULT))
-        }
+    );
+    if end != ReplayEnd::Done {
+        eprintln!(rt; "{end}")?;
     }
+    Ok(ExitCode::from(end.status()))
 }

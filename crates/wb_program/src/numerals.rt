@@ -1,10 +1,8 @@
 //! Numbers in a trace.
-ghost use Rattle.std.specs.Prelude.{◌≡◌, ◌<◌, ◌≤◌, ◌^◌, IfSome, option_map, true};
-ghost use Rattle.std.specs.Char.{is_ascii_digit};
-ghost use Rattle.std.specs.List.{list_all};
-ghost use Rattle.wb_program.specs.Numerals.{are_digits as are_digits_of, count as count_of, digits_number, number as number_of};
+ghost use Rattle.std.specs.Prelude.{◌≡◌};
+ghost use Rattle.wb_program.specs.Numerals.{count as count_of, number as number_of};
 
-use std::str;
+use wb_text::digits;
 
 /// The digits that a number may have.
 const MOST_DIGITS: usize = 18;
@@ -18,11 +16,11 @@ pub(crate) fn number(text: &[u8]) -> Option<i64>
 {
     match text {
         [] => None,
-        [first, digits @ ..] => {
+        [first, rest @ ..] => {
             if *first == b'-' {
-                Some(-(digits_of(digits)? as i64))
+                Some(-(digits(rest, MOST_DIGITS)? as i64))
             } else {
-                Some(digits_of(text)? as i64)
+                Some(digits(text, MOST_DIGITS)? as i64)
             }
         }
     }
@@ -38,7 +36,7 @@ pub(crate) fn count(text: &[u8]) -> Option<u32>
             if *first == b'0' {
                 return None;
             }
-            let times = digits_of(text)?;
+            let times = digits(text, MOST_DIGITS)?;
             if 1 <= times && times <= MOST_TIMES {
                 Some(times as u32)
             } else {
@@ -46,30 +44,4 @@ pub(crate) fn count(text: &[u8]) -> Option<u32>
             }
         }
     }
-}
-
-/// The number that 1 to 18 decimal digits give.
-fn digits_of(text: &[u8]) -> Option<u64>
-    ensures value { result ≡ digits_number text.now }
-    ensures small { IfSome result (λ n. n < 10 ^ 18) }
-{
-    if !are_digits(text) {
-        return None;
-    }
-    match str::from_utf8(text) {
-        Ok(digits) => digits.parse().ok(),
-        Err(_) => None,
-    }
-}
-
-fn are_digits(text: &[u8]) -> bool
-    ensures { result ≡ are_digits_of text.now }
-{
-    !text.is_empty() && text.len() <= MOST_DIGITS && all_digits(text)
-}
-
-fn all_digits(text: &[u8]) -> bool
-    ensures { result ≡ list_all is_ascii_digit text.now }
-{
-    text.iter().all(|byte| byte.is_ascii_digit())
 }

@@ -1,20 +1,23 @@
 //! Replays of traces.
-ghost use Rattle.std.specs.Prelude.{◌≡◌, ◌≤◌, [], length};
+ghost use Rattle.std.specs.Prelude.{◌≡◌, ◌≤◌, ◌+◌, ◌*◌, [], IfOk, length};
 ghost use Rattle.std.specs.Str.Lines.{lines};
-ghost use Rattle.wb_program.specs.Replayed.{Ends, ReplaysLines};
+ghost use Rattle.wb_program.specs.Replayed.{Ends, IsUntouched, ReplaysLines, WasRun};
 ghost use Rattle.wb_sics.specs.Stands.{Stands};
 
 use crate::lines::first_line;
 use crate::performing::perform;
 use crate::trace::{TraceFault, read_trace};
 use crate::trace_line::read_line;
-use std::alloc::Global;
+use std::alloc::{AllocError, Global};
 use std::io::{Read, Write};
 use thiserror::Error;
 use wb_instrument::Instrument;
 use wb_scale::Scale;
-use wb_sics::Terminal;
+use wb_sics::{Replies, Terminal};
 use wb_window::RingWindow;
+
+/// The status of any fault but refused words or a refused setup.
+const FAULT: u8 = 1;
 
 /// How a replay ended.
 #[derive(Clone, Copy, Debug, PartialEq, Eq, Error)]
@@ -39,6 +42,20 @@ pub enum ReplayEnd {
     Memory,
 }
 
+impl ReplayEnd {
+    /// The exit status that stands for the end.
+    pub fn status(self) -> u8 {
+        match self {
+            ReplayEnd::Done => 0,
+            ReplayEnd::BadLine(_)
+            | ReplayEnd::TooLong
+            | ReplayEnd::ReadFault
+            | ReplayEnd::WriteFault
+            | ReplayEnd::Memory => FAULT,
+        }
+    }
+}
+
 /// Reads a trace to its end, and writes the printed form of the replies to it.
 pub fn replay<R: Read, O: Write>(
     alloc: Global,
@@ -46,7 +63,9 @@ pub fn replay<R: Read, O: Write>(
     reader: &mut R,
     writer: &mut O,
 ) -> ReplayEnd
-    ensures { Ends result instrument (R.remaining reader.old) (O.contents writer.old) (O.contents writer.new) }
+    ensures ends { Ends result instrument (R.remaining reader.old)
+        (O.contents writer.old) (O.contents writer.new) }
+    ensures untouched { IsUntouched result (O.contents writer.old) (O.contents writer.new) }
 {
     let trace = match read_trace(alloc, reader) {
         Ok(trace) => trace,
@@ -54,32 +73,50 @@ pub fn replay<R: Read, O: Write>(
         Err(TraceFault::ReadFault) => return ReplayEnd::ReadFault,
         Err(TraceFault::Memory) => return ReplayEnd::Memory,
     };
+    let Ok(mut room) = room_for(alloc, trace.len() / 2) else {
+        return ReplayEnd::Memory;
+    };
     match RingWindow::new(alloc, instrument.window() as usize, instrument.band()) {
         Ok(window) => {
             let mut terminal = Terminal::new(Scale::new(instrument, window));
-            replay_lines(&mut terminal, trace.as_slice(), writer)
+            replay_lines(&mut terminal, trace.as_slice(), room.as_mut_slice(), writer)
         }
         Err(_) => ReplayEnd::Memory,
     }
+}
+
+/// Room for so many bytes.
+fn room_for(alloc: Global, size: usize) -> Result<Vec<u8>, AllocError>
+    ensures { IfOk result (λ room. length room.items ≡ size) }
+{
+    let mut room = Vec::new(alloc);
+    room.resize(size, 0)?;
+    Ok(room)
 }
 
 /// Replays the lines of a trace, up to the first that isn't understood.
 fn replay_lines<O: Write>(
     terminal: &mut Terminal<RingWindow>,
     trace: &[u8],
+    room: &mut [u8],
     writer: &mut O,
 ) -> ReplayEnd
-    requires { length trace.now ≤ 1_048_576 }
-    ensures { Stands terminal.old [] → ReplaysLines result terminal.old.scale.setup (lines trace.now) (O.contents writer.old) (O.contents writer.new) }
+    requires short { length trace.now ≤ 1_048_576 }
+    requires room { length trace.now ≤ 2 * length room.old + 1 }
+    ensures lines { Stands terminal.old []
+        → ReplaysLines result terminal.old.scale.setup (lines trace.now)
+        (O.contents writer.old) (O.contents writer.new) }
+    ensures run { WasRun result }
 {
     let mut rest = trace;
     let mut number = 0u64;
+    let mut replies = Replies::new();
     while let Some((line, after)) = first_line(rest) {
         number += 1;
-        let Some(asked) = read_line(line) else {
+        let Some(asked) = read_line(line, room) else {
             return ReplayEnd::BadLine(number);
         };
-        match perform(terminal, asked, writer) {
+        match perform(terminal, asked, room, &mut replies, writer) {
             Ok(()) => rest = after,
             Err(_) => return ReplayEnd::WriteFault,
         }

@@ -1,8 +1,9 @@
 //! Reading a trace.
 ghost use Rattle.std.specs.Prelude.{◌≡◌, ◌<◌, ◌≤◌, IfOk, IfSome, IsErrOf, length};
+ghost use Rattle.wb_program.specs.Reading.{HasTaken};
 
 use std::alloc::Global;
-use std::io::Read;
+use std::io::{ErrorKind, Read};
 use thiserror::Error;
 
 /// The bytes that a trace may have.
@@ -22,11 +23,15 @@ pub(crate) enum TraceFault {
     Memory,
 }
 
-/// The bytes of a trace, all that the reader has left.
+/// The bytes of a trace, all that the reader has left. A read that was interrupted is tried again.
 pub(crate) fn read_trace<R: Read>(alloc: Global, reader: &mut R) -> Result<Vec<u8>, TraceFault>
-    ensures whole { IfOk result (λ trace. IfSome (R.remaining reader.old) (λ unread. trace.items ≡ unread)) }
+    ensures whole { IfOk result (λ trace. IfSome (R.remaining reader.old) (λ unread. trace.items
+        ≡ unread)) }
     ensures within { IfOk result (λ trace. length trace.items ≤ 1_048_576) }
-    ensures too_long { IsErrOf result TraceFault.TooLong → IfSome (R.remaining reader.old) (λ unread. 1_048_576 < length unread) }
+    ensures too_long { IsErrOf result TraceFault.TooLong
+        → IfSome (R.remaining reader.old) (λ unread. 1_048_576 < length unread) }
+    ensures read_fault { IsErrOf result TraceFault.ReadFault
+        → HasTaken 1_048_576 (R.remaining reader.old) (R.remaining reader.new) }
 {
     let mut trace = Vec::new(alloc);
     let mut piece = [0u8; 4096];
@@ -41,7 +46,11 @@ pub(crate) fn read_trace<R: Read>(alloc: Global, reader: &mut R) -> Result<Vec<u
                     return Err(TraceFault::TooLong);
                 }
             }
-            Err(_) => return Err(TraceFault::ReadFault),
+            Err(error) => {
+                if error.kind() != ErrorKind::Interrupted {
+                    return Err(TraceFault::ReadFault);
+                }
+            }
         }
     }
     Err(TraceFault::ReadFault)

@@ -1,13 +1,12 @@
 //! A line of a trace, read.
 ghost use Rattle.std.specs.Option.{option_copied};
-ghost use Rattle.std.specs.Prelude.{◌≡◌, IfSome, option_map};
+ghost use Rattle.std.specs.Prelude.{◌≡◌, ◌+◌, ◌*◌, ◌≤◌, ℕ, List, IfSome, length, option_map};
 ghost use Rattle.wb_program.specs.LineEvents.{IsRead, events_of};
-ghost use Rattle.wb_program.specs.TraceLines.{bytes_line, hang_up_line, line_events, reading_line, reading_word as reading_of_word, typed, typed_text as typed_text_of, without_blank};
+ghost use Rattle.wb_program.specs.TraceLines.{bytes_line, hang_up_line, line_events, of_text, reading_line, reading_word as reading_of_word, typed, typed_text as typed_text_of, without_blank};
 ghost use Rattle.wb_window.specs.Reading.{IsReading};
 
-use crate::hexadecimal::is_hexadecimal;
-use crate::lines::split_at_first;
 use crate::numerals::{count, number};
+use wb_text::split_at_first;
 use wb_window::Reading;
 
 /// What a line of a trace asks for.
@@ -19,16 +18,18 @@ pub(crate) enum TraceLine<'a> {
     Readings { reading: Reading, times: u32 },
     /// A text and a line end, typed at the terminal.
     Text(&'a [u8]),
-    /// Bytes of the terminal's stream, as hexadecimal digits.
-    Bytes(&'a [u8]),
+    /// Bytes of the terminal's stream: the first so many of the room.
+    Bytes(usize),
     /// The terminal's connection ends.
     HangUp,
 }
 
-/// What a line asks for; none where it isn't understood.
-pub(crate) fn read_line(line: &[u8]) -> Option<TraceLine<'_>>
-    ensures events { option_map events_of result ≡ line_events line.now }
-    ensures read { IfSome result IsRead }
+/// What a line asks for, with its bytes in the room; none if it isn't understood.
+pub(crate) fn read_line<'a>(line: &'a [u8], room: &mut [u8]) -> Option<TraceLine<'a>>
+    requires { length line.now ≤ 2 * length room.old + 1 }
+    ensures events { option_map (events_of room.new) result ≡ line_events line.now }
+    ensures read { IfSome result (IsRead room.new) }
+    ensures room { length room.new ≡ length room.old }
 {
     match line {
         [] => Some(TraceLine::Nothing),
@@ -36,11 +37,11 @@ pub(crate) fn read_line(line: &[u8]) -> Option<TraceLine<'_>>
             if *kind == b'#' {
                 Some(TraceLine::Nothing)
             } else if *kind == b'r' {
-                readings(after_blank(rest)?)
+                readings(rest)
             } else if *kind == b't' {
                 Some(TraceLine::Text(typed_text(rest)?))
             } else if *kind == b'b' {
-                bytes(after_blank(rest)?)
+                bytes(after_blank(rest)?, room)
             } else if *kind == b'h' {
                 hang_up(rest)
             } else {
@@ -70,11 +71,13 @@ fn typed_text(rest: &[u8]) -> Option<&[u8]>
     }
 }
 
-/// A reading, then optionally a blank and a count.
-fn readings(text: &[u8]) -> Option<TraceLine<'_>>
-    ensures events { option_map events_of result ≡ reading_line text.now }
-    ensures read { IfSome result IsRead }
+/// After one blank a reading, then optionally a blank and a count.
+fn readings(rest: &[u8]) -> Option<TraceLine<'static>>
+    ensures events { (room : List ℕ)
+        → option_map (events_of room) result ≡ of_text reading_line (without_blank rest.now) }
+    ensures read { (room : List ℕ) → IfSome result (IsRead room) }
 {
+    let text = after_blank(rest)?;
     match split_at_first(text, b' ') {
         Some((word, times)) => {
             let reading = reading_word(word)?;
@@ -99,21 +102,26 @@ fn reading_word(word: &[u8]) -> Option<Reading>
     Some(Reading::of(number(word)?))
 }
 
-/// At least one byte in hexadecimal.
-fn bytes(digits: &[u8]) -> Option<TraceLine<'_>>
-    ensures events { option_map events_of result ≡ bytes_line digits.now }
-    ensures read { IfSome result IsRead }
+/// At least one byte in hexadecimal, decoded into the room.
+fn bytes(digits: &[u8], room: &mut [u8]) -> Option<TraceLine<'static>>
+    requires { length digits.now ≤ 2 * length room.old + 1 }
+    ensures events { option_map (events_of room.new) result ≡ bytes_line digits.now }
+    ensures read { IfSome result (IsRead room.new) }
+    ensures room { length room.new ≡ length room.old }
 {
-    if !digits.is_empty() && is_hexadecimal(digits) {
-        Some(TraceLine::Bytes(digits))
-    } else {
-        None
+    if digits.is_empty() {
+        return None;
+    }
+    let count = digits.len() / 2;
+    match hex::decode_to_slice(digits, &mut room[..count]) {
+        Ok(()) => Some(TraceLine::Bytes(count)),
+        Err(_) => None,
     }
 }
 
-fn hang_up(rest: &[u8]) -> Option<TraceLine<'_>>
-    ensures events { option_map events_of result ≡ hang_up_line rest.now }
-    ensures read { IfSome result IsRead }
+fn hang_up(rest: &[u8]) -> Option<TraceLine<'static>>
+    ensures events { (room : List ℕ) → option_map (events_of room) result ≡ hang_up_line rest.now }
+    ensures read { (room : List ℕ) → IfSome result (IsRead room) }
 {
     if rest.is_empty() {
         Some(TraceLine::HangUp)

@@ -1,7 +1,51 @@
 //! The words of the command line.
 use clap::{Arg, ArgAction, ArgMatches, Command, value_parser};
 use std::alloc::{AllocError, Global};
-use wb_instrument::Parts;
+use thiserror::Error;
+use wb_instrument::{Instrument, PartFault, Parts};
+
+/// The status of words or a setup that are refused.
+pub(crate) const REFUSED: u8 = 2;
+
+/// What the words of the command line ask for.
+#[derive(Drop)]
+pub(crate) enum Asked {
+    /// A trace is to be replayed with this instrument.
+    Replay(Instrument),
+    /// The setup is refused.
+    SetupRefused(SetupFault),
+    /// The words are refused, or ask for help.
+    WordsRefused(clap::Error),
+    /// No subcommand, or not every part of a setup. `clap` refuses such words, so this doesn't come.
+    Nothing,
+}
+
+/// The first part of a setup that is refused.
+#[derive(Clone, Copy, Debug, PartialEq, Eq, Error)]
+#[error("setup refused: {0}")]
+pub(crate) struct SetupFault(PartFault);
+
+impl SetupFault {
+    /// The exit status that stands for it.
+    pub(crate) fn status(self) -> u8 {
+        REFUSED
+    }
+}
+
+/// What these words ask for, the name of the program first.
+pub(crate) fn read_words(alloc: Global, words: &[String]) -> Result<Asked, AllocError> {
+    let matches = match command(alloc)?.try_get_matches_from(words) {
+        Ok(matches) => matches,
+        Err(error) => return Ok(Asked::WordsRefused(error)),
+    };
+    let Some(parts) = matches.subcommand().and_then(|(_, setup)| parts(setup)) else {
+        return Ok(Asked::Nothing);
+    };
+    Ok(match Instrument::new(parts) {
+        Ok(instrument) => Asked::Replay(instrument),
+        Err(fault) => Asked::SetupRefused(SetupFault(fault)),
+    })
+}
 
 /// A part of the setup that is a number.
 fn number<'a>(alloc: Global, name: &'a str, default: &'a str, help: &'a str) -> Arg<'a> {
@@ -63,7 +107,7 @@ fn with_setup<'a>(alloc: Global, command: Command<'a>) -> Result<Command<'a>, Al
 }
 
 /// The whole command line.
-pub fn command<'a>(alloc: Global) -> Result<Command<'a>, AllocError> {
+fn command<'a>(alloc: Global) -> Result<Command<'a>, AllocError> {
     let replay = Command::new(alloc, "replay").about(
         "replays a trace from standard input, and prints the replies",
     );
@@ -75,7 +119,7 @@ pub fn command<'a>(alloc: Global) -> Result<Command<'a>, AllocError> {
 }
 
 /// The parts of the setup that the words give.
-pub fn parts<'a>(matches: &ArgMatches<'a>) -> Option<Parts<'a>> {
+fn parts<'a>(matches: &ArgMatches<'a>) -> Option<Parts<'a>> {
     Some(Parts {
         interval_kg: matches.get_one::<u32>("interval")?,
         max_kg: matches.get_one::<u32>("max")?,

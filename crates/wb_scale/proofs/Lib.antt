@@ -6,6 +6,7 @@ pub mod Spacing
 pub mod Standing
 pub mod Steadiness
 pub mod Tracks
+pub mod Unmarking
 pub mod Windows
 pub mod ZeroRange
 pub mod Zeros

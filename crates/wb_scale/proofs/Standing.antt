@@ -14,7 +14,7 @@ use Rattle.wb_scale.specs.Call.{Call, read, stored}
 use Rattle.wb_scale.specs.Cleared.{is_cleared}
 use Rattle.wb_scale.specs.History.{moment, moments, taken}
 use Rattle.wb_scale.specs.Moment.{Moment, nothing, readings}
-use Rattle.wb_scale.specs.Stands.{Stands, StandsAt}
+use Rattle.wb_scale.specs.Stands.{Stands, StandsAt, Takes}
 use Rattle.wb_scale.specs.State.{IsScale, State}
 use Rattle.wb_scale.specs.Tare.{tare_now}
 use Rattle.wb_scale.specs.Tracking.{is_quiet, step_at, step_to}
@@ -22,6 +22,10 @@ use Rattle.wb_scale.specs.Zero.{above_zero, last_load, load_of, zero_now}
 use Rattle.wb_scale.proofs.Moments.{above_zero-taken, is_cleared-none, is_cleared-stored, is_cleared-taken, is_quiet-none, readings-none, readings-taken, tare_now-new, tare_now-same, zero_now-step}
 use Rattle.wb_scale.proofs.Pauses.{Pauses-fresh, Pauses-taken, pause_from-le}
 use Rattle.wb_scale.proofs.Windows.{AreReadings-take, is_stable-take, last_load-take, take_kept}
+
+-- a scale takes a call where the state behind what it shows does
+pub Takes-behind : (s old new : State) (call : Call) → s ≡ old → new.setup ≡ s.setup → ((h : List Call) → Stands s h → Stands new (call ∷ h)) → Takes old new call
+Takes-behind s old new call same setup stands = subst (λ t. Takes t new call) same (record { setup = setup; stands = stands })
 
 -- a window holds a reading at least
 pub one_reading : (s : State) → IsScale s → 1 ≤ s.setup.window

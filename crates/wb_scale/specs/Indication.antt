@@ -1,5 +1,6 @@
 -- What is indicated.
-use Rattle.std.specs.Prelude.{◌+◌, Bool, if◌then◌else◌, List, Option, Some, None, option_map, ℤ, pos, ◌-ℤ◌, neg_ℤ, int_lt, ◌≤ℤ◌}
+use Rattle.std.specs.Prelude.{◌+◌, Bool, if◌then◌else◌, List, Option, Some, None, option_map, ℤ, pos, ◌-ℤ◌, neg_ℤ, ◌≤ℤ◌}
+use Rattle.wb_instrument.specs.Limits.{is_over, is_under}
 use Rattle.wb_instrument.specs.Rounding.{round}
 use Rattle.wb_instrument.specs.Setup.{Setup, intervals}
 use Rattle.wb_window.specs.Stability.{is_stable}
@@ -18,11 +19,11 @@ gross ms = option_map round (above_zero ms)
 abbrev pub net : List Moment → Option ℤ
 net ms = option_map (λ tenths. round (tenths -ℤ tare_tenths (tare_now ms))) (above_zero ms)
 
--- gross and net are indicated, unless gross is above Max + 9 e (OIML R 76-1:2006, 4.2.3) or below -20 e
+-- gross and net are indicated, unless gross is over or under
 abbrev pub shown : Setup → Bool → ℤ → ℤ → Indicated
 shown s stable gross net =
-    if int_lt (pos (intervals s + 9)) gross then Over
-    else if int_lt gross (neg_ℤ (pos 20)) then Under
+    if is_over s gross then Over
+    else if is_under gross then Under
     else Shown gross net stable
 
 -- so many tenths above the zero are indicated, with a tare

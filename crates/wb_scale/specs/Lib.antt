@@ -11,4 +11,5 @@ pub mod State
 pub mod Steady
 pub mod Tare
 pub mod Tracking
+pub mod Unmarked
 pub mod Zero

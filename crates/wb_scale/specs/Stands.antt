@@ -1,5 +1,5 @@
 -- A scale stands after a history.
-use Rattle.std.specs.Prelude.{◌≡◌, ℕ, ◌-◌, nat_le, List, take}
+use Rattle.std.specs.Prelude.{◌≡◌, ℕ, ◌-◌, nat_le, List, [], ◌∷◌, ◌++◌, take}
 use Rattle.wb_instrument.specs.Limits.{tracking_gap}
 use Rattle.wb_instrument.specs.Setup.{Setup}
 use Rattle.wb_scale.specs.Call.{Call}
@@ -23,3 +23,12 @@ pub record StandsAt (i : Setup) (s : State) (ms : List Moment) : Type 0 where
 -- the scale stands after the history
 pub record Stands (s : State) (h : List Call) : Type 0 where
   pub now : StandsAt s.setup s (moments s.setup h)
+
+-- the scale takes calls, the newest first: after whatever history it stood, it stands after that history with the calls
+pub record TakesAll (old new : State) (calls : List Call) : Type 0 where
+  pub setup : new.setup ≡ old.setup
+  pub stands : (h : List Call) → Stands old h → Stands new (calls ++ h)
+
+-- the scale takes a call
+abbrev pub Takes : State → State → Call → Type 0
+Takes old new call = TakesAll old new (call ∷ [])

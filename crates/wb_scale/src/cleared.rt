@@ -1,11 +1,11 @@
 //! The cleared bridge.
-ghost use Rattle.std.specs.Prelude.{◌≡◌, ◌∷◌, IfSome, List};
+ghost use Rattle.std.specs.Prelude.{◌≡◌, IfSome, List};
 ghost use Rattle.wb_scale.specs.After.{cleared_from};
 ghost use Rattle.wb_scale.specs.Call.{Call, stored};
 ghost use Rattle.wb_scale.specs.Cleared.{is_cleared};
 ghost use Rattle.wb_scale.specs.History.{moments};
 ghost use Rattle.wb_scale.specs.Load.{IsAbove};
-ghost use Rattle.wb_scale.specs.Stands.{Stands};
+ghost use Rattle.wb_scale.specs.Stands.{Stands, Takes};
 
 use crate::Scale;
 use wb_instrument::round_tenths;
@@ -17,15 +17,15 @@ const MIN_INTERVALS: i32 = 20;
 impl<W: Window> Scale<W> {
     /// Whether the bridge was cleared since the last stored weighing, or since the opening.
     pub fn is_cleared(&self) -> bool
-        ensures { (h : List Call) → Stands self.now h → result ≡ is_cleared (moments self.now.setup h) }
+        ensures { (h : List Call) → Stands self.now h
+            → result ≡ is_cleared (moments self.now.setup h) }
     {
         self.cleared
     }
 
     /// A weighing was stored: the bridge is not cleared.
     pub fn mark_stored(&mut self)
-        ensures setup { self.new.setup ≡ self.old.setup }
-        ensures stands { (h : List Call) → Stands self.old h → Stands self.new (stored ∷ h) }
+        ensures takes { Takes self.old self.new stored }
     {
         self.cleared = false;
     }

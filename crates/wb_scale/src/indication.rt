@@ -18,7 +18,8 @@ use wb_window::Window;
 impl<W: Window> Scale<W> {
     /// What is indicated of the last reading.
     pub fn indicated(&self) -> Indicated
-        ensures value { (h : List Call) → Stands self.now h → result ≡ indicated self.now.setup (moments self.now.setup h) }
+        ensures value { (h : List Call) → Stands self.now h
+            → result ≡ indicated self.now.setup (moments self.now.setup h) }
         ensures in_range { IsInRange self.now.setup result }
     {
         let stable = self.window.stable();
@@ -27,14 +28,17 @@ impl<W: Window> Scale<W> {
 
     /// Whether the scale is stable.
     pub fn is_stable(&self) -> bool
-        ensures { (h : List Call) → Stands self.now h → result ≡ is_stable self.now.setup.window self.now.setup.band (readings (moments self.now.setup h)) }
+        ensures { (h : List Call) → Stands self.now h
+            → result ≡ is_stable self.now.setup.window self.now.setup.band
+            (readings (moments self.now.setup h)) }
     {
         self.window.stable()
     }
 
     /// The tare in force.
     pub fn tare_in_force(&self) -> TareNow
-        ensures value { (h : List Call) → Stands self.now h → result ≡ tare_now (moments self.now.setup h) }
+        ensures value { (h : List Call) → Stands self.now h
+            → result ≡ tare_now (moments self.now.setup h) }
         ensures in_range { IsTare self.now.setup result }
     {
         self.tare

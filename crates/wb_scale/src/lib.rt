@@ -6,8 +6,8 @@
 
 mod answers;
 mod cleared;
-mod drift;
 mod indication;
+mod laws;
 mod load;
 mod scale;
 mod tare;
@@ -17,5 +17,7 @@ mod tracking;
 mod zero_setting;
 
 pub use answers::{Indicated, PresetAnswer, TareAnswer, TareNow, ZeroAnswer};
-pub use drift::{law_of_drift, law_of_steady_indication, law_of_zero_range};
+pub use laws::{
+    law_of_drift, law_of_steady_indication, law_of_unmarked_histories, law_of_zero_range,
+};
 pub use scale::Scale;

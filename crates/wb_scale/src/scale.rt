@@ -36,12 +36,13 @@ impl<W: Window> Scale<W> {
     ghost use Rattle.wb_scale.specs.After.{above};
     ghost use Rattle.wb_scale.specs.Call.{Call, read};
     ghost use Rattle.wb_scale.specs.Load.{IsAbove, IsLoad};
-    ghost use Rattle.wb_scale.specs.Stands.{Stands};
+    ghost use Rattle.wb_scale.specs.Stands.{Stands, Takes};
     ghost use Rattle.wb_scale.specs.Zero.{last_load};
 
     /// A scale over a fresh window, with the zero at the calibration zero, no tare, and the bridge not cleared.
     pub fn new(instrument: Instrument, window: W) -> Self
-        requires fresh { W.held window ≡ record { size = instrument.window; band = instrument.band; readings = [] } }
+        requires fresh { W.held window
+            ≡ record { size = instrument.window; band = instrument.band; readings = [] } }
         ensures setup { result.setup ≡ instrument }
         ensures stands { Stands result [] }
     {
@@ -69,8 +70,7 @@ impl<W: Window> Scale<W> {
     /// Takes a reading; zero tracking may move the zero.
     pub fn read(&mut self, reading: Reading)
         requires { IsReading reading }
-        ensures setup { self.new.setup ≡ self.old.setup }
-        ensures stands { (h : List Call) → Stands self.old h → Stands self.new (read reading ∷ h) }
+        ensures takes { Takes self.old self.new (read reading) }
     {
         self.window.read(reading);
         self.track();

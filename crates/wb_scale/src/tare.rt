@@ -1,11 +1,10 @@
 //! Weighed and preset tares.
-ghost use Rattle.std.specs.Prelude.{◌≡◌, ◌∷◌, ◌*ℤ◌, ◌≤ℤ◌, false, IfErr, IfOk, IfSome, if◌then◌else◌, List, None, pos, Some};
-ghost use Rattle.wb_instrument.specs.Rounding.{round};
+ghost use Rattle.std.specs.Prelude.{◌≡◌, ◌≤ℤ◌, false, IfErr, IfOk, IfSome, if◌then◌else◌, List, None, pos, Some};
 ghost use Rattle.wb_scale.specs.Call.{Call, clear_tare, preset, tare};
 ghost use Rattle.wb_scale.specs.History.{moments};
 ghost use Rattle.wb_scale.specs.Load.{IsAbove};
-ghost use Rattle.wb_scale.specs.Stands.{Stands};
-ghost use Rattle.wb_scale.specs.Tare.{IsTare, is_preset, is_preset_done, is_tared, is_weighed, preset_answer, tare_answer, tare_answer_of, tare_tenths};
+ghost use Rattle.wb_scale.specs.Stands.{Stands, Takes};
+ghost use Rattle.wb_scale.specs.Tare.{IsTare, is_preset, is_preset_done, is_tared, is_weighed, preset_answer, tare_answer, tare_answer_of, tare_kg, tare_now, tare_tenths};
 
 use crate::Scale;
 use crate::answers::{PresetAnswer, TareAnswer, TareNow};
@@ -18,16 +17,16 @@ const TENTHS: i32 = 10;
 impl<W: Window> Scale<W> {
     /// Tares the last load, in stable equilibrium; the tare takes the place of an older weighed one.
     pub fn tare(&mut self) -> TareAnswer
-        ensures answer { (h : List Call) → Stands self.old h → result ≡ tare_answer self.old.setup (moments self.old.setup h) }
-        ensures setup { self.new.setup ≡ self.old.setup }
-        ensures stands { (h : List Call) → Stands self.old h → Stands self.new (tare ∷ h) }
+        ensures answer { (h : List Call) → Stands self.old h
+            → result ≡ tare_answer self.old.setup (moments self.old.setup h) }
+        ensures takes { Takes self.old self.new tare }
         ensures refused { is_tared result ≡ false → self.new ≡ self.old }
     {
         let stable = self.window.stable();
         match tare_target(&self.instrument, stable, self.tare, self.above_zero()) {
             Ok(tenths) => {
                 self.tare = TareNow::Weighed(tenths);
-                TareAnswer::Done(kilograms(&self.instrument, round_tenths(tenths)))
+                TareAnswer::Done(tare_kilograms(&self.instrument, self.tare))
             }
             Err(answer) => answer,
         }
@@ -35,24 +34,31 @@ impl<W: Window> Scale<W> {
 
     /// Sets a preset tare of so many grams, rounded to e; it takes the place of an older preset tare.
     pub fn preset(&mut self, grams: u64) -> PresetAnswer
-        ensures answer { (h : List Call) → Stands self.old h → result ≡ preset_answer self.old.setup (moments self.old.setup h) grams }
-        ensures setup { self.new.setup ≡ self.old.setup }
-        ensures stands { (h : List Call) → Stands self.old h → Stands self.new (preset grams ∷ h) }
+        ensures answer { (h : List Call) → Stands self.old h
+            → result ≡ preset_answer self.old.setup (moments self.old.setup h) grams }
+        ensures takes { Takes self.old self.new (preset grams) }
         ensures refused { is_preset_done result ≡ false → self.new ≡ self.old }
     {
         match preset_target(self.tare, self.instrument.preset_of_grams(grams)) {
             Ok(whole) => {
                 self.tare = TareNow::Preset(whole);
-                PresetAnswer::Done(kilograms(&self.instrument, whole))
+                PresetAnswer::Done(tare_kilograms(&self.instrument, self.tare))
             }
             Err(answer) => answer,
         }
     }
 
+    /// The tare in force in kilograms, a weighed one rounded to e; 0 with no tare.
+    pub fn tare_kg(&self) -> i32
+        ensures { (h : List Call) → Stands self.now h
+            → result ≡ tare_kg self.now.setup (tare_now (moments self.now.setup h)) }
+    {
+        tare_kilograms(&self.instrument, self.tare)
+    }
+
     /// Clears the tare.
     pub fn clear_tare(&mut self)
-        ensures setup { self.new.setup ≡ self.old.setup }
-        ensures stands { (h : List Call) → Stands self.old h → Stands self.new (clear_tare ∷ h) }
+        ensures takes { Takes self.old self.new clear_tare }
     {
         self.tare = TareNow::Empty;
     }
@@ -67,9 +73,11 @@ fn tare_target(
 ) -> Result<i32, TareAnswer>
     requires { IfSome above_zero IsAbove }
     ensures ok { IfOk result (λ target. (above_zero ≡ Some target)
-        × (tare_answer_of instrument.now stable tare above_zero ≡ TareAnswer.Done (pos instrument.now.interval_kg *ℤ round target))) }
+        × (tare_answer_of instrument.now stable tare above_zero
+        ≡ TareAnswer.Done (tare_kg instrument.now (TareNow.Weighed target)))) }
     ensures in_range { IfOk result (λ target. IsTare instrument.now (TareNow.Weighed target)) }
-    ensures err { IfErr result (λ answer. tare_answer_of instrument.now stable tare above_zero ≡ answer) }
+    ensures err { IfErr result (λ answer.
+        tare_answer_of instrument.now stable tare above_zero ≡ answer) }
     ensures refused { IfErr result (λ answer. is_tared answer ≡ false) }
 {
     if !stable {
@@ -96,7 +104,8 @@ fn tare_target(
 /// The whole intervals that may be the preset tare, or why they may not.
 fn preset_target(tare: TareNow, whole: Option<i32>) -> Result<i32, PresetAnswer>
     ensures ok { IfOk result (λ target. (whole ≡ Some target) × (is_weighed tare ≡ false)) }
-    ensures err { IfErr result (λ answer. answer ≡ (if is_weighed tare then PresetAnswer.WeighedInUse else PresetAnswer.OutOfRange)) }
+    ensures err { IfErr result (λ answer.
+        answer ≡ (if is_weighed tare then PresetAnswer.WeighedInUse else PresetAnswer.OutOfRange)) }
     ensures refused { IfErr result (λ _. (if is_weighed tare then None else whole) ≡ None) }
 {
     if weighed_in_force(tare) {
@@ -108,12 +117,18 @@ fn preset_target(tare: TareNow, whole: Option<i32>) -> Result<i32, PresetAnswer>
     }
 }
 
-/// So many intervals, in kilograms.
-fn kilograms(instrument: &Instrument, whole: i32) -> i32
-    requires { (pos 0 ≤ℤ whole) × (whole ≤ℤ pos 10_000) }
-    ensures { result ≡ (pos instrument.now.interval_kg *ℤ whole) }
+/// The kilograms of a tare, a weighed one rounded to e.
+fn tare_kilograms(instrument: &Instrument, tare: TareNow) -> i32
+    requires { IsTare instrument.now tare }
+    ensures { result ≡ tare_kg instrument.now tare }
 {
-    instrument.interval_kg() as i32 * whole
+    let _intervals = instrument.intervals();
+    let interval_kg = instrument.interval_kg() as i32;
+    match tare {
+        TareNow::Empty => 0,
+        TareNow::Weighed(tenths) => interval_kg * round_tenths(tenths),
+        TareNow::Preset(whole) => interval_kg * whole,
+    }
 }
 
 /// The tenths of a tare.

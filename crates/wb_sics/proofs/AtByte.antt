@@ -25,7 +25,7 @@ use Rattle.wb_sics.specs.Event.{Event, byte, hang_up, stored}
 use Rattle.wb_sics.specs.Kept.{left_for, refused_by, waiting_from}
 use Rattle.wb_sics.specs.Lines.{line_command, stream, unfinished, without_carriage_return}
 use Rattle.wb_sics.specs.Replies.{own_reply, replies, weight_at, weight_waits}
-use Rattle.wb_sics.specs.Stands.{Stands, StandsAt, StoredStands, TerminalState}
+use Rattle.wb_sics.specs.Stands.{Stands, StandsAt, Takes, TakesStored, TerminalState}
 use Rattle.wb_sics.specs.Waiting.{asks_for, readings_since, stable_at, tare_waits, zero_waits}
 use Rattle.wb_sics.proofs.AtReading.{kept}
 use Rattle.wb_sics.proofs.CallReadings.{readings-calls, tare_reply-stable, zero_reply-stable}
@@ -172,13 +172,20 @@ Stands-new a st = record {
 pub Stands-at : (i : Setup) (s : TerminalState) (h : List Event) → s.scale.setup ≡ i → StandsAt i s h → Stands s h
 Stands-at i s h e st = record { now = subst (λ j. StandsAt j s h) (sym e) st }
 
-pub stored_stands : StoredStands
-stored_stands s scale h st e next =
+pub takes_stored : TakesStored
+takes_stored s scale next =
     let i = s.scale.setup in
-    Stands-at i (record s { scale = scale }) (stored ∷ h) e (record {
-      scale = next (calls i h) st.now.scale;
-      weight = rw (waits-stored AwaitedWeight (weight_at i) i.wait h) st.now.weight;
-      zero = rw (waits-stored AwaitedZero (stable_at i) i.wait h) st.now.zero;
-      tare = rw (waits-stored AwaitedTare (stable_at i) i.wait h) st.now.tare;
-      line = st.now.line;
-    })
+    record {
+      setup = next.setup;
+      stands = λ h st. Stands-at i (record s { scale = scale }) (stored ∷ h) next.setup (record {
+        scale = next.stands (calls i h) st.now.scale;
+        weight = rw (waits-stored AwaitedWeight (weight_at i) i.wait h) st.now.weight;
+        zero = rw (waits-stored AwaitedZero (stable_at i) i.wait h) st.now.zero;
+        tare = rw (waits-stored AwaitedTare (stable_at i) i.wait h) st.now.tare;
+        line = st.now.line;
+      });
+    }
+
+-- a terminal takes an event where the state behind what it shows does
+pub Takes-behind : (s old new : TerminalState) (e : Event) → s ≡ old → new.scale.setup ≡ s.scale.setup → ((h : List Event) → Stands s h → Stands new (e ∷ h)) → Takes old new e
+Takes-behind s old new e same setup stands = subst (λ t. Takes t new e) same (record { setup = setup; stands = stands })

@@ -1,6 +1,5 @@
 -- The reply that the scale's answer gives.
 use Rattle.std.specs.Prelude.{Bool, true, false, Option, Some, None, ℤ, pos, ◌*ℤ◌}
-use Rattle.wb_instrument.specs.Rounding.{round}
 use Rattle.wb_instrument.specs.Setup.{Setup}
 use Rattle.wb_scale.specs.declared.answers.Indicated.{Indicated}
 use Rattle.wb_scale.specs.declared.answers.Indicated.TheVariants.{NoLoad, Over, Under, Shown}
@@ -8,8 +7,6 @@ use Rattle.wb_scale.specs.declared.answers.PresetAnswer.{PresetAnswer}
 use Rattle.wb_scale.specs.declared.answers.PresetAnswer.TheVariants.{Done as PresetDone, WeighedInUse, OutOfRange}
 use Rattle.wb_scale.specs.declared.answers.TareAnswer.{TareAnswer}
 use Rattle.wb_scale.specs.declared.answers.TareAnswer.TheVariants.{Done as TareDone, NotStable as TareNotStable, PresetInUse, Above as TareAboveMax, Below as TareBelowZero}
-use Rattle.wb_scale.specs.declared.answers.TareNow.{TareNow}
-use Rattle.wb_scale.specs.declared.answers.TareNow.TheVariants.{Empty, Weighed, Preset}
 use Rattle.wb_scale.specs.declared.answers.ZeroAnswer.{ZeroAnswer}
 use Rattle.wb_scale.specs.declared.answers.ZeroAnswer.TheVariants.{Done, NotStable, Above, Below}
 use Rattle.wb_sics.specs.declared.reply.Reply.{Reply}
@@ -54,12 +51,6 @@ tare_reply TareNotStable = None
 tare_reply PresetInUse = Some TareRefused
 tare_reply TareAboveMax = Some TareAbove
 tare_reply TareBelowZero = Some TareBelow
-
--- the reply to `TA`: the tare in kilograms, a weighed tare rounded
-abbrev pub tare_value : Setup → TareNow → Reply
-tare_value s Empty = TareValue (pos 0)
-tare_value s (Weighed tenths) = TareValue (pos s.interval_kg *ℤ round tenths)
-tare_value s (Preset whole) = TareValue (pos s.interval_kg *ℤ whole)
 
 -- the reply to a preset tare
 abbrev pub preset_reply : PresetAnswer → Reply

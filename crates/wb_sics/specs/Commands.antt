@@ -1,22 +1,13 @@
 -- The command of a line (MT-SICS levels 0 and 1; the choice of commands and the preset tare's form are this project's own).
-use Rattle.std.specs.Prelude.{ℕ, ◌+◌, ◌*◌, ◌-◌, ◌^◌, ◌==◌, ◌&&◌, Bool, nat_le, nat_lt, List, length, take, drop, codes, nat_eq, is_some, if◌then◌else◌, Option, Some, None, option_map}
-use Rattle.std.specs.Char.{is_ascii_digit}
+use Rattle.std.specs.Prelude.{ℕ, ◌+◌, ◌*◌, ◌-◌, ◌^◌, ◌==◌, ◌&&◌, Bool, nat_lt, List, length, take, drop, codes, nat_eq, is_some, if◌then◌else◌, Option, Some, None, option_map}
 use Rattle.std.specs.Cmp.Lexicographic.{pointwise}
-use Rattle.std.specs.List.{list_all, position, before_first, after_first}
-use Rattle.std.specs.Str.Parse.{digits_value}
+use Rattle.std.specs.List.{position, before_first, after_first}
+use Rattle.wb_text.specs.Digits.{digits}
 use Rattle.wb_sics.specs.declared.command.Command.{Command}
 use Rattle.wb_sics.specs.declared.command.Command.TheVariants.{Weight, WeightNow, Zero, Tare, TareValue, PresetTare, BadTare, ClearTare, Cancel, Commands, SerialNumber, Unknown}
 
 abbrev pub is : List ℕ → List ℕ → Bool
 is text word = pointwise nat_eq text word
-
--- 1 to so many decimal digits
-abbrev pub are_digits : ℕ → List ℕ → Bool
-are_digits most text = nat_le 1 (length text) && nat_le (length text) most && list_all is_ascii_digit text
-
--- the number that they give
-abbrev pub digits : ℕ → List ℕ → Option ℕ
-digits most text = if are_digits most text then Some (digits_value 10 text) else None
 
 -- the grams of a fraction of a kilogram of 1 to 3 digits
 abbrev pub scaled : List ℕ → Option ℕ

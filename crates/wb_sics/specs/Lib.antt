@@ -2,6 +2,7 @@ pub mod Answers
 pub mod Calls
 pub mod Commands
 pub mod Event
+pub mod Heard
 pub mod Kept
 pub mod Lines
 pub mod Replies

@@ -5,16 +5,16 @@ use Rattle.wb_scale.specs.Call.{read}
 use Rattle.wb_scale.specs.History.{moments}
 use Rattle.wb_scale.specs.Indication.{indicated}
 use Rattle.wb_scale.specs.Moment.{Moment, readings}
-use Rattle.wb_scale.specs.Tare.{preset_answer, tare_answer, tare_now}
+use Rattle.wb_scale.specs.Tare.{preset_answer, tare_answer, tare_kg, tare_now}
 use Rattle.wb_scale.specs.Zero.{zero_answer}
 use Rattle.wb_sics.specs.declared.command.Command.{Command}
 use Rattle.wb_sics.specs.declared.command.Command.TheVariants.{Weight, WeightNow, Zero, Tare, TareValue, PresetTare, BadTare, ClearTare, Cancel, Commands, SerialNumber, Unknown}
 use Rattle.wb_sics.specs.declared.reply.CommandName.TheVariants.{Cancel as CancelName, Commands as CommandsName, SerialNumber as SerialNumberName, Weight as WeightName, WeightNow as WeightNowName, Zero as ZeroName, Tare as TareName, TareValue as TareValueName, ClearTare as ClearTareName}
 use Rattle.wb_sics.specs.declared.reply.Reply.{Reply}
-use Rattle.wb_sics.specs.declared.reply.Reply.TheVariants.{PresetBad, TareCleared, SerialNumber as SerialReply, Listed, Error}
+use Rattle.wb_sics.specs.declared.reply.Reply.TheVariants.{PresetBad, TareCleared, TareValue as TareReply, SerialNumber as SerialReply, Listed, Error}
 use Rattle.wb_sics.specs.declared.waiting.Awaited.{Awaited}
 use Rattle.wb_sics.specs.declared.waiting.Awaited.TheVariants.{Weight as AwaitedWeight, Zero as AwaitedZero, Tare as AwaitedTare}
-use Rattle.wb_sics.specs.Answers.{weight_now, weight_reply, zero_reply, tare_reply, tare_value, preset_reply, refusal}
+use Rattle.wb_sics.specs.Answers.{weight_now, weight_reply, zero_reply, tare_reply, preset_reply, refusal}
 use Rattle.wb_sics.specs.Calls.{calls}
 use Rattle.wb_sics.specs.Event.{Event, reading, byte, hang_up, stored, readings_of}
 use Rattle.wb_sics.specs.Lines.{line_command}
@@ -44,7 +44,7 @@ own_reply s ms Weight = option_to_list (weight_reply s (indicated s ms))
 own_reply s ms WeightNow = weight_now s (indicated s ms) ∷ []
 own_reply s ms Zero = option_to_list (zero_reply (zero_answer s (readings ms)))
 own_reply s ms Tare = option_to_list (tare_reply (tare_answer s ms))
-own_reply s ms TareValue = tare_value s (tare_now ms) ∷ []
+own_reply s ms TareValue = TareReply (tare_kg s (tare_now ms)) ∷ []
 own_reply s ms (PresetTare grams) = preset_reply (preset_answer s ms grams) ∷ []
 own_reply s ms BadTare = PresetBad ∷ []
 own_reply s ms ClearTare = TareCleared ∷ []

@@ -2,12 +2,11 @@
 ghost use Rattle.std.specs.Prelude.{◌≡◌, ◌≤ℤ◌, ◌*ℤ◌, ◌+◌, neg_ℤ, pos};
 ghost use Rattle.wb_instrument.specs.Setup.{intervals};
 ghost use Rattle.wb_scale.specs.Indication.{IsInRange};
-ghost use Rattle.wb_scale.specs.Tare.{IsTare};
-ghost use Rattle.wb_sics.specs.Answers.{preset_reply as preset_reply_of, tare_reply as tare_reply_of, tare_value as tare_value_of, weight_now as weight_now_of, weight_reply as weight_reply_of, weight_shown, zero_reply as zero_reply_of};
+ghost use Rattle.wb_sics.specs.Answers.{preset_reply as preset_reply_of, tare_reply as tare_reply_of, weight_now as weight_now_of, weight_reply as weight_reply_of, weight_shown, zero_reply as zero_reply_of};
 
 use crate::reply::Reply;
-use wb_instrument::{Instrument, round_tenths};
-use wb_scale::{Indicated, PresetAnswer, TareAnswer, TareNow, ZeroAnswer};
+use wb_instrument::Instrument;
+use wb_scale::{Indicated, PresetAnswer, TareAnswer, ZeroAnswer};
 
 /// The reply to `SI`.
 pub(crate) fn weight_now(instrument: &Instrument, indicated: Indicated) -> Reply
@@ -81,18 +80,6 @@ pub(crate) fn tare_reply(answer: TareAnswer) -> Option<Reply>
         TareAnswer::PresetInUse => Some(Reply::TareRefused),
         TareAnswer::Above => Some(Reply::TareAbove),
         TareAnswer::Below => Some(Reply::TareBelow),
-    }
-}
-
-/// The reply to `TA`: the tare in kilograms, a weighed tare rounded.
-pub(crate) fn tare_value(instrument: &Instrument, tare: TareNow) -> Reply
-    requires { IsTare instrument.now tare }
-    ensures { result ≡ tare_value_of instrument.now tare }
-{
-    match tare {
-        TareNow::Empty => Reply::TareValue(0),
-        TareNow::Weighed(tenths) => Reply::TareValue(kilograms(instrument, round_tenths(tenths))),
-        TareNow::Preset(whole) => Reply::TareValue(kilograms(instrument, whole)),
     }
 }
 

@@ -2,7 +2,8 @@
 ghost use Rattle.std.specs.Prelude.{◌≡◌};
 ghost use Rattle.wb_sics.specs.Commands.{command_of, preset_or_bad as preset_or_bad_of, tare_command, word_command};
 
-use crate::digits::{grams_of, split_at_first};
+use crate::grams::grams_of;
+use wb_text::split_at_first;
 
 /// The characters of a line that may be a command.
 const LINE_LIMIT: usize = 40;

@@ -1,8 +1,17 @@
 //! What else is proved of the definitions.
-ghost use Rattle.wb_sics.specs.Stands.{StoredStands};
+ghost use Rattle.wb_sics.specs.Heard.{RepliesToHeard};
+ghost use Rattle.wb_sics.specs.Stands.{TakesStored};
 
-/// Where a weighing is stored, the terminal stands after that event as soon as its scale does: it keeps what waits and
-/// the unfinished line.
+use wb_scale::law_of_unmarked_histories;
+
+/// The terminal takes a stored weighing as soon as its scale does: it keeps what waits and the unfinished line.
 pub fn law_of_stored_weighings()
-    ensures { StoredStands }
+    ensures { TakesStored }
 {}
+
+/// The replies are those of the readings, bytes and hang-ups alone: stored weighings change none.
+pub fn law_of_replies()
+    ensures { RepliesToHeard }
+{
+    law_of_unmarked_histories();
+}

@@ -9,7 +9,7 @@
 
 mod answers;
 mod command;
-mod digits;
+mod grams;
 mod laws;
 mod line;
 mod reply;
@@ -19,6 +19,6 @@ mod tests;
 mod waiting;
 
 pub use command::{Command, parse_line};
-pub use laws::law_of_stored_weighings;
+pub use laws::{law_of_replies, law_of_stored_weighings};
 pub use reply::{CommandName, Replies, Reply, ReplyText};
 pub use terminal::Terminal;

@@ -12,7 +12,8 @@ pub(crate) type Line = ArrayVec<u8, 42>;
 
 /// Keeps a byte of a line, as far as there is room.
 pub(crate) fn keep(line: &mut Line, byte: u8)
-    ensures { (text : List ℕ) → line.old.items ≡ take 42 text → line.new.items ≡ take 42 (text ++ byte ∷ []) }
+    ensures { (text : List ℕ) → line.old.items ≡ take 42 text
+        → line.new.items ≡ take 42 (text ++ byte ∷ []) }
 {
     if !line.is_full() {
         line.push(byte);
@@ -21,7 +22,8 @@ pub(crate) fn keep(line: &mut Line, byte: u8)
 
 /// The command of a line of which the first bytes were kept.
 pub(crate) fn kept_command(line: &[u8]) -> Command
-    ensures { (bytes : List ℕ) → line.now ≡ take 42 (reverse bytes) → result ≡ command_of (reverse (without_carriage_return bytes)) }
+    ensures { (bytes : List ℕ) → line.now ≡ take 42 (reverse bytes)
+        → result ≡ command_of (reverse (without_carriage_return bytes)) }
 {
     match line.split_last() {
         Some((last, rest)) => {

@@ -1,12 +1,12 @@
 //! Replies, and their texts (MT-SICS levels 0 and 1).
 ghost use Rattle.std.specs.Prelude.{◌≡◌, ◌≤◌, ◌+◌, ◌++◌, codes, length};
 ghost use Rattle.arrayvec.specs.ArrayString.{array_string_len};
-ghost use Rattle.wb_sics.specs.ReplyText.{listed_text, reply_text, weight_reply as weight_reply_of};
+ghost use Rattle.wb_sics.specs.ReplyText.{listed_text, reply_bytes, reply_text, weight_reply as weight_reply_of};
 
 use arrayvec::{ArrayString, ArrayVec};
 use wb_instrument::{Serial, weight_field};
 
-/// The bytes of a reply: at most 32, its CR LF among them.
+/// The text or the bytes of a reply: at most 32.
 pub type ReplyText = ArrayString<32>;
 
 /// The replies at one event, in their order.
@@ -73,75 +73,88 @@ pub enum CommandName {
 }
 
 impl Reply {
-    /// The reply with its CR LF.
+    /// The reply as it is sent, with its CR LF.
     pub fn bytes(&self) -> ReplyText
-        ensures { result.bytes ≡ reply_text self.now }
+        ensures { result.bytes ≡ reply_bytes self.now }
+    {
+        let mut bytes = self.text();
+        bytes.push_str("\r\n");
+        bytes
+    }
+
+    /// The reply without its CR LF.
+    pub fn text(&self) -> ReplyText
+        ensures value { result.bytes ≡ reply_text self.now }
+        ensures fits { array_string_len result ≤ 30 }
     {
         match self {
             Reply::WeightStable(kg) => weight_reply("S S ", *kg),
             Reply::WeightMoving(kg) => weight_reply("S D ", *kg),
-            Reply::WeightRefused => text_of("S I\r\n"),
-            Reply::WeightOver => text_of("S +\r\n"),
-            Reply::WeightUnder => text_of("S -\r\n"),
-            Reply::ZeroDone => text_of("Z A\r\n"),
-            Reply::ZeroRefused => text_of("Z I\r\n"),
-            Reply::ZeroAbove => text_of("Z +\r\n"),
-            Reply::ZeroBelow => text_of("Z -\r\n"),
+            Reply::WeightRefused => text_of("S I"),
+            Reply::WeightOver => text_of("S +"),
+            Reply::WeightUnder => text_of("S -"),
+            Reply::ZeroDone => text_of("Z A"),
+            Reply::ZeroRefused => text_of("Z I"),
+            Reply::ZeroAbove => text_of("Z +"),
+            Reply::ZeroBelow => text_of("Z -"),
             Reply::TareDone(kg) => weight_reply("T S ", *kg),
-            Reply::TareRefused => text_of("T I\r\n"),
-            Reply::TareAbove => text_of("T +\r\n"),
-            Reply::TareBelow => text_of("T -\r\n"),
+            Reply::TareRefused => text_of("T I"),
+            Reply::TareAbove => text_of("T +"),
+            Reply::TareBelow => text_of("T -"),
             Reply::TareValue(kg) => weight_reply("TA A ", *kg),
-            Reply::PresetRefused => text_of("TA I\r\n"),
-            Reply::PresetBad => text_of("TA L\r\n"),
-            Reply::TareCleared => text_of("TAC A\r\n"),
+            Reply::PresetRefused => text_of("TA I"),
+            Reply::PresetBad => text_of("TA L"),
+            Reply::TareCleared => text_of("TAC A"),
             Reply::SerialNumber(serial) => serial_reply(serial),
             Reply::Listed(name) => text_of(listed(*name)),
-            Reply::Error => text_of("ES\r\n"),
+            Reply::Error => text_of("ES"),
         }
     }
 }
 
 fn listed(name: CommandName) -> &'static str
     ensures value { result.now ≡ listed_text name }
-    ensures fits { length result.now ≤ 32 }
+    ensures fits { length result.now ≤ 30 }
 {
     match name {
-        CommandName::Cancel => "I0 B 0 \"@\"\r\n",
-        CommandName::Commands => "I0 B 0 \"I0\"\r\n",
-        CommandName::SerialNumber => "I0 B 0 \"I4\"\r\n",
-        CommandName::Weight => "I0 B 0 \"S\"\r\n",
-        CommandName::WeightNow => "I0 B 0 \"SI\"\r\n",
-        CommandName::Zero => "I0 B 0 \"Z\"\r\n",
-        CommandName::Tare => "I0 B 1 \"T\"\r\n",
-        CommandName::TareValue => "I0 B 1 \"TA\"\r\n",
-        CommandName::ClearTare => "I0 A 1 \"TAC\"\r\n",
+        CommandName::Cancel => "I0 B 0 \"@\"",
+        CommandName::Commands => "I0 B 0 \"I0\"",
+        CommandName::SerialNumber => "I0 B 0 \"I4\"",
+        CommandName::Weight => "I0 B 0 \"S\"",
+        CommandName::WeightNow => "I0 B 0 \"SI\"",
+        CommandName::Zero => "I0 B 0 \"Z\"",
+        CommandName::Tare => "I0 B 1 \"T\"",
+        CommandName::TareValue => "I0 B 1 \"TA\"",
+        CommandName::ClearTare => "I0 A 1 \"TAC\"",
     }
 }
 
 fn serial_reply(serial: &Serial) -> ReplyText
-    ensures { result.bytes ≡ codes "I4 A \"" ++ serial.now ++ codes "\"\r\n" }
+    ensures value { result.bytes ≡ codes "I4 A \"" ++ serial.now ++ codes "\"" }
+    ensures fits { array_string_len result ≤ 30 }
 {
     let mut text = text_of("I4 A \"");
     text.push_str(serial.as_str());
-    text.push_str("\"\r\n");
+    text.push_str("\"");
     text
 }
 
 /// A text, and a weight.
 fn weight_reply(words: &str, kg: i32) -> ReplyText
     requires { length words.now ≤ 5 }
-    ensures { result.bytes ≡ weight_reply_of words.now kg }
+    ensures value { result.bytes ≡ weight_reply_of words.now kg }
+    ensures fits { array_string_len result ≤ 30 }
 {
     let mut text = text_of(words);
     text.push_str(weight_field(kg).as_str());
-    text.push_str(" kg\r\n");
+    text.push_str(" kg");
     text
 }
 
 fn text_of(words: &str) -> ReplyText
-    requires { length words.now ≤ 32 }
-    ensures { result.bytes ≡ words.now }
+    requires { length words.now ≤ 30 }
+    ensures value { result.bytes ≡ words.now }
+    ensures fits { array_string_len result ≡ length words.now }
 {
     let mut text = ReplyText::new();
     text.push_str(words);

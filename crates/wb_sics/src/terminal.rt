@@ -3,7 +3,7 @@ ghost use Rattle.arrayvec.specs.ArrayVec.{array_vec_len};
 ghost use Rattle.std.specs.Prelude.{◌≡◌, ◌≤◌, ◌∷◌, ◌++◌, [], List, None};
 ghost use Rattle.wb_scale.specs.Call.{Call};
 ghost use Rattle.wb_scale.specs.History.{moments};
-ghost use Rattle.wb_scale.specs.Stands.{Stands as ScaleStands};
+ghost use Rattle.wb_scale.specs.Stands.{Stands as ScaleStands, TakesAll as ScaleTakesAll};
 ghost use Rattle.wb_sics.specs.Calls.{asked, asked_at};
 ghost use Rattle.wb_sics.specs.Kept.{asked_waiting, decided_at as decided_at_of, replies_read, waiting_from, waiting_read};
 ghost use Rattle.wb_sics.specs.Replies.{listed as listed_of, own_reply};
@@ -11,11 +11,11 @@ ghost use Rattle.wb_sics.specs.Waiting.{same};
 ghost use Rattle.wb_sics.specs.declared.waiting.Awaited.TheVariants.{Tare as AwaitedTare, Zero as AwaitedZero};
 ghost use Rattle.wb_window.specs.Reading.{IsReading};
 
-use crate::answers::{preset_reply, tare_reply, tare_value, weight_now, weight_reply, zero_reply};
+use crate::answers::{preset_reply, tare_reply, weight_now, weight_reply, zero_reply};
 use crate::command::Command;
 use crate::line::{Line, keep, kept_command};
 use crate::reply::{CommandName, Replies, Reply};
-use crate::waiting::{Awaited, Waiting, after_reading, at_line_end, given_up};
+use crate::waiting::{Awaited, Waiting, after_reading, at_line_end, give_up};
 use std::marker::Model;
 use wb_scale::Scale;
 use wb_window::{Reading, Window};
@@ -47,13 +47,13 @@ impl<W: Window> Terminal<W> {
     ghost use Rattle.wb_scale.specs.contracts.scale.Scale.{the_row as scale_row};
     ghost use Rattle.wb_sics.specs.Event.{Event, byte as byte_event, hang_up, reading as reading_event};
     ghost use Rattle.wb_sics.specs.Replies.{replies};
-    ghost use Rattle.wb_sics.specs.Stands.{Stands};
+    ghost use Rattle.wb_sics.specs.Stands.{IsIdle, Stands, Takes};
     ghost use Rattle.wb_sics.specs.contracts.terminal.Terminal.{the_row};
 
     /// A terminal over a scale, with nothing waiting and no line begun.
     pub fn new(scale: Scale<W>) -> Self
         ensures scale { result.scale ≡ scale }
-        ensures idle { (result.weight ≡ None) × (result.zero ≡ None) × (result.tare ≡ None) × (result.line ≡ []) }
+        ensures idle { IsIdle result }
         ensures stands { ScaleStands scale [] → Stands result [] }
     {
         Terminal {
@@ -72,7 +72,8 @@ impl<W: Window> Terminal<W> {
 
     /// The scale, to be changed by the office: it only marks a stored weighing.
     pub fn scale_mut(&mut self) -> &mut Scale<W>
-        ensures* lends { sem 𝓛 (Lends (the_row W.row W.Window) (scale_row W.row W.Window) self.entry result (λ s. record self.old { scale = s })) }
+        ensures* lends { sem 𝓛 (Lends (the_row W.row W.Window) (scale_row W.row W.Window)
+            self.entry result (λ s. record self.old { scale = s })) }
         ensures value { result.now ≡ self.old.scale }
     {
         &mut self.scale
@@ -81,65 +82,93 @@ impl<W: Window> Terminal<W> {
     /// Takes a reading, and gives the replies at it.
     pub fn reading(&mut self, reading: Reading) -> Replies
         requires { IsReading reading }
-        ensures setup { self.new.scale.setup ≡ self.old.scale.setup }
-        ensures stands { (h : List Event) → Stands self.old h → Stands self.new (reading_event reading ∷ h) }
-        ensures replies { (h : List Event) → Stands self.old h → result.items ≡ replies self.old.scale.setup (reading_event reading ∷ h) }
+        ensures takes { Takes self.old self.new (reading_event reading) }
+        ensures replies { (h : List Event) → Stands self.old h
+            → result.items ≡ replies self.old.scale.setup (reading_event reading ∷ h) }
     {
-        let (waiting, replies) = take_reading(&mut self.scale, reading, self.waiting);
-        self.waiting = waiting;
+        let mut replies = Replies::new();
+        self.reading_into(reading, &mut replies);
         replies
+    }
+
+    /// Takes a reading, and leaves the replies at it in the room, in place of what was there. Where nothing waits no
+    /// list is made.
+    pub fn reading_into(&mut self, reading: Reading, room: &mut Replies)
+        requires { IsReading reading }
+        ensures takes { Takes self.old self.new (reading_event reading) }
+        ensures replies { (h : List Event) → Stands self.old h
+            → room.new.items ≡ replies self.old.scale.setup (reading_event reading ∷ h) }
+    {
+        room.clear();
+        let waiting = take_reading(&mut self.scale, reading, self.waiting, room);
+        self.waiting = waiting;
     }
 
     /// Takes a byte of the stream, and gives the replies at it.
     pub fn byte(&mut self, byte: u8) -> Replies
-        ensures setup { self.new.scale.setup ≡ self.old.scale.setup }
-        ensures stands { (h : List Event) → Stands self.old h → Stands self.new (byte_event byte ∷ h) }
-        ensures replies { (h : List Event) → Stands self.old h → result.items ≡ replies self.old.scale.setup (byte_event byte ∷ h) }
+        ensures takes { Takes self.old self.new (byte_event byte) }
+        ensures replies { (h : List Event) → Stands self.old h
+            → result.items ≡ replies self.old.scale.setup (byte_event byte ∷ h) }
     {
+        let mut replies = Replies::new();
+        self.byte_into(byte, &mut replies);
+        replies
+    }
+
+    /// Takes a byte of the stream, and leaves the replies at it in the room, in place of what was there.
+    pub fn byte_into(&mut self, byte: u8, room: &mut Replies)
+        ensures takes { Takes self.old self.new (byte_event byte) }
+        ensures replies { (h : List Event) → Stands self.old h
+            → room.new.items ≡ replies self.old.scale.setup (byte_event byte ∷ h) }
+    {
+        room.clear();
         if byte != LINE_FEED {
             keep(&mut self.line, byte);
-            return Replies::new();
+            return;
         }
         let command = kept_command(self.line.as_slice());
         self.line.clear();
-        let mut replies = given_up(self.waiting, command);
-        let waiting = perform(&mut self.scale, command, &mut replies);
+        give_up(self.waiting, command, room);
+        let waiting = perform(&mut self.scale, command, room);
         self.waiting = waiting;
-        replies
     }
 
     /// The connection ended: the unfinished line and a waiting command are dropped without a reply.
     pub fn hangup(&mut self)
-        ensures setup { self.new.scale.setup ≡ self.old.scale.setup }
-        ensures stands { (h : List Event) → Stands self.old h → Stands self.new (hang_up ∷ h) }
+        ensures takes { Takes self.old self.new hang_up }
+        ensures idle { IsIdle self.new }
+        ensures scale { self.new.scale ≡ self.old.scale }
     {
         self.waiting = None;
         self.line.clear();
     }
 }
 
-/// Hands a reading to the scale, and answers what waits.
+/// Hands a reading to the scale, puts the reply to what waits, and returns what still waits.
 fn take_reading<W: Window>(
     scale: &mut Scale<W>,
     reading: Reading,
     waiting: Option<Waiting>,
-) -> (Option<Waiting>, Replies)
-    requires { IsReading reading }
+    replies: &mut Replies,
+) -> Option<Waiting>
+    requires reading { IsReading reading }
+    requires empty { replies.old.items ≡ [] }
     ensures window { 1 ≤ scale.old.setup.window }
-    ensures setup { scale.new.setup ≡ scale.old.setup }
-    ensures stands { (h : List Call) → ScaleStands scale.old h → ScaleStands scale.new (asked_waiting waiting reading ++ h) }
-    ensures waiting { (h : List Call) → ScaleStands scale.old h → result.0 ≡ waiting_read scale.old.setup h reading waiting }
-    ensures replies { (h : List Call) → ScaleStands scale.old h → result.1.items ≡ replies_read scale.old.setup h reading waiting }
+    ensures takes { ScaleTakesAll scale.old scale.new (asked_waiting waiting reading) }
+    ensures waiting { (h : List Call) → ScaleStands scale.old h
+        → result ≡ waiting_read scale.old.setup h reading waiting }
+    ensures replies { (h : List Call) → ScaleStands scale.old h
+        → replies.new.items ≡ replies_read scale.old.setup h reading waiting }
 {
     let _setup = scale.instrument();
     match waiting {
         None => {
             scale.read(reading);
-            (None, Replies::new())
+            None
         }
         Some(waiting) => {
             let decided = decided_at(scale, reading, waiting.awaited);
-            after_reading(waiting, decided)
+            after_reading(waiting, decided, replies)
         }
     }
 }
@@ -147,10 +176,10 @@ fn take_reading<W: Window>(
 /// Hands a reading to the scale, and gives the reply that is decided at it.
 fn decided_at<W: Window>(scale: &mut Scale<W>, reading: Reading, awaited: Awaited) -> Option<Reply>
     requires { IsReading reading }
-    ensures setup { scale.new.setup ≡ scale.old.setup }
-    ensures stands { (h : List Call) → ScaleStands scale.old h
-        → ScaleStands scale.new (asked_at (same AwaitedZero awaited) (same AwaitedTare awaited) reading ++ h) }
-    ensures decided { (h : List Call) → ScaleStands scale.old h → result ≡ decided_at_of scale.old.setup h reading awaited }
+    ensures takes { ScaleTakesAll scale.old scale.new
+        (asked_at (same AwaitedZero awaited) (same AwaitedTare awaited) reading) }
+    ensures decided { (h : List Call) → ScaleStands scale.old h
+        → result ≡ decided_at_of scale.old.setup h reading awaited }
 {
     match awaited {
         Awaited::Weight => {
@@ -174,8 +203,7 @@ fn perform<W: Window>(
     requires few { array_vec_len replies.old ≤ 1 }
     ensures wait { 1 ≤ scale.old.setup.wait }
     ensures window { 1 ≤ scale.old.setup.window }
-    ensures setup { scale.new.setup ≡ scale.old.setup }
-    ensures stands { (h : List Call) → ScaleStands scale.old h → ScaleStands scale.new (asked command ++ h) }
+    ensures takes { ScaleTakesAll scale.old scale.new (asked command) }
     ensures waiting { (h : List Call) → ScaleStands scale.old h
         → result ≡ waiting_from scale.old.setup (moments scale.old.setup h) command }
     ensures replies { (h : List Call) → ScaleStands scale.old h
@@ -196,7 +224,7 @@ fn perform<W: Window>(
             return at_line_end(Awaited::Tare, decided, wait, replies);
         }
         Command::WeightNow => replies.push(weight_now(scale.instrument(), scale.indicated())),
-        Command::TareValue => replies.push(tare_value(scale.instrument(), scale.tare_in_force())),
+        Command::TareValue => replies.push(Reply::TareValue(scale.tare_kg())),
         Command::PresetTare(grams) => replies.push(preset_reply(scale.preset(grams))),
         Command::BadTare => replies.push(Reply::PresetBad),
         Command::ClearTare => {

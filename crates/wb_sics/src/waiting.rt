@@ -24,29 +24,40 @@ pub(crate) struct Waiting {
     pub(crate) left: u32,
 }
 
-/// What still waits after a reading at which the reply was decided or not, and the reply there.
-pub(crate) fn after_reading(waiting: Waiting, decided: Option<Reply>) -> (Option<Waiting>, Replies)
-    ensures waiting { result.0 ≡ waiting_after (is_some decided) waiting }
-    ensures replies { result.1.items ≡ reply_to true decided (nat_lt 1 waiting.left) waiting.awaited }
+/// Puts the reply at a reading at which it was decided or not, and returns what still waits after it.
+pub(crate) fn after_reading(
+    waiting: Waiting,
+    decided: Option<Reply>,
+    replies: &mut Replies,
+) -> Option<Waiting>
+    requires empty { replies.old.items ≡ [] }
+    ensures waiting { result ≡ waiting_after (is_some decided) waiting }
+    ensures replies { replies.new.items
+        ≡ reply_to true decided (nat_lt 1 waiting.left) waiting.awaited }
 {
     match decided {
-        Some(reply) => (None, one(reply)),
-        None => not_decided(waiting),
+        Some(reply) => {
+            replies.push(reply);
+            None
+        }
+        None => not_decided(waiting, replies),
     }
 }
 
-fn not_decided(waiting: Waiting) -> (Option<Waiting>, Replies)
-    ensures waiting { result.0 ≡ one_less waiting.left waiting.awaited }
-    ensures replies { result.1.items ≡ reply_to true None (nat_lt 1 waiting.left) waiting.awaited }
+fn not_decided(waiting: Waiting, replies: &mut Replies) -> Option<Waiting>
+    requires empty { replies.old.items ≡ [] }
+    ensures waiting { result ≡ one_less waiting.left waiting.awaited }
+    ensures replies { replies.new.items
+        ≡ reply_to true None (nat_lt 1 waiting.left) waiting.awaited }
 {
     if 1 < waiting.left {
-        let waiting = Waiting {
+        Some(Waiting {
             awaited: waiting.awaited,
             left: waiting.left - 1,
-        };
-        (Some(waiting), Replies::new())
+        })
     } else {
-        (None, one(refusal(waiting.awaited)))
+        replies.push(refusal(waiting.awaited));
+        None
     }
 }
 
@@ -73,20 +84,16 @@ pub(crate) fn at_line_end(
     }
 }
 
-/// The refusal of what waits when a line comes; `@` alone drops it unanswered.
-pub(crate) fn given_up(waiting: Option<Waiting>, command: Command) -> Replies
-    ensures items { result.items ≡ refused_by command waiting }
-    ensures few { array_vec_len result ≤ 1 }
+/// Puts the refusal of what waits when a line comes; `@` alone drops it unanswered.
+pub(crate) fn give_up(waiting: Option<Waiting>, command: Command, replies: &mut Replies)
+    requires empty { replies.old.items ≡ [] }
+    ensures items { replies.new.items ≡ refused_by command waiting }
+    ensures few { array_vec_len replies.new ≤ 1 }
 {
-    match waiting {
-        Some(waiting) => {
-            if command == Command::Cancel {
-                Replies::new()
-            } else {
-                one(refusal(waiting.awaited))
-            }
+    if let Some(waiting) = waiting {
+        if command != Command::Cancel {
+            replies.push(refusal(waiting.awaited));
         }
-        None => Replies::new(),
     }
 }
 
@@ -98,13 +105,4 @@ fn refusal(awaited: Awaited) -> Reply
         Awaited::Zero => Reply::ZeroRefused,
         Awaited::Tare => Reply::TareRefused,
     }
-}
-
-fn one(reply: Reply) -> Replies
-    ensures items { result.items ≡ reply ∷ [] }
-    ensures few { array_vec_len result ≤ 1 }
-{
-    let mut replies = Replies::new();
-    replies.push(reply);
-    replies
 }

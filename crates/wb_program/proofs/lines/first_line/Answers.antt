@@ -4,7 +4,7 @@ use Rattle.wb_program.proofs.lines.first_line.Goals as goal
 
 pub returns-in-Some-clause-first : goal.returns-in-Some-clause-first
 returns-in-Some-clause-first c =
-    rw (c.without_carriage_return.ensures, c.in-Some.ensures.before, c.in-Some.ensures.after) (lines-first c.args.rest.now (sym c.in-Some.ensures.found))
+    rw (c.without_carriage_return.ensures.value, c.in-Some.ensures.before, c.in-Some.ensures.after) (lines-first c.args.rest.now (sym c.in-Some.ensures.found))
 
 pub returns-in-Some-clause-shorter : goal.returns-in-Some-clause-shorter
 returns-in-Some-clause-shorter c = rw c.in-Some.ensures.after (length-after_first c.args.rest.now (sym c.in-Some.ensures.found))

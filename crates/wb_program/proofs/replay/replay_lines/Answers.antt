@@ -1,19 +1,22 @@
 use Rattle.std.proofs.Common.{sym}
 use Rattle.wb_program.specs.LineEvents.{events_of}
-use Rattle.wb_program.proofs.Replaying.{Replaying-all, Replaying-next, Replaying-stops}
+use Rattle.wb_program.proofs.Replaying.{Replaying-all, Replaying-next, Replaying-none, Replaying-stops}
 use Rattle.wb_program.proofs.replay.replay_lines.Goals as goal
+
+pub loop-line-init : goal.loop-line-init
+loop-line-init g c = Replaying-none c.args.trace.now c.args.terminal.now (g.O.Write.contents c.args.writer.now)
 
 pub loop-line-preserved : goal.loop-line-preserved
 loop-line-preserved g c =
-    Replaying-next c.args.trace.now c.loop-line.rest.now c.in-Some.after.now c.in-Some.line.now c.loop-line.number (events_of c.in-Some-read_line.asked)
+    Replaying-next c.args.trace.now c.loop-line.rest.now c.in-Some.after.now c.in-Some.line.now c.loop-line.number (events_of c.read_line.new.room c.in-Some-read_line.asked)
     c.args.terminal.now c.loop-line.terminal c.perform.new.terminal _ _ _ c.in-Some.ensures.first c.in-Some.ensures.shorter (sym c.in-Some-read_line.ensures.events)
     c.loop-line.invariant c.in-Ok.ensures
 
-pub returns-in_default-read_line : goal.returns-in_default-read_line
-returns-in_default-read_line g c =
+pub returns-in_default-read_line-clause-lines : goal.returns-in_default-read_line-clause-lines
+returns-in_default-read_line-clause-lines g c =
     Replaying-stops c.args.trace.now c.loop-line.rest.now c.in-Some.after.now c.in-Some.line.now c.loop-line.number c.args.terminal.now c.loop-line.terminal _ _
     c.in-Some.ensures.first (sym c.in_default-read_line.ensures.events) c.loop-line.invariant
 
-pub returns : goal.returns
-returns g c =
+pub returns-clause-lines : goal.returns-clause-lines
+returns-clause-lines g c =
     Replaying-all c.args.trace.now c.loop-line.rest.now c.loop-line.number c.args.terminal.now c.loop-line.terminal _ _ c.in_default.ensures.first c.loop-line.invariant

@@ -1,13 +1,11 @@
 use Rattle.std.proofs.Common.{refl}
 use Rattle.wb_scale.specs.declared.answers.TareNow.TheVariants.{Empty}
 use Rattle.wb_scale.specs.Call.{clear_tare}
-use Rattle.wb_scale.specs.Stands.{Stands}
 use Rattle.wb_scale.specs.State.{State}
-use Rattle.wb_scale.proofs.Standing.{Stands-tare}
+use Rattle.wb_scale.proofs.Standing.{Stands-tare, Takes-behind}
 use Rattle.wb_scale.proofs.scale.Scale.clear_tare.Goals as goal
 
-pub returns-clause-stands : goal.returns-clause-stands
-returns-clause-stands g c = λ h st.
+pub returns : goal.returns
+returns g c =
     let s : State = record { setup = c.self.inside.instrument; held = g.W.Window.held c.self.inside.window; zero = c.self.inside.zero; pause = c.self.inside.pause; tare = c.self.inside.tare; cleared = c.self.inside.cleared } in
-    let from : Stands s h = rw c.self.view_is st in
-    Stands-tare s clear_tare h Empty refl from
+    record { takes = Takes-behind s _ _ clear_tare c.self.view_is refl (λ h from. Stands-tare s clear_tare h Empty refl from) }

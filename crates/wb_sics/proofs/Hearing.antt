@@ -1,0 +1,140 @@
+-- Stored weighings change no reply.
+use Rattle.std.proofs.Common.{◌≡◌, ℕ, ◌+◌, Bool, true, false, cond, List, [], ◌∷◌, ◌++◌, Option, Some, refl, sym, ◌∙◌, ap}
+use Rattle.std.specs.Prelude.{◌==◌, ◌||◌, is_some}
+use Rattle.wb_instrument.specs.Setup.{Setup}
+use Rattle.wb_window.specs.declared.reading.Reading.{Reading}
+use Rattle.wb_scale.specs.Call.{Call, read}
+use Rattle.wb_scale.specs.History.{moments}
+use Rattle.wb_scale.specs.Unmarked.{AllSameUnmarked, SameUnmarked, unmarked}
+use Rattle.wb_sics.specs.declared.command.Command.{Command}
+use Rattle.wb_sics.specs.declared.command.Command.TheVariants.{Weight, WeightNow, Zero, Tare, TareValue, PresetTare, BadTare, ClearTare, Cancel, Commands, SerialNumber, Unknown}
+use Rattle.wb_sics.specs.declared.waiting.Awaited.{Awaited}
+use Rattle.wb_sics.specs.declared.waiting.Awaited.TheVariants.{Weight as AwaitedWeight, Zero as AwaitedZero, Tare as AwaitedTare}
+use Rattle.wb_sics.specs.Answers.{weight_reply}
+use Rattle.wb_sics.specs.Calls.{asked, asked_at, calls}
+use Rattle.wb_sics.specs.Event.{Event, reading, byte, hang_up, stored, readings_of}
+use Rattle.wb_sics.specs.Heard.{RepliesToHeard, heard}
+use Rattle.wb_sics.specs.Lines.{commanded, line_command, stream}
+use Rattle.wb_sics.specs.Replies.{own_reply, replies, weight_at, weight_waits}
+use Rattle.wb_sics.specs.Waiting.{held_since, readings_since, stable_at, tare_waits, waits, zero_waits}
+
+-- ---- the words on events
+
+stream-heard : (h : List Event) → stream (heard h) ≡ stream h
+stream-heard [] = refl
+stream-heard (reading r ∷ h) = stream-heard h
+stream-heard (byte b ∷ h) = ap (λ bs. b ∷ bs) (stream-heard h)
+stream-heard (hang_up ∷ h) = refl
+stream-heard (stored ∷ h) = stream-heard h
+
+line_command-heard : (h : List Event) → line_command (heard h) ≡ line_command h
+unfolding line_command
+line_command-heard h = rw (stream-heard h) refl
+
+commanded-heard : (h : List Event) → commanded (heard h) ≡ commanded h
+commanded-heard [] = refl
+commanded-heard (reading r ∷ h) = commanded-heard h
+commanded-heard (byte b ∷ h) = rw (line_command-heard h, commanded-heard h) refl
+commanded-heard (hang_up ∷ h) = refl
+commanded-heard (stored ∷ h) = commanded-heard h
+
+readings_since-heard : (h : List Event) → readings_since (heard h) ≡ readings_since h
+readings_since-heard [] = refl
+readings_since-heard (reading r ∷ h) = ap (λ n. n + 1) (readings_since-heard h)
+readings_since-heard (byte b ∷ h) = rw (readings_since-heard h) refl
+readings_since-heard (hang_up ∷ h) = refl
+readings_since-heard (stored ∷ h) = readings_since-heard h
+
+readings_of-heard : (h : List Event) → readings_of (heard h) ≡ readings_of h
+readings_of-heard [] = refl
+readings_of-heard (reading r ∷ h) = ap (λ rs. r ∷ rs) (readings_of-heard h)
+readings_of-heard (byte b ∷ h) = readings_of-heard h
+readings_of-heard (hang_up ∷ h) = readings_of-heard h
+readings_of-heard (stored ∷ h) = readings_of-heard h
+
+held_since-heard : (now : List Event → Bool) → ((h : List Event) → now (heard h) ≡ now h) → (h : List Event) → held_since now (heard h) ≡ held_since now h
+held_since-heard now same [] = refl
+held_since-heard now same (reading r ∷ h) = rw (same (reading r ∷ h), held_since-heard now same h) refl
+held_since-heard now same (byte b ∷ h) = rw (same (byte b ∷ h), held_since-heard now same h) refl
+held_since-heard now same (hang_up ∷ h) = refl
+held_since-heard now same (stored ∷ h) = held_since-heard now same h
+
+waits-heard : (kind : Awaited) (now : List Event → Bool) (limit : ℕ) → ((h : List Event) → now (heard h) ≡ now h) → (h : List Event)
+    → waits kind now limit (heard h) ≡ waits kind now limit h
+unfolding waits
+waits-heard kind now limit same h = rw (commanded-heard h, held_since-heard now same h, readings_since-heard h) refl
+
+stable_at-heard : (s : Setup) (h : List Event) → stable_at s (heard h) ≡ stable_at s h
+stable_at-heard s h = rw (readings_of-heard h) refl
+
+zero_waits-heard : (s : Setup) (h : List Event) → zero_waits s (heard h) ≡ zero_waits s h
+zero_waits-heard s h = waits-heard AwaitedZero (stable_at s) s.wait (stable_at-heard s) h
+
+tare_waits-heard : (s : Setup) (h : List Event) → tare_waits s (heard h) ≡ tare_waits s h
+tare_waits-heard s h = waits-heard AwaitedTare (stable_at s) s.wait (stable_at-heard s) h
+
+-- ---- the calls of the scale
+
+asked-unmarked : (c : Command) (k : List Call) → unmarked (asked c ++ k) ≡ asked c ++ unmarked k
+asked-unmarked Weight k = refl
+asked-unmarked WeightNow k = refl
+asked-unmarked Zero k = refl
+asked-unmarked Tare k = refl
+asked-unmarked TareValue k = refl
+asked-unmarked (PresetTare grams) k = refl
+asked-unmarked BadTare k = refl
+asked-unmarked ClearTare k = refl
+asked-unmarked Cancel k = refl
+asked-unmarked Commands k = refl
+asked-unmarked SerialNumber k = refl
+asked-unmarked Unknown k = refl
+
+asked_at-unmarked : (zero tare : Bool) (r : Reading) (k : List Call) → unmarked (asked_at zero tare r ++ k) ≡ asked_at zero tare r ++ unmarked k
+asked_at-unmarked true tare r k = refl
+asked_at-unmarked false true r k = refl
+asked_at-unmarked false false r k = refl
+
+line-unmarked : (line : Bool) (c : Command) (k : List Call) → unmarked (cond line (asked c ++ k) k) ≡ cond line (asked c ++ unmarked k) (unmarked k)
+line-unmarked true c k = asked-unmarked c k
+line-unmarked false c k = refl
+
+calls-heard : (s : Setup) (h : List Event) → calls s (heard h) ≡ unmarked (calls s h)
+calls-heard s [] = refl
+calls-heard s (reading r ∷ h) =
+    rw (zero_waits-heard s h, tare_waits-heard s h, calls-heard s h) (sym (asked_at-unmarked (zero_waits s h) (tare_waits s h) r (calls s h)))
+calls-heard s (byte b ∷ h) = rw (line_command-heard h, calls-heard s h) (sym (line-unmarked (b == 10) (line_command h) (calls s h)))
+calls-heard s (hang_up ∷ h) = calls-heard s h
+calls-heard s (stored ∷ h) = calls-heard s h
+
+-- ---- the replies
+
+weight_at-heard : AllSameUnmarked → (s : Setup) (h : List Event) → weight_at s (heard h) ≡ weight_at s h
+weight_at-heard same s h = rw (calls-heard s h, (same s (calls s h)).indicated) refl
+
+weight_waits-heard : AllSameUnmarked → (s : Setup) (h : List Event) → weight_waits s (heard h) ≡ weight_waits s h
+weight_waits-heard same s h = waits-heard AwaitedWeight (weight_at s) s.wait (weight_at-heard same s) h
+
+own_reply-unmarked : (s : Setup) (k : List Call) (c : Command) → SameUnmarked s k → own_reply s (moments s (unmarked k)) c ≡ own_reply s (moments s k) c
+own_reply-unmarked s k Weight u = rw u.indicated refl
+own_reply-unmarked s k WeightNow u = rw u.indicated refl
+own_reply-unmarked s k Zero u = rw u.readings refl
+own_reply-unmarked s k Tare u = rw u.tare refl
+own_reply-unmarked s k TareValue u = rw u.tare_now refl
+own_reply-unmarked s k (PresetTare grams) u = rw (u.preset grams) refl
+own_reply-unmarked s k BadTare u = refl
+own_reply-unmarked s k ClearTare u = refl
+own_reply-unmarked s k Cancel u = refl
+own_reply-unmarked s k Commands u = refl
+own_reply-unmarked s k SerialNumber u = refl
+own_reply-unmarked s k Unknown u = refl
+
+pub replies_to_heard : AllSameUnmarked → RepliesToHeard
+unfolding replies
+replies_to_heard same s (reading r) h =
+    let u = same s (read r ∷ calls s h) in
+    rw (weight_waits-heard same s h, zero_waits-heard s h, tare_waits-heard s h, readings_since-heard h, readings_of-heard h, calls-heard s h, u.indicated, u.tare) refl
+replies_to_heard same s (byte b) h =
+    let own = own_reply-unmarked s (calls s h) (line_command h) (same s (calls s h)) in
+    rw (weight_waits-heard same s h, zero_waits-heard s h, tare_waits-heard s h, line_command-heard h, calls-heard s h, own) refl
+replies_to_heard same s hang_up h = refl
+replies_to_heard same s stored h = refl
