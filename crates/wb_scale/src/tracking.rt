@@ -1,5 +1,6 @@
 //! Zero tracking.
-ghost use Rattle.std.specs.Prelude.{◌≡◌, ◌≤◌, ◌+ℤ◌, ◌≤ℤ◌, IfSome, neg_ℤ, pos, Some};
+ghost use Rattle.std.specs.Prelude.{◌≡◌, ◌≤◌, ◌+ℤ◌, ◌≤ℤ◌, IfSome, neg_ℤ, pos, Some, true};
+ghost use Rattle.wb_window.specs.Stability.{is_stable};
 ghost use Rattle.wb_scale.specs.After.{pause_from, step_of, tracked};
 ghost use Rattle.wb_scale.specs.Load.{IsLoad};
 ghost use Rattle.wb_scale.specs.Tracking.{is_within as is_within_limit, step_to, towards};
@@ -18,7 +19,7 @@ impl<W: Window> Scale<W> {
         let load = self.load();
         let limit = self.instrument.zero_limit();
         let gap = self.instrument.tracking_gap();
-        let step = tracking_step(self.window.stable(), self.pause, load, self.zero, limit);
+        let step = tracking_step(&self.window, self.pause, load, self.zero, limit);
         let zero = self.zero + step;
         self.zero = zero;
         self.pause = pause_after(step, self.pause, gap);
@@ -26,18 +27,38 @@ impl<W: Window> Scale<W> {
     }
 }
 
-/// The step of zero tracking at a load, in tenths of e: none in a pause, or where the scale is not stable.
-fn tracking_step(stable: bool, pause: u32, load: Option<i32>, zero: i32, limit: i32) -> i32
+/// The step of zero tracking at a load, in tenths of e. Only where one is due is the window asked whether it is stable.
+fn tracking_step<W: Window>(
+    window: &W,
+    pause: u32,
+    load: Option<i32>,
+    zero: i32,
+    limit: i32,
+) -> i32
     requires load { IfSome load IsLoad }
     requires zero { (neg_ℤ limit ≤ℤ zero) × (zero ≤ℤ limit) }
     requires limit { limit ≤ℤ pos 2_000 }
-    ensures value { result ≡ step_of stable pause limit zero load }
+    ensures value { let held = W.held window.now in
+        result ≡ step_of (is_stable held.size held.band held.readings) pause limit zero load }
+    ensures within { (neg_ℤ limit ≤ℤ (zero +ℤ result)) × ((zero +ℤ result) ≤ℤ limit) }
+{
+    let due = step_due(pause, load, zero, limit);
+    if due != 0 && !window.stable() {
+        0
+    } else {
+        due
+    }
+}
+
+/// The step of zero tracking at a load, in tenths of e, if the scale is stable: none in a pause.
+fn step_due(pause: u32, load: Option<i32>, zero: i32, limit: i32) -> i32
+    requires load { IfSome load IsLoad }
+    requires zero { (neg_ℤ limit ≤ℤ zero) × (zero ≤ℤ limit) }
+    requires limit { limit ≤ℤ pos 2_000 }
+    ensures value { result ≡ step_of true pause limit zero load }
     ensures within { (neg_ℤ limit ≤ℤ (zero +ℤ result)) × ((zero +ℤ result) ≤ℤ limit) }
 {
     if pause > 0 {
-        return 0;
-    }
-    if !stable {
         return 0;
     }
     match load {

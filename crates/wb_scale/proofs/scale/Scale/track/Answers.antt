@@ -27,7 +27,7 @@ step : (g : Over) (c : goal.After-self-3-1 g) → let s = before g c in
 step g c =
     let zero : to_z w32 (of_z w32 c.self.inside.zero) ≡ c.self.inside.zero = omega (arith, ints) in
     let limit : to_z w32 (of_z w32 c.zero_limit-limit.result) ≡ pos (zero_limit c.self.inside.instrument) = omega (arith, ints, c.zero_limit-limit.ensures.value) in
-    rw (limit, zero, c.stable.ensures, load g c) at c.tracking_step-step.ensures.value
+    rw (limit, zero, load g c) at c.tracking_step-step.ensures.value
 
 left : (g : Over) (c : goal.After-self-3-1 g) → after g c ≡ tracked (before g c)
 left g c =
