@@ -59,6 +59,6 @@ EndsOn ReadFault s w w' trace = Unit {0}
 EndsOn WriteFault s w w' trace = length trace ≤ trace_limit
 EndsOn Memory s w w' trace = Unit {0}
 
--- the same of what the reader has left, where it tells that
+-- the same of what the reader has left, where that is known
 abbrev pub Ends : ReplayEnd → Setup → Option (List ℕ) → Option (List ℕ) → Option (List ℕ) → Type 0
 Ends end s unread w w' = IfSome unread (EndsOn end s w w')

@@ -24,7 +24,7 @@ use Rattle.wb_sics.specs.Waiting.{waits, zero_waits, tare_waits, readings_since}
 abbrev pub moments_of : Setup → List Event → List Moment
 moments_of s h = moments s (calls s h)
 
--- the weight can be told: over, under or stable
+-- the weight can be given: over, under or stable
 abbrev pub weight_at : Setup → List Event → Bool
 weight_at s h = is_some (weight_reply s (indicated s (moments_of s h)))
 

@@ -11,7 +11,7 @@ const LINE_LIMIT: usize = 40;
 /// What a line asks.
 #[derive(Clone, Copy, Drop, Debug, PartialEq, Eq)]
 pub enum Command {
-    /// `S`: the weight, when it can be told.
+    /// `S`: the weight, once it can be given.
     Weight,
     /// `SI`: the weight at once.
     WeightNow,

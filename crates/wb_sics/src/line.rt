@@ -6,8 +6,8 @@ ghost use Rattle.wb_sics.specs.Lines.{without_carriage_return};
 use crate::command::{Command, parse_line};
 use arrayvec::ArrayVec;
 
-/// The first bytes of an unfinished line: as many as a command may have, a CR, and one more that tells that it is too
-/// long.
+/// The first bytes of an unfinished line: as many as a command may have, a CR, and one more, by which a longer line is
+/// known.
 pub(crate) type Line = ArrayVec<u8, 42>;
 
 /// Keeps a byte of a line, as far as there is room.

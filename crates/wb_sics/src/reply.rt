@@ -19,7 +19,7 @@ pub enum Reply {
     WeightStable(i32),
     /// `S D`: a net weight that is not stable.
     WeightMoving(i32),
-    /// `S I`: no weight can be told.
+    /// `S I`: no weight can be given.
     WeightRefused,
     /// `S +`: gross is above Max + 9 e.
     WeightOver,
