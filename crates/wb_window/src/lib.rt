@@ -5,12 +5,16 @@
 //! making a window takes memory.
 #![tactic(auto)]
 
+mod candidates;
+mod deque;
+mod queues;
 mod reading;
 mod ring;
 #[cfg(test)]
 mod tests;
 mod window;
 
+pub use deque::DequeWindow;
 pub use reading::Reading;
 pub use ring::RingWindow;
 pub use window::Window;
