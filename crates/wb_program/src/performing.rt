@@ -14,11 +14,11 @@ use crate::trace_line::TraceLine;
 use std::io;
 use std::io::Write;
 use wb_sics::{Replies, Reply, Terminal};
-use wb_window::{Reading, RingWindow};
+use wb_window::{Reading, DequeWindow};
 
 /// Does what a line asks for, and writes the replies.
 pub(crate) fn perform<O: Write>(
-    terminal: &mut Terminal<RingWindow>,
+    terminal: &mut Terminal<DequeWindow>,
     line: TraceLine<'_>,
     writer: &mut O,
 ) -> io::Result<()>
@@ -38,7 +38,7 @@ pub(crate) fn perform<O: Write>(
 }
 
 fn take_readings<O: Write>(
-    terminal: &mut Terminal<RingWindow>,
+    terminal: &mut Terminal<DequeWindow>,
     reading: Reading,
     times: u32,
     writer: &mut O,
@@ -53,7 +53,7 @@ fn take_readings<O: Write>(
 }
 
 fn take_reading<O: Write>(
-    terminal: &mut Terminal<RingWindow>,
+    terminal: &mut Terminal<DequeWindow>,
     reading: Reading,
     writer: &mut O,
 ) -> io::Result<()>
@@ -66,7 +66,7 @@ fn take_reading<O: Write>(
 
 /// Types a text and a line end.
 fn type_line<O: Write>(
-    terminal: &mut Terminal<RingWindow>,
+    terminal: &mut Terminal<DequeWindow>,
     text: &[u8],
     writer: &mut O,
 ) -> io::Result<()>
@@ -78,7 +78,7 @@ fn type_line<O: Write>(
 }
 
 fn type_text<O: Write>(
-    terminal: &mut Terminal<RingWindow>,
+    terminal: &mut Terminal<DequeWindow>,
     text: &[u8],
     writer: &mut O,
 ) -> io::Result<()>
@@ -92,7 +92,7 @@ fn type_text<O: Write>(
 
 /// Types the bytes of hexadecimal digits.
 fn type_digits<O: Write>(
-    terminal: &mut Terminal<RingWindow>,
+    terminal: &mut Terminal<DequeWindow>,
     digits: &[u8],
     writer: &mut O,
 ) -> io::Result<()>
@@ -111,7 +111,7 @@ fn type_digits<O: Write>(
 }
 
 fn type_byte<O: Write>(
-    terminal: &mut Terminal<RingWindow>,
+    terminal: &mut Terminal<DequeWindow>,
     byte: u8,
     writer: &mut O,
 ) -> io::Result<()>

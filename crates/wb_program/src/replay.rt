@@ -14,7 +14,7 @@ use thiserror::Error;
 use wb_instrument::Instrument;
 use wb_scale::Scale;
 use wb_sics::Terminal;
-use wb_window::RingWindow;
+use wb_window::DequeWindow;
 
 /// How a replay ended.
 #[derive(Clone, Copy, Debug, PartialEq, Eq, Error)]
@@ -54,7 +54,7 @@ pub fn replay<R: Read, O: Write>(
         Err(TraceFault::ReadFault) => return ReplayEnd::ReadFault,
         Err(TraceFault::Memory) => return ReplayEnd::Memory,
     };
-    match RingWindow::new(alloc, instrument.window() as usize, instrument.band()) {
+    match DequeWindow::new(alloc, instrument.window() as usize, instrument.band()) {
         Ok(window) => {
             let mut terminal = Terminal::new(Scale::new(instrument, window));
             replay_lines(&mut terminal, trace.as_slice(), writer)
@@ -65,7 +65,7 @@ pub fn replay<R: Read, O: Write>(
 
 /// Replays the lines of a trace, up to the first that isn't understood.
 fn replay_lines<O: Write>(
-    terminal: &mut Terminal<RingWindow>,
+    terminal: &mut Terminal<DequeWindow>,
     trace: &[u8],
     writer: &mut O,
 ) -> ReplayEnd
