@@ -1,4 +1,4 @@
--- Candidates for the greatest, or the least, of the loads held.
+-- A queue of a DequeWindow: candidates for the greatest, or the least, of the loads held.
 use Rattle.circular_buffer.specs.Buffer.{buffer}
 use Rattle.std.specs.List.{filter}
 use Rattle.std.specs.Prelude.{ℕ, ℤ, Bool, false, not, int_lt, List, [], ◌∷◌, ◌++◌, Option, Some, None}

@@ -1,4 +1,4 @@
--- What is kept of readings to tell whether they agree.
+-- What a DequeWindow keeps beside its readings, to tell whether they agree.
 use Rattle.std.specs.Prelude.{ℕ, ◌+◌, List, [], ◌∷◌}
 use Rattle.wb_window.specs.Candidates.{queue_of}
 use Rattle.wb_window.specs.declared.candidates.Extreme.TheVariants.{Greatest, Least}
