@@ -66,7 +66,10 @@ fn a_fresh_scale_shows_no_load<W: Fresh>(rt: &impl Abort, alloc: Global) -> Resu
     Ok(())
 }
 
-fn indicates_to_nine_intervals_above_max_and_twenty_below_zero<W: Fresh>(rt: &impl Abort, alloc: Global) -> Result<(), Fail> {
+fn indicates_to_nine_intervals_above_max_and_twenty_below_zero<W: Fresh>(
+    rt: &impl Abort,
+    alloc: Global,
+) -> Result<(), Fail> {
     for (tenths, indicated) in [
         (9_170, shown(917, 917, true)),
         (30_094, shown(3_009, 3_009, true)),
@@ -81,7 +84,10 @@ fn indicates_to_nine_intervals_above_max_and_twenty_below_zero<W: Fresh>(rt: &im
     Ok(())
 }
 
-fn a_lost_reading_shows_no_load_until_the_next<W: Fresh>(rt: &impl Abort, alloc: Global) -> Result<(), Fail> {
+fn a_lost_reading_shows_no_load_until_the_next<W: Fresh>(
+    rt: &impl Abort,
+    alloc: Global,
+) -> Result<(), Fail> {
     let mut scale = scale_at::<W>(alloc, 10)?;
     take(&mut scale, 9_170, 4);
     scale.read(Reading::Lost);
@@ -93,7 +99,24 @@ fn a_lost_reading_shows_no_load_until_the_next<W: Fresh>(rt: &impl Abort, alloc:
     Ok(())
 }
 
-fn sets_the_zero_to_two_percent_of_max<W: Fresh>(rt: &impl Abort, alloc: Global) -> Result<(), Fail> {
+fn an_equal_load_stays_when_the_older_one_goes<W: Fresh>(
+    rt: &impl Abort,
+    alloc: Global,
+) -> Result<(), Fail> {
+    let mut scale = scale_at::<W>(alloc, 10)?;
+    take(&mut scale, 9_172, 2);
+    take(&mut scale, 9_170, 2);
+    take(&mut scale, 9_169, 1);
+    assert_eq!(rt; scale.indicated(), shown(917, 917, false));
+    take(&mut scale, 9_170, 1);
+    assert_eq!(rt; scale.indicated(), shown(917, 917, true));
+    Ok(())
+}
+
+fn sets_the_zero_to_two_percent_of_max<W: Fresh>(
+    rt: &impl Abort,
+    alloc: Global,
+) -> Result<(), Fail> {
     for (tenths, answer, gross) in [
         (600, ZeroAnswer::Done, 0),
         (601, ZeroAnswer::Above, 60),
@@ -117,7 +140,10 @@ fn sets_the_zero_to_two_percent_of_max<W: Fresh>(rt: &impl Abort, alloc: Global)
     Ok(())
 }
 
-fn tracks_a_tenth_at_every_second_stable_reading<W: Fresh>(rt: &impl Abort, alloc: Global) -> Result<(), Fail> {
+fn tracks_a_tenth_at_every_second_stable_reading<W: Fresh>(
+    rt: &impl Abort,
+    alloc: Global,
+) -> Result<(), Fail> {
     // steps at readings 4 and 6, and a third at 8
     for (times, gross) in [(7, 1), (8, 0)] {
         let mut scale = scale_at::<W>(alloc, 10)?;
@@ -132,7 +158,10 @@ fn tracks_a_tenth_at_every_second_stable_reading<W: Fresh>(rt: &impl Abort, allo
     Ok(())
 }
 
-fn tracks_half_an_interval_a_second_at_fifty_readings<W: Fresh>(rt: &impl Abort, alloc: Global) -> Result<(), Fail> {
+fn tracks_half_an_interval_a_second_at_fifty_readings<W: Fresh>(
+    rt: &impl Abort,
+    alloc: Global,
+) -> Result<(), Fail> {
     // four steps, and five
     for (times, gross) in [(43, -1), (44, 0)] {
         let mut scale = scale_at::<W>(alloc, 50)?;
@@ -147,7 +176,10 @@ fn tracks_half_an_interval_a_second_at_fifty_readings<W: Fresh>(rt: &impl Abort,
     Ok(())
 }
 
-fn tracks_no_further_than_the_limit_of_the_zero<W: Fresh>(rt: &impl Abort, alloc: Global) -> Result<(), Fail> {
+fn tracks_no_further_than_the_limit_of_the_zero<W: Fresh>(
+    rt: &impl Abort,
+    alloc: Global,
+) -> Result<(), Fail> {
     let mut scale = scale_at::<W>(alloc, 10)?;
     take(&mut scale, 600, 4);
     assert_eq!(rt; scale.zero(), ZeroAnswer::Done);
@@ -157,7 +189,10 @@ fn tracks_no_further_than_the_limit_of_the_zero<W: Fresh>(rt: &impl Abort, alloc
     Ok(())
 }
 
-fn tracks_from_the_reading_after_that_which_sets_the_zero<W: Fresh>(rt: &impl Abort, alloc: Global) -> Result<(), Fail> {
+fn tracks_from_the_reading_after_that_which_sets_the_zero<W: Fresh>(
+    rt: &impl Abort,
+    alloc: Global,
+) -> Result<(), Fail> {
     let mut scale = scale_at::<W>(alloc, 10)?;
     take(&mut scale, 3, 3);
     assert_eq!(rt; scale.read_for_zero(Reading::Load(3)), ZeroAnswer::Done);
@@ -167,7 +202,10 @@ fn tracks_from_the_reading_after_that_which_sets_the_zero<W: Fresh>(rt: &impl Ab
     Ok(())
 }
 
-fn a_reading_that_cannot_set_the_zero_is_tracked<W: Fresh>(rt: &impl Abort, alloc: Global) -> Result<(), Fail> {
+fn a_reading_that_cannot_set_the_zero_is_tracked<W: Fresh>(
+    rt: &impl Abort,
+    alloc: Global,
+) -> Result<(), Fail> {
     let mut scale = scale_at::<W>(alloc, 10)?;
     take(&mut scale, 3, 2);
     assert_eq!(rt;
@@ -195,7 +233,10 @@ fn keeps_a_weighed_tare_in_tenths<W: Fresh>(rt: &impl Abort, alloc: Global) -> R
     Ok(())
 }
 
-fn rounds_a_preset_tare_to_the_interval<W: Fresh>(rt: &impl Abort, alloc: Global) -> Result<(), Fail> {
+fn rounds_a_preset_tare_to_the_interval<W: Fresh>(
+    rt: &impl Abort,
+    alloc: Global,
+) -> Result<(), Fail> {
     let mut scale = scale_at::<W>(alloc, 10)?;
     take(&mut scale, 9_170, 4);
     assert_eq!(rt; scale.preset(5_003_000), PresetAnswer::Done(5_000));
@@ -207,7 +248,10 @@ fn rounds_a_preset_tare_to_the_interval<W: Fresh>(rt: &impl Abort, alloc: Global
     Ok(())
 }
 
-fn tares_a_load_from_half_an_interval_to_max<W: Fresh>(rt: &impl Abort, alloc: Global) -> Result<(), Fail> {
+fn tares_a_load_from_half_an_interval_to_max<W: Fresh>(
+    rt: &impl Abort,
+    alloc: Global,
+) -> Result<(), Fail> {
     for (tenths, answer) in [
         (0, TareAnswer::Below),
         (-100, TareAnswer::Below),
@@ -234,7 +278,10 @@ fn setting_the_zero_clears_the_tare<W: Fresh>(rt: &impl Abort, alloc: Global) ->
     Ok(())
 }
 
-fn a_gross_below_min_clears_the_bridge<W: Fresh>(rt: &impl Abort, alloc: Global) -> Result<(), Fail> {
+fn a_gross_below_min_clears_the_bridge<W: Fresh>(
+    rt: &impl Abort,
+    alloc: Global,
+) -> Result<(), Fail> {
     for (reading, cleared) in [
         (Reading::Load(194), true),
         (Reading::Load(195), false),
@@ -253,7 +300,10 @@ fn a_gross_below_min_clears_the_bridge<W: Fresh>(rt: &impl Abort, alloc: Global)
     Ok(())
 }
 
-fn a_reading_that_sets_the_zero_clears_the_bridge<W: Fresh>(rt: &impl Abort, alloc: Global) -> Result<(), Fail> {
+fn a_reading_that_sets_the_zero_clears_the_bridge<W: Fresh>(
+    rt: &impl Abort,
+    alloc: Global,
+) -> Result<(), Fail> {
     let mut scale = scale_at::<W>(alloc, 10)?;
     take(&mut scale, 600, 3);
     assert!(rt; !scale.is_cleared());
@@ -262,7 +312,10 @@ fn a_reading_that_sets_the_zero_clears_the_bridge<W: Fresh>(rt: &impl Abort, all
     Ok(())
 }
 
-fn setting_the_zero_clears_the_bridge_at_the_next_reading<W: Fresh>(rt: &impl Abort, alloc: Global) -> Result<(), Fail> {
+fn setting_the_zero_clears_the_bridge_at_the_next_reading<W: Fresh>(
+    rt: &impl Abort,
+    alloc: Global,
+) -> Result<(), Fail> {
     let mut scale = scale_at::<W>(alloc, 10)?;
     take(&mut scale, 600, 4);
     assert_eq!(rt; scale.zero(), ZeroAnswer::Done);
@@ -277,6 +330,7 @@ fn rows<W: Fresh>(rt: &impl Abort, alloc: Global) -> Result<(), Fail> {
     a_fresh_scale_shows_no_load::<W>(rt, alloc)?;
     indicates_to_nine_intervals_above_max_and_twenty_below_zero::<W>(rt, alloc)?;
     a_lost_reading_shows_no_load_until_the_next::<W>(rt, alloc)?;
+    an_equal_load_stays_when_the_older_one_goes::<W>(rt, alloc)?;
     sets_the_zero_to_two_percent_of_max::<W>(rt, alloc)?;
     tracks_a_tenth_at_every_second_stable_reading::<W>(rt, alloc)?;
     tracks_half_an_interval_a_second_at_fifty_readings::<W>(rt, alloc)?;
