@@ -14,7 +14,7 @@ use crate::trace_line::TraceLine;
 use std::io;
 use std::io::Write;
 use wb_sics::{Replies, Reply, Terminal};
-use wb_window::{Reading, DequeWindow};
+use wb_window::{DequeWindow, Reading};
 
 /// Does what a line asks for, and writes the replies.
 pub(crate) fn perform<O: Write>(
