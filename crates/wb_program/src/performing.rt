@@ -12,11 +12,11 @@ use crate::trace_line::TraceLine;
 use std::io;
 use std::io::Write;
 use wb_sics::{Replies, Reply, Terminal};
-use wb_window::{Reading, RingWindow};
+use wb_window::{DequeWindow, Reading};
 
 /// Does what a line asks for, with its bytes in the room, and writes the replies.
 pub(crate) fn perform<O: Write>(
-    terminal: &mut Terminal<RingWindow>,
+    terminal: &mut Terminal<DequeWindow>,
     line: TraceLine<'_>,
     room: &[u8],
     replies: &mut Replies,
@@ -41,7 +41,7 @@ pub(crate) fn perform<O: Write>(
 }
 
 fn take_readings<O: Write>(
-    terminal: &mut Terminal<RingWindow>,
+    terminal: &mut Terminal<DequeWindow>,
     reading: Reading,
     times: u32,
     replies: &mut Replies,
@@ -58,7 +58,7 @@ fn take_readings<O: Write>(
 }
 
 fn take_reading<O: Write>(
-    terminal: &mut Terminal<RingWindow>,
+    terminal: &mut Terminal<DequeWindow>,
     reading: Reading,
     replies: &mut Replies,
     writer: &mut O,
@@ -73,7 +73,7 @@ fn take_reading<O: Write>(
 
 /// Types a text and a line end.
 fn type_line<O: Write>(
-    terminal: &mut Terminal<RingWindow>,
+    terminal: &mut Terminal<DequeWindow>,
     text: &[u8],
     replies: &mut Replies,
     writer: &mut O,
@@ -87,7 +87,7 @@ fn type_line<O: Write>(
 }
 
 fn type_text<O: Write>(
-    terminal: &mut Terminal<RingWindow>,
+    terminal: &mut Terminal<DequeWindow>,
     text: &[u8],
     replies: &mut Replies,
     writer: &mut O,
@@ -102,7 +102,7 @@ fn type_text<O: Write>(
 }
 
 fn type_byte<O: Write>(
-    terminal: &mut Terminal<RingWindow>,
+    terminal: &mut Terminal<DequeWindow>,
     byte: u8,
     replies: &mut Replies,
     writer: &mut O,

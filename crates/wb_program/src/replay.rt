@@ -14,7 +14,7 @@ use thiserror::Error;
 use wb_instrument::Instrument;
 use wb_scale::Scale;
 use wb_sics::{Replies, Terminal};
-use wb_window::RingWindow;
+use wb_window::DequeWindow;
 
 /// The status of any fault but refused words or a refused setup.
 const FAULT: u8 = 1;
@@ -76,7 +76,7 @@ pub fn replay<R: Read, O: Write>(
     let Ok(mut room) = room_for(alloc, trace.len() / 2) else {
         return ReplayEnd::Memory;
     };
-    match RingWindow::new(alloc, instrument.window() as usize, instrument.band()) {
+    match DequeWindow::new(alloc, instrument.window() as usize, instrument.band()) {
         Ok(window) => {
             let mut terminal = Terminal::new(Scale::new(instrument, window));
             replay_lines(&mut terminal, trace.as_slice(), room.as_mut_slice(), writer)
@@ -96,7 +96,7 @@ fn room_for(alloc: Global, size: usize) -> Result<Vec<u8>, AllocError>
 
 /// Replays the lines of a trace, up to the first that isn't understood.
 fn replay_lines<O: Write>(
-    terminal: &mut Terminal<RingWindow>,
+    terminal: &mut Terminal<DequeWindow>,
     trace: &[u8],
     room: &mut [u8],
     writer: &mut O,

@@ -130,7 +130,7 @@ agree-lost band xs i e =
     (rw g (list_all_at (near band Lost) xs i Lost l refl))
 
 -- one more item at the end
-pub take_next : (xs : List Reading) (i : ℕ) (x : Reading) → slice_get xs i ≡ Some x → take (i + 1) xs ≡ take i xs ++ x ∷ []
+pub take_next : {X : Type 0} (xs : List X) (i : ℕ) (x : X) → slice_get xs i ≡ Some x → take (i + 1) xs ≡ take i xs ++ x ∷ []
 take_next xs i x e =
     let l : i < length xs = slice_get_within xs i x e in
     rw (take_more xs i x l, get_or_from_slice_get xs i x x e)

@@ -1,3 +1,5 @@
+pub mod Candidates
 pub mod Held
+pub mod Queues
 pub mod Reading
 pub mod Stability
