@@ -1,3 +1,4 @@
+pub mod Ending
 pub mod FirstLine
 pub mod LineKinds
 pub mod Replaying
