@@ -1,0 +1,135 @@
+-- The office's answers.
+use Rattle.std.specs.Prelude.{ℕ, Bool, ◌||◌, nat_lt, List, [], ◌∷◌, ◌++◌, length, filter, map, codes, Option, Some, None, Result, Ok, Err, if◌then◌else◌, ℤ, pos, ◌*ℤ◌}
+use Rattle.wb_instrument.specs.Setup.{Setup}
+use Rattle.wb_instrument.specs.WeightField.{weight_field}
+use Rattle.wb_journal.specs.declared.entry.EntryParts.{EntryParts}
+use Rattle.wb_journal.specs.declared.journal_check.Finding.{Finding}
+use Rattle.wb_journal.specs.declared.journal_check.Finding.TheVariants as finding
+use Rattle.wb_journal.specs.declared.kind.Kind.{Kind}
+use Rattle.wb_journal.specs.declared.kind.Kind.TheVariants.{First, Second, Single, Void}
+use Rattle.wb_journal.specs.Check.{check}
+use Rattle.wb_journal.specs.Kind.{is_second, is_single}
+use Rattle.wb_journal.specs.Moment.{day_of}
+use Rattle.wb_journal.specs.Pairs.{partner, with_number}
+use Rattle.wb_journal.specs.Retention.{IsPurgeBound, kept}
+use Rattle.wb_journal.specs.Texts.{slip, ticket}
+use Rattle.wb_scale.specs.declared.answers.Indicated.{Indicated}
+use Rattle.wb_scale.specs.declared.answers.Indicated.TheVariants.{NoLoad, Over, Under, Shown}
+use Rattle.wb_store.specs.Lists.{next_number}
+use Rattle.wb_store.specs.Rows.{SpentKey}
+use Rattle.wb_office.specs.declared.refusal.Refusal.{Refusal}
+use Rattle.wb_office.specs.declared.refusal.Refusal.TheVariants as refusal
+use Rattle.wb_office.specs.Asking.{Asking}
+use Rattle.wb_office.specs.Conditions.{is_damaged}
+use Rattle.wb_office.specs.Exports.{journal_csv, tickets_csv}
+use Rattle.wb_office.specs.Verdict.{Verdict, accepted, refused, repeated}
+
+-- an answer, with the bytes of its text
+pub data Told : Type 0 where
+  slip_told : List ℕ → Told
+  ticket_told : List ℕ → Told
+  text_told : List ℕ → Told
+  csv_told : List ℕ → Told
+  purged_told : ℕ → Told
+  sound_told : ℕ → Told
+  damaged_told : ℕ → Told
+
+-- ---- a weighing or void
+
+-- the text of an entry: a slip of a First or Void, a ticket of a Single, and of a Second with its partner
+abbrev pub text_of : List EntryParts → EntryParts → Kind → Told
+text_of es e First = slip_told (slip e)
+text_of es e Second = ticket_told (ticket e (partner es e))
+text_of es e Single = ticket_told (ticket e None)
+text_of es e Void = slip_told (slip e)
+
+-- the journal after a verdict
+abbrev pub entries_after : List EntryParts → Verdict → List EntryParts
+entries_after es (refused why) = es
+entries_after es (repeated e) = es
+entries_after es (accepted e) = es ++ e ∷ []
+
+-- the answer of a verdict: why it is refused, or the text of the entry that is repeated or added
+abbrev pub answer_of : List EntryParts → Verdict → Result Told Refusal
+answer_of es (refused why) = Err why
+answer_of es (repeated e) = Ok (text_of es e e.kind)
+answer_of es (accepted e) = Ok (text_of (es ++ e ∷ []) e e.kind)
+
+-- ---- a ticket
+
+-- a Second or Single has a ticket
+abbrev pub has_ticket : EntryParts → Bool
+has_ticket e = is_second e.kind || is_single e.kind
+
+abbrev pub ticket_if_sound : List EntryParts → EntryParts → Result Told Refusal
+ticket_if_sound es e = if is_damaged es e then Err refusal.Damaged else Ok (text_of es e e.kind)
+
+abbrev pub ticket_of : List EntryParts → Option EntryParts → Result Told Refusal
+ticket_of es None = Err refusal.NoTicket
+ticket_of es (Some e) = if has_ticket e then ticket_if_sound es e else Err refusal.NoTicket
+
+-- the answer to a ticket's number
+abbrev pub ticket_answer : List EntryParts → ℕ → Result Told Refusal
+ticket_answer es number = ticket_of es (with_number number es)
+
+-- ---- the indication
+
+abbrev pub motion : Bool → List ℕ
+motion stable = if stable then codes "STABLE" else codes "MOVING"
+
+-- gross and net in kilograms
+abbrev pub weights_text : Bool → ℤ → ℤ → List ℕ
+weights_text stable gross_kg net_kg = motion stable ++ codes " G " ++ weight_field gross_kg ++ codes " kg N " ++ weight_field net_kg ++ codes " kg"
+
+-- these, or why there are none
+abbrev pub indication_text : Setup → Indicated → List ℕ
+indication_text s NoLoad = codes "NO LOAD"
+indication_text s Over = codes "OVERLOAD"
+indication_text s Under = codes "UNDERLOAD"
+indication_text s (Shown gross net stable) = weights_text stable (pos s.interval_kg *ℤ gross) (pos s.interval_kg *ℤ net)
+
+-- ---- the whole journal
+
+abbrev pub finding_told : Finding → Told
+finding_told (finding.Sound count) = sound_told count
+finding_told (finding.Damaged number) = damaged_told number
+
+abbrev pub check_answer : List EntryParts → Told
+check_answer es = finding_told (check es)
+
+-- an answer, where the check finds no damage
+abbrev pub if_sound : Finding → Told → Result Told Refusal
+if_sound (finding.Sound count) told = Ok told
+if_sound (finding.Damaged number) told = Err refusal.Damaged
+
+abbrev pub tickets_answer : List EntryParts → Result Told Refusal
+tickets_answer es = if_sound (check es) (csv_told (tickets_csv es))
+
+-- ---- a purge
+
+-- the entries below a number
+abbrev pub below : ℕ → List EntryParts → List EntryParts
+below b es = filter (λ e. nat_lt e.number b) es
+
+-- b is the purge bound on the day of a moment
+abbrev pub IsBoundAt : Setup → List EntryParts → List SpentKey → ℕ → ℕ → Type 0
+IsBoundAt s es ks at b = IsPurgeBound es (next_number es ks) (day_of at) s.retention_days b
+
+-- a purge at this bound counts the entries below it, unless the journal is damaged
+abbrev pub purge_answer : List EntryParts → ℕ → Result Told Refusal
+purge_answer es b = if_sound (check es) (purged_told (length (below b es)))
+
+abbrev pub unless_damaged : {X : Type 0} → Finding → X → X → X
+unless_damaged (finding.Sound count) x y = x
+unless_damaged (finding.Damaged number) x y = y
+
+-- it leaves the entries from the bound on
+abbrev pub entries_purged : List EntryParts → ℕ → List EntryParts
+entries_purged es b = unless_damaged (check es) (kept b es) es
+
+abbrev pub spent_by : EntryParts → SpentKey
+spent_by e = record { key = e.key; number = e.number }
+
+-- and the keys of the others are spent, with their numbers
+abbrev pub spent_purged : List EntryParts → List SpentKey → ℕ → List SpentKey
+spent_purged es ks b = unless_damaged (check es) (ks ++ map spent_by (below b es)) ks

@@ -1,0 +1,63 @@
+//! The text of an indication.
+ghost use Rattle.arrayvec.specs.ArrayString.{array_string_len};
+ghost use Rattle.std.specs.Prelude.{◌≡◌, ◌≤◌, ◌≤ℤ◌, ◌*ℤ◌, ◌+◌, length, neg_ℤ, pos};
+ghost use Rattle.wb_instrument.specs.Setup.{intervals};
+ghost use Rattle.wb_office.specs.Answer.{indication_text as indication_text_of, motion as motion_of, weights_text};
+ghost use Rattle.wb_scale.specs.Indication.{IsInRange};
+
+use arrayvec::ArrayString;
+use wb_instrument::{Instrument, weight_field};
+use wb_scale::Indicated;
+
+/// Gross and net in kilograms, or why there are none.
+pub fn indication_text(instrument: &Instrument, indicated: Indicated) -> ArrayString<512>
+    requires { IsInRange instrument.now indicated }
+    ensures { result.bytes ≡ indication_text_of instrument.now indicated }
+{
+    match indicated {
+        Indicated::NoLoad => text_of("NO LOAD"),
+        Indicated::Over => text_of("OVERLOAD"),
+        Indicated::Under => text_of("UNDERLOAD"),
+        Indicated::Shown { gross, net, stable } => {
+            let gross_kg = kilograms(instrument, gross);
+            weights(stable, gross_kg, kilograms(instrument, net))
+        }
+    }
+}
+
+fn text_of(words: &str) -> ArrayString<512>
+    requires { length words.now ≤ 32 }
+    ensures value { result.bytes ≡ words.now }
+    ensures fits { array_string_len result ≡ length words.now }
+{
+    let mut text = ArrayString::new();
+    text.push_str(words);
+    text
+}
+
+fn weights(stable: bool, gross_kg: i32, net_kg: i32) -> ArrayString<512>
+    ensures { result.bytes ≡ weights_text stable gross_kg net_kg }
+{
+    let mut text = text_of(motion(stable));
+    text.push_str(" G ");
+    text.push_str(weight_field(gross_kg).as_str());
+    text.push_str(" kg N ");
+    text.push_str(weight_field(net_kg).as_str());
+    text.push_str(" kg");
+    text
+}
+
+fn motion(stable: bool) -> &'static str
+    ensures value { result.now ≡ motion_of stable }
+    ensures fits { length result.now ≤ 6 }
+{
+    if stable { "STABLE" } else { "MOVING" }
+}
+
+fn kilograms(instrument: &Instrument, whole: i32) -> i32
+    requires least { neg_ℤ (pos (intervals instrument.now + 20)) ≤ℤ whole }
+    requires most { whole ≤ℤ pos (intervals instrument.now + 9) }
+    ensures { result ≡ pos instrument.now.interval_kg *ℤ whole }
+{
+    instrument.interval_kg() as i32 * whole
+}

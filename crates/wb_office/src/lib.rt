@@ -1,0 +1,16 @@
+//! The office: what it is asked, how a weighing or void is judged, and what it answers.
+//!
+//! The definitions of the verdict and of every answer are in `specs/`, over lists: what came of the scale's calls, the
+//! entries and the spent keys. Here are the types that they speak of, and the text of an indication. The office itself,
+//! which judges by look-ups in the store, and the exports are to come.
+#![tactic(auto)]
+
+mod answer;
+mod indication;
+mod refusal;
+mod request;
+
+pub use answer::{Answer, CsvText};
+pub use indication::indication_text;
+pub use refusal::Refusal;
+pub use request::Request;
