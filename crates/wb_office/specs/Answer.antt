@@ -1,30 +1,33 @@
--- The office's answers.
-use Rattle.std.specs.Prelude.{ℕ, Bool, ◌||◌, nat_lt, List, [], ◌∷◌, ◌++◌, length, filter, map, codes, Option, Some, None, Result, Ok, Err, if◌then◌else◌, ℤ, pos, ◌*ℤ◌}
+-- The office's answers, and what they leave.
+use Rattle.std.specs.Prelude.{ℕ, Bool, true, false, not, ◌||◌, nat_lt, List, [], ◌∷◌, ◌++◌, length, filter, map, codes, Option, Some, None, Result, Ok, Err, if◌then◌else◌, ℤ, pos, ◌*ℤ◌}
 use Rattle.wb_instrument.specs.Setup.{Setup}
 use Rattle.wb_instrument.specs.WeightField.{weight_field}
 use Rattle.wb_journal.specs.declared.entry.EntryParts.{EntryParts}
 use Rattle.wb_journal.specs.declared.journal_check.Finding.{Finding}
 use Rattle.wb_journal.specs.declared.journal_check.Finding.TheVariants as finding
 use Rattle.wb_journal.specs.declared.kind.Kind.{Kind}
-use Rattle.wb_journal.specs.declared.kind.Kind.TheVariants.{First, Second, Single, Void}
+use Rattle.wb_journal.specs.declared.kind.Kind.TheVariants.{First, Second, Single, Void as VoidKind}
 use Rattle.wb_journal.specs.Check.{check}
-use Rattle.wb_journal.specs.Kind.{is_second, is_single}
+use Rattle.wb_journal.specs.Kind.{is_second, is_single, is_void}
 use Rattle.wb_journal.specs.Moment.{day_of}
 use Rattle.wb_journal.specs.Pairs.{partner, with_number}
 use Rattle.wb_journal.specs.Retention.{IsPurgeBound, kept}
 use Rattle.wb_journal.specs.Texts.{slip, ticket}
 use Rattle.wb_scale.specs.declared.answers.Indicated.{Indicated}
 use Rattle.wb_scale.specs.declared.answers.Indicated.TheVariants.{NoLoad, Over, Under, Shown}
+use Rattle.wb_scale.specs.Indication.{indicated}
 use Rattle.wb_store.specs.Lists.{next_number}
 use Rattle.wb_store.specs.Rows.{SpentKey}
 use Rattle.wb_office.specs.declared.refusal.Refusal.{Refusal}
 use Rattle.wb_office.specs.declared.refusal.Refusal.TheVariants as refusal
-use Rattle.wb_office.specs.Asking.{Asking}
+use Rattle.wb_office.specs.declared.request.Request.{Request}
+use Rattle.wb_office.specs.declared.request.Request.TheVariants.{Weigh, VoidOpen, Ticket, Indication, JournalCsv, TicketsCsv, Purge, Check}
+use Rattle.wb_office.specs.Asking.{Asking, Situation}
 use Rattle.wb_office.specs.Conditions.{is_damaged}
 use Rattle.wb_office.specs.Exports.{journal_csv, tickets_csv}
-use Rattle.wb_office.specs.Verdict.{Verdict, accepted, refused, repeated}
+use Rattle.wb_office.specs.Verdict.{Verdict, accepted, refused, repeated, verdict}
 
--- an answer, with the bytes of its text
+-- an answer: the bytes of its text, or its count or number
 pub data Told : Type 0 where
   slip_told : List ℕ → Told
   ticket_told : List ℕ → Told
@@ -41,7 +44,7 @@ abbrev pub text_of : List EntryParts → EntryParts → Kind → Told
 text_of es e First = slip_told (slip e)
 text_of es e Second = ticket_told (ticket e (partner es e))
 text_of es e Single = ticket_told (ticket e None)
-text_of es e Void = slip_told (slip e)
+text_of es e VoidKind = slip_told (slip e)
 
 -- the journal after a verdict
 abbrev pub entries_after : List EntryParts → Verdict → List EntryParts
@@ -61,6 +64,7 @@ answer_of es (accepted e) = Ok (text_of (es ++ e ∷ []) e e.kind)
 abbrev pub has_ticket : EntryParts → Bool
 has_ticket e = is_second e.kind || is_single e.kind
 
+-- its ticket; damaged if the entry isn't sound, or its partner is missing or isn't sound
 abbrev pub ticket_if_sound : List EntryParts → EntryParts → Result Told Refusal
 ticket_if_sound es e = if is_damaged es e then Err refusal.Damaged else Ok (text_of es e e.kind)
 
@@ -68,7 +72,7 @@ abbrev pub ticket_of : List EntryParts → Option EntryParts → Result Told Ref
 ticket_of es None = Err refusal.NoTicket
 ticket_of es (Some e) = if has_ticket e then ticket_if_sound es e else Err refusal.NoTicket
 
--- the answer to a ticket's number
+-- the answer to a ticket's number; no entry has the number 0
 abbrev pub ticket_answer : List EntryParts → ℕ → Result Told Refusal
 ticket_answer es number = ticket_of es (with_number number es)
 
@@ -77,11 +81,11 @@ ticket_answer es number = ticket_of es (with_number number es)
 abbrev pub motion : Bool → List ℕ
 motion stable = if stable then codes "STABLE" else codes "MOVING"
 
--- gross and net in kilograms
+-- stable or moving, with gross and net in kilograms
 abbrev pub weights_text : Bool → ℤ → ℤ → List ℕ
 weights_text stable gross_kg net_kg = motion stable ++ codes " G " ++ weight_field gross_kg ++ codes " kg N " ++ weight_field net_kg ++ codes " kg"
 
--- these, or why there are none
+-- the indication: gross and net, or no load, overload or underload
 abbrev pub indication_text : Setup → Indicated → List ℕ
 indication_text s NoLoad = codes "NO LOAD"
 indication_text s Over = codes "OVERLOAD"
@@ -133,3 +137,58 @@ spent_by e = record { key = e.key; number = e.number }
 -- and the keys of the others are spent, with their numbers
 abbrev pub spent_purged : List EntryParts → List SpentKey → ℕ → List SpentKey
 spent_purged es ks b = unless_damaged (check es) (ks ++ map spent_by (below b es)) ks
+
+-- ---- every request
+
+-- an entry that is asked for
+abbrev pub asking : Situation → List ℕ → Kind → List ℕ → Asking
+asking w key kind plate = record { now = w; key = key; kind = kind; plate = plate }
+
+-- the answer to a request; b is the purge bound on the day of its moment. The journal is exported also if it is damaged
+abbrev pub answer : Situation → ℕ → Request → Result Told Refusal
+answer w b (Weigh key kind plate) = answer_of w.entries (verdict (asking w key kind plate))
+answer w b (VoidOpen key plate) = answer_of w.entries (verdict (asking w key VoidKind plate))
+answer w b (Ticket number) = ticket_answer w.entries number
+answer w b Indication = Ok (text_told (indication_text w.setup (indicated w.setup w.history)))
+answer w b JournalCsv = Ok (csv_told (journal_csv w.entries))
+answer w b TicketsCsv = tickets_answer w.entries
+answer w b Purge = purge_answer w.entries b
+answer w b Check = Ok (check_answer w.entries)
+
+-- the entries that it leaves
+abbrev pub entries_left : Situation → ℕ → Request → List EntryParts
+entries_left w b (Weigh key kind plate) = entries_after w.entries (verdict (asking w key kind plate))
+entries_left w b (VoidOpen key plate) = entries_after w.entries (verdict (asking w key VoidKind plate))
+entries_left w b (Ticket number) = w.entries
+entries_left w b Indication = w.entries
+entries_left w b JournalCsv = w.entries
+entries_left w b TicketsCsv = w.entries
+entries_left w b Purge = entries_purged w.entries b
+entries_left w b Check = w.entries
+
+-- the spent keys that it leaves
+abbrev pub spent_left : Situation → ℕ → Request → List SpentKey
+spent_left w b (Weigh key kind plate) = w.spent
+spent_left w b (VoidOpen key plate) = w.spent
+spent_left w b (Ticket number) = w.spent
+spent_left w b Indication = w.spent
+spent_left w b JournalCsv = w.spent
+spent_left w b TicketsCsv = w.spent
+spent_left w b Purge = spent_purged w.entries w.spent b
+spent_left w b Check = w.spent
+
+-- an accepted First, Second or Single is marked on the scale as stored
+abbrev pub marks_by : Verdict → Bool
+marks_by (refused why) = false
+marks_by (repeated e) = false
+marks_by (accepted e) = not (is_void e.kind)
+
+abbrev pub marks : Situation → Request → Bool
+marks w (Weigh key kind plate) = marks_by (verdict (asking w key kind plate))
+marks w (VoidOpen key plate) = marks_by (verdict (asking w key VoidKind plate))
+marks w (Ticket number) = false
+marks w Indication = false
+marks w JournalCsv = false
+marks w TicketsCsv = false
+marks w Purge = false
+marks w Check = false

@@ -1,82 +1,79 @@
 -- The verdict on a weighing or void: refused, repeated or accepted.
-use Rattle.std.specs.Prelude.{ℕ, ◌*◌, Bool, List, [], ◌∷◌, Option, Some, None, if◌then◌else◌, ℤ, pos, ◌*ℤ◌, unsigned_abs}
+use Rattle.std.specs.Prelude.{ℕ, Bool, List, [], ◌∷◌, Option, Some, None, find, option_map, ℤ, pos, ◌*ℤ◌, unsigned_abs}
 use Rattle.wb_instrument.specs.Setup.{Setup}
 use Rattle.wb_journal.specs.declared.entry.EntryParts.{EntryParts}
 use Rattle.wb_journal.specs.declared.kind.Kind.{Kind}
 use Rattle.wb_journal.specs.declared.kind.Kind.TheVariants.{First, Second, Single, Void}
 use Rattle.wb_journal.specs.Digest.{sealed}
-use Rattle.wb_scale.specs.declared.answers.Indicated.{Indicated}
-use Rattle.wb_scale.specs.declared.answers.Indicated.TheVariants.{NoLoad, Over, Under, Shown}
 use Rattle.wb_scale.specs.declared.answers.TareNow.{TareNow}
 use Rattle.wb_scale.specs.declared.answers.TareNow.TheVariants.{Empty, Weighed, Preset}
-use Rattle.wb_scale.specs.Indication.{indicated}
+use Rattle.wb_scale.specs.Indication.{gross}
 use Rattle.wb_scale.specs.Tare.{tare_now}
 use Rattle.wb_store.specs.Lists.{by_key, next_number}
 use Rattle.wb_office.specs.declared.refusal.Refusal.{Refusal}
-use Rattle.wb_office.specs.declared.refusal.Refusal.TheVariants as refusal
+use Rattle.wb_office.specs.declared.refusal.Refusal.TheVariants.{KeyReused, Gone, ClockBack, NoLoad, Overload, Underload, Unstable, BelowMin, TareActive, NoPreset, NotCleared, AlreadyOpen, NoOpen, JournalFull, Damaged}
 use Rattle.wb_office.specs.Asking.{Asking}
-use Rattle.wb_office.specs.Conditions.{already_open, clock_back, damaged_first, damaged_repetition, gone, is_below_min, is_moving, is_no_load, is_over, is_under, journal_full, key_reused, no_open, no_preset, not_cleared, tare_active, weighs}
+use Rattle.wb_office.specs.Conditions.{already_open, below_min, clock_back, damaged_first, damaged_repetition, gone, journal_full, key_reused, no_load, no_open, no_preset, not_cleared, overload, tare_active, underload, unstable}
 
 -- a refusal, with the condition on which it comes
 pub record Condition : Type 0 where
   pub refusal : Refusal
   pub holds : Asking → Bool
 
+abbrev pub on : (Asking → Bool) → Refusal → Condition
+on holds refusal = record { refusal = refusal; holds = holds }
+
 -- the conditions on the key, in the order in which they are judged
 abbrev pub of_key : List Condition
-of_key =
-    record { refusal = refusal.KeyReused; holds = key_reused }
-    ∷ record { refusal = refusal.Gone; holds = gone }
-    ∷ record { refusal = refusal.Damaged; holds = damaged_repetition }
-    ∷ []
+of_key = on key_reused KeyReused ∷ on gone Gone ∷ on damaged_repetition Damaged ∷ []
 
--- the conditions on what is new, in the order in which they are judged
+-- the conditions on a request whose key is new, in the order in which they are judged
 abbrev pub of_new : List Condition
 of_new =
-    record { refusal = refusal.ClockBack; holds = clock_back }
-    ∷ record { refusal = refusal.NoLoad; holds = weighs is_no_load }
-    ∷ record { refusal = refusal.Overload; holds = weighs is_over }
-    ∷ record { refusal = refusal.Underload; holds = weighs is_under }
-    ∷ record { refusal = refusal.Unstable; holds = weighs is_moving }
-    ∷ record { refusal = refusal.BelowMin; holds = weighs is_below_min }
-    ∷ record { refusal = refusal.TareActive; holds = tare_active }
-    ∷ record { refusal = refusal.NoPreset; holds = no_preset }
-    ∷ record { refusal = refusal.NotCleared; holds = not_cleared }
-    ∷ record { refusal = refusal.AlreadyOpen; holds = already_open }
-    ∷ record { refusal = refusal.NoOpen; holds = no_open }
-    ∷ record { refusal = refusal.Damaged; holds = damaged_first }
-    ∷ record { refusal = refusal.JournalFull; holds = journal_full }
-    ∷ []
+    on clock_back ClockBack ∷ on no_load NoLoad ∷ on overload Overload ∷ on underload Underload ∷ on unstable Unstable ∷ on below_min BelowMin
+    ∷ on tare_active TareActive ∷ on no_preset NoPreset ∷ on not_cleared NotCleared ∷ on already_open AlreadyOpen ∷ on no_open NoOpen
+    ∷ on damaged_first Damaged ∷ on journal_full JournalFull ∷ []
 
 -- the refusal of the first condition that holds
 abbrev pub first_refusal : List Condition → Asking → Option Refusal
-first_refusal [] a = None
-first_refusal (c ∷ cs) a = if c.holds a then Some c.refusal else first_refusal cs a
+first_refusal conditions a = option_map (λ c. c.refusal) (find (λ c. c.holds a) conditions)
 
--- the gross in kilograms, where it is indicated; none for a Void
-abbrev pub gross_kg : Setup → Kind → Indicated → Option ℕ
-gross_kg s Void shown = None
-gross_kg s kind (Shown gross net stable) = Some (unsigned_abs (pos s.interval_kg *ℤ gross))
-gross_kg s kind shown = None
+-- so many intervals in kilograms
+abbrev pub kilograms : Setup → ℤ → ℕ
+kilograms s whole = unsigned_abs (pos s.interval_kg *ℤ whole)
 
--- the preset tare in kilograms, for a Single alone
+-- the gross that is stored; none for a Void
+abbrev pub gross_kg : Setup → Kind → Option ℤ → Option ℕ
+gross_kg s First g = option_map (kilograms s) g
+gross_kg s Second g = option_map (kilograms s) g
+gross_kg s Single g = option_map (kilograms s) g
+gross_kg s Void g = None
+
+abbrev pub preset_of : Setup → TareNow → Option ℕ
+preset_of s Empty = None
+preset_of s (Weighed tenths) = None
+preset_of s (Preset whole) = Some (kilograms s whole)
+
+-- the preset tare that is stored, of a Single alone
 abbrev pub preset_kg : Setup → Kind → TareNow → Option ℕ
-preset_kg s Single (Preset whole) = Some (unsigned_abs (pos s.interval_kg *ℤ whole))
-preset_kg s kind tare = None
+preset_kg s First tare = None
+preset_kg s Second tare = None
+preset_kg s Single tare = preset_of s tare
+preset_kg s Void tare = None
 
--- the entry that is asked for, with its digest
+-- the entry that is added, with its digest
 abbrev pub new_entry : Asking → EntryParts
 new_entry a = sealed (record {
-  number = next_number a.entries a.spent;
+  number = next_number a.now.entries a.now.spent;
   key = a.key;
   kind = a.kind;
   plate = a.plate;
-  moment = a.at;
-  gross_kg = gross_kg a.setup a.kind (indicated a.setup a.moments);
-  preset_kg = preset_kg a.setup a.kind (tare_now a.moments);
-  interval_kg = a.setup.interval_kg;
-  max_kg = a.setup.max_kg;
-  serial = a.setup.serial;
+  moment = a.now.at;
+  gross_kg = gross_kg a.now.setup a.kind (gross a.now.history);
+  preset_kg = preset_kg a.now.setup a.kind (tare_now a.now.history);
+  interval_kg = a.now.setup.interval_kg;
+  max_kg = a.now.setup.max_kg;
+  serial = a.now.setup.serial;
   digest = [];
 })
 
@@ -87,20 +84,20 @@ pub data Verdict : Type 0 where
   -- this entry is added
   accepted : EntryParts → Verdict
 
--- the verdict on what is new
+-- the verdict on a request whose key is new
 abbrev pub on_new : Asking → Option Refusal → Verdict
 on_new a (Some why) = refused why
 on_new a None = accepted (new_entry a)
 
--- the verdict where no condition on the key holds: its entry is repeated, if there is one
+-- the verdict if no condition on the key holds: its entry is repeated, if there is one
 abbrev pub on_key : Asking → Option EntryParts → Verdict
 on_key a (Some e) = repeated e
 on_key a None = on_new a (first_refusal of_new a)
 
--- the verdict: by the first condition on the key, else repeated, else by the first condition on what is new, else accepted
+-- the verdict: by the first condition on the key, else repeated, else by the first condition on a new one, else accepted
 abbrev pub by_order : Asking → Option Refusal → Verdict
 by_order a (Some why) = refused why
-by_order a None = on_key a (by_key a.entries a.key)
+by_order a None = on_key a (by_key a.now.entries a.key)
 
 unfoldable pub verdict : Asking → Verdict
 verdict a = by_order a (first_refusal of_key a)
