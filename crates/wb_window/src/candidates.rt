@@ -55,7 +55,9 @@ impl Candidates {
 
     /// Takes a new load: it drops from the back those that it lies beyond, and is put last.
     pub(crate) fn enter(&mut self, load: i32)
-        ensures { (extreme : Extreme) (size : ℕ) (readings : List Reading) → length readings < size → self.old ≡ queue_of extreme size readings → self.new ≡ queue_of extreme size (Load load ∷ readings) }
+        ensures { (extreme : Extreme) (size : ℕ) (readings : List Reading) → length readings < size
+            → self.old ≡ queue_of extreme size readings
+            → self.new ≡ queue_of extreme size (Load load ∷ readings) }
     {
         while self.is_beyond_last(load) {
             self.loads.pop_back();
@@ -65,7 +67,9 @@ impl Candidates {
 
     /// Lets the oldest load go: it is dropped from the front where it equals the first.
     pub(crate) fn leave(&mut self, load: i32)
-        ensures { (extreme : Extreme) (size : ℕ) (readings : List Reading) → self.old ≡ queue_of extreme size (readings ++ Load load ∷ []) → self.new ≡ queue_of extreme size readings }
+        ensures { (extreme : Extreme) (size : ℕ) (readings : List Reading)
+            → self.old ≡ queue_of extreme size (readings ++ Load load ∷ [])
+            → self.new ≡ queue_of extreme size readings }
     {
         if self.first() == Some(load) {
             self.loads.pop_front();

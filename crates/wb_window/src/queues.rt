@@ -33,7 +33,8 @@ impl Queues {
     /// Takes a new reading.
     pub(crate) fn enter(&mut self, reading: Reading)
         requires { self.old.lost < usize.MAX }
-        ensures { (size : ℕ) (readings : List Reading) → length readings < size → self.old ≡ queues_of size readings → self.new ≡ queues_of size (reading ∷ readings) }
+        ensures { (size : ℕ) (readings : List Reading) → length readings < size
+            → self.old ≡ queues_of size readings → self.new ≡ queues_of size (reading ∷ readings) }
     {
         match reading {
             Reading::Load(load) => {
@@ -47,7 +48,9 @@ impl Queues {
     /// Lets the oldest reading go.
     pub(crate) fn leave(&mut self, oldest: Reading)
         requires { oldest ≡ Reading.Lost → 0 < self.old.lost }
-        ensures { (size : ℕ) (readings : List Reading) → self.old ≡ queues_of size (readings ++ oldest ∷ []) → self.new ≡ queues_of size readings }
+        ensures { (size : ℕ) (readings : List Reading)
+            → self.old ≡ queues_of size (readings ++ oldest ∷ [])
+            → self.new ≡ queues_of size readings }
     {
         match oldest {
             Reading::Load(load) => {
@@ -60,7 +63,8 @@ impl Queues {
 
     /// Whether all readings are loads, and any two of them differ by at most the band.
     pub(crate) fn agree(&self, band: u32) -> bool
-        ensures { (size : ℕ) (readings : List Reading) → self.now ≡ queues_of size readings → result ≡ agree_of band readings }
+        ensures { (size : ℕ) (readings : List Reading) → self.now ≡ queues_of size readings
+            → result ≡ agree_of band readings }
     {
         if self.lost > 0 {
             return false;

@@ -21,11 +21,12 @@ pub trait Window {
 
     /// Takes a reading, and lets the oldest go where it is full.
     fn read(&mut self, reading: Reading)
-        ensures { held self.new ≡ record (held self.old) { readings = take (held self.old).size (reading ∷ (held self.old).readings) } };
+        ensures { let before = held self.old in
+            held self.new ≡ record before { readings = take before.size (reading ∷ before.readings) } };
 
     /// Whether it has N readings, all are loads, and any two of them differ by at most the band.
     fn stable(&self) -> bool
-        ensures { result ≡ is_stable (held self.now).size (held self.now).band (held self.now).readings };
+        ensures { let now = held self.now in result ≡ is_stable now.size now.band now.readings };
 
     /// The newest reading.
     fn last(&self) -> Option<Reading>
