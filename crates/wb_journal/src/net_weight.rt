@@ -7,7 +7,7 @@ use crate::Entry;
 
 /// The net in kilograms: with a partner the greater gross less the smaller, else the gross less the preset tare. It is
 /// there where both weights are.
-pub(crate) fn net(entry: &Entry, partner: Option<&Entry>) -> Option<i32>
+pub fn net(entry: &Entry, partner: Option<&Entry>) -> Option<i32>
     ensures { result ≡ net_of entry.now (option_copied partner.entry) }
 {
     match partner {
