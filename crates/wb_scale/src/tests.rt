@@ -24,7 +24,8 @@ const ROAD: Parts<'static> = Parts {
 /// A window that can be made.
 trait Fresh: Window + Drop {
     fn fresh(alloc: Global, size: usize, band: u32) -> Result<Self, AllocError>
-        ensures { IfOk result (λ w. Self.held w ≡ record { size = size; band = band; readings = [] }) };
+        ensures { IfOk result (λ w. Self.held w
+            ≡ record { size = size; band = band; readings = [] }) };
 }
 
 impl Fresh for RingWindow {

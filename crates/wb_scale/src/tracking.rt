@@ -28,13 +28,7 @@ impl<W: Window> Scale<W> {
 }
 
 /// The step of zero tracking at a load, in tenths of e. Only where one is due is the window asked whether it is stable.
-fn tracking_step<W: Window>(
-    window: &W,
-    pause: u32,
-    load: Option<i32>,
-    zero: i32,
-    limit: i32,
-) -> i32
+fn tracking_step<W: Window>(window: &W, pause: u32, load: Option<i32>, zero: i32, limit: i32) -> i32
     requires load { IfSome load IsLoad }
     requires zero { (neg_ℤ limit ≤ℤ zero) × (zero ≤ℤ limit) }
     requires limit { limit ≤ℤ pos 2_000 }
@@ -43,11 +37,7 @@ fn tracking_step<W: Window>(
     ensures within { (neg_ℤ limit ≤ℤ (zero +ℤ result)) × ((zero +ℤ result) ≤ℤ limit) }
 {
     let due = step_due(pause, load, zero, limit);
-    if due != 0 && !window.stable() {
-        0
-    } else {
-        due
-    }
+    if due != 0 && !window.stable() { 0 } else { due }
 }
 
 /// The step of zero tracking at a load, in tenths of e, if the scale is stable: none in a pause.

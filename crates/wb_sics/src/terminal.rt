@@ -207,7 +207,8 @@ fn perform<W: Window>(
     ensures waiting { (h : List Call) → ScaleStands scale.old h
         → result ≡ waiting_from scale.old.setup (moments scale.old.setup h) command }
     ensures replies { (h : List Call) → ScaleStands scale.old h
-        → replies.new.items ≡ replies.old.items ++ own_reply scale.old.setup (moments scale.old.setup h) command }
+        → replies.new.items
+        ≡ replies.old.items ++ own_reply scale.old.setup (moments scale.old.setup h) command }
 {
     let wait = scale.instrument().wait();
     match command {

@@ -22,7 +22,8 @@ pub trait Window {
     /// Takes a reading, and lets the oldest go where it is full.
     fn read(&mut self, reading: Reading)
         ensures { let before = held self.old in
-            held self.new ≡ record before { readings = take before.size (reading ∷ before.readings) } };
+            held self.new
+            ≡ record before { readings = take before.size (reading ∷ before.readings) } };
 
     /// Whether it has N readings, all are loads, and any two of them differ by at most the band.
     fn stable(&self) -> bool
