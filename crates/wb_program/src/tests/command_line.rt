@@ -12,13 +12,6 @@ fn asked_by(alloc: Global, line: &str) -> Result<Asked, Fail> {
     Ok(read_words(alloc, words.as_slice())?)
 }
 
-fn instrument_of(asked: Asked) -> Option<Instrument> {
-    match asked {
-        Asked::Replay(instrument) => Some(instrument),
-        Asked::SetupRefused(_) | Asked::WordsRefused(_) | Asked::Nothing => None,
-    }
-}
-
 fn parts_of(instrument: &Instrument) -> [u32; 8] {
     [
         instrument.interval_kg(),
@@ -71,12 +64,14 @@ fn sets_up_a_road_weighbridge_and_each_part_that_is_given(rt: HostRuntime) -> Re
         ),
     ] {
         let line = format!(in rt.alloc(); "weighbridge replay{options}")?;
-        match instrument_of(asked_by(rt.alloc(), line.as_str())?) {
-            Some(instrument) => {
+        match asked_by(rt.alloc(), line.as_str())? {
+            Asked::Replay(instrument) => {
                 assert_eq!(rt; instrument.serial().as_str(), serial, "{line}");
                 assert_eq!(rt; parts_of(&instrument), parts, "{line}");
             }
-            None => return Err(Fail::from("refused")),
+            Asked::SetupRefused(_) | Asked::WordsRefused(_) | Asked::Nothing => {
+                return Err(Fail::from("refused"));
+            }
         }
     }
     Ok(())
