@@ -64,7 +64,7 @@ answer_of es (accepted e) = Ok (text_of (es ++ e ∷ []) e e.kind)
 abbrev pub has_ticket : EntryParts → Bool
 has_ticket e = is_second e.kind || is_single e.kind
 
--- its ticket; damaged if the entry isn't sound, or its partner is missing or isn't sound
+-- its ticket; damaged if the entry isn't sound, or is a Second whose partner is missing or isn't sound
 abbrev pub ticket_if_sound : List EntryParts → EntryParts → Result Told Refusal
 ticket_if_sound es e = if is_damaged es e then Err refusal.Damaged else Ok (text_of es e e.kind)
 
@@ -127,14 +127,14 @@ abbrev pub unless_damaged : {X : Type 0} → Finding → X → X → X
 unless_damaged (finding.Sound count) x y = x
 unless_damaged (finding.Damaged number) x y = y
 
--- it leaves the entries from the bound on
+-- it leaves the entries from the bound on, or all if the journal is damaged
 abbrev pub entries_purged : List EntryParts → ℕ → List EntryParts
 entries_purged es b = unless_damaged (check es) (kept b es) es
 
 abbrev pub spent_by : EntryParts → SpentKey
 spent_by e = record { key = e.key; number = e.number }
 
--- and the keys of the others are spent, with their numbers
+-- and the keys of the others are spent, with their numbers; none if the journal is damaged
 abbrev pub spent_purged : List EntryParts → List SpentKey → ℕ → List SpentKey
 spent_purged es ks b = unless_damaged (check es) (ks ++ map spent_by (below b es)) ks
 

@@ -69,11 +69,11 @@ overload a = weighs a && holds_of (is_over a.now.setup) (gross a.now.history)
 abbrev pub underload : Asking → Bool
 underload a = weighs a && holds_of is_under (gross a.now.history)
 
--- the scale isn't in stable equilibrium (4.4.2: values are stored only in stable equilibrium)
+-- the scale isn't in stable equilibrium (4.4.2)
 abbrev pub unstable : Asking → Bool
 unstable a = weighs a && not (is_stable a.now.setup.window a.now.setup.band (readings a.now.history))
 
--- gross is below Min, 20 e (3.2: class III with e of 5 g or more)
+-- gross is below Min (20 e in class III with e of 5 g or more: 3.2; that it is refused is this project's own)
 abbrev pub below_min : Asking → Bool
 below_min a = weighs a && holds_of (λ g. int_lt g (pos 20)) (gross a.now.history)
 
@@ -92,13 +92,13 @@ is_preset_below Empty g = false
 abbrev pub no_preset : Asking → Bool
 no_preset a = is_single a.kind && not (is_preset_below (tare_now a.now.history) (gross a.now.history))
 
--- the bridge was not cleared since the last stored weighing
+-- the bridge was not cleared since the last stored weighing, or since the opening
 abbrev pub not_cleared : Asking → Bool
 not_cleared a = weighs a && not (is_cleared a.now.history)
 
 -- ---- of the journal
 
--- a First is asked for, and its plate has an open weighing
+-- a First is asked for, and its plate has an open weighing: an entry that closes it now would have a partner
 abbrev pub already_open : Asking → Bool
 already_open a = is_first a.kind && is_some (open_of a.now.entries a.plate)
 
@@ -106,7 +106,7 @@ already_open a = is_first a.kind && is_some (open_of a.now.entries a.plate)
 abbrev pub no_open : Asking → Bool
 no_open a = is_closing a.kind && is_none (open_of a.now.entries a.plate)
 
--- a Second is asked for, and the open First of its plate isn't sound
+-- a Second is asked for, and the First that it would close isn't sound
 abbrev pub damaged_first : Asking → Bool
 damaged_first a = is_second a.kind && holds_of (λ f. not (is_sound f)) (open_of a.now.entries a.plate)
 

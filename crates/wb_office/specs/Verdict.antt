@@ -38,7 +38,7 @@ of_new =
 abbrev pub first_refusal : List Condition → Asking → Option Refusal
 first_refusal conditions a = option_map (λ c. c.refusal) (find (λ c. c.holds a) conditions)
 
--- so many intervals in kilograms
+-- so many intervals in kilograms, without a sign: what is stored is positive
 abbrev pub kilograms : Setup → ℤ → ℕ
 kilograms s whole = unsigned_abs (pos s.interval_kg *ℤ whole)
 

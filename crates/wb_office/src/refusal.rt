@@ -13,7 +13,7 @@ pub enum Refusal {
     Gone,
     /// The moment is less than that of the newest entry.
     ClockBack,
-    /// Nothing is on the bridge that the converter can weigh.
+    /// The last reading is lost, or there is none.
     NoLoad,
     /// Gross is above Max + 9 e.
     Overload,
@@ -23,11 +23,11 @@ pub enum Refusal {
     Unstable,
     /// Gross is below Min, 20 e.
     BelowMin,
-    /// A tare is in force, or a weighed one for a Single.
+    /// A tare is in force for a First or Second, or a weighed one for a Single.
     TareActive,
     /// A Single without a preset tare below the gross.
     NoPreset,
-    /// The bridge was not cleared since the last stored weighing.
+    /// The bridge was not cleared since the last stored weighing, or since the opening.
     NotCleared,
     /// A weighing of the plate is open.
     AlreadyOpen,
