@@ -10,7 +10,7 @@ use wb_instrument::{Instrument, weight_field};
 use wb_scale::Indicated;
 
 /// Gross and net in kilograms, or why there are none.
-pub fn indication_text(instrument: &Instrument, indicated: Indicated) -> ArrayString<512>
+pub(crate) fn indication_text(instrument: &Instrument, indicated: Indicated) -> ArrayString<512>
     requires { IsInRange instrument.now indicated }
     ensures { result.bytes ≡ indication_text_of instrument.now indicated }
 {

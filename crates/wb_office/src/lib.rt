@@ -11,6 +11,5 @@ mod refusal;
 mod request;
 
 pub use answer::{Answer, CsvText};
-pub use indication::indication_text;
 pub use refusal::Refusal;
 pub use request::Request;
