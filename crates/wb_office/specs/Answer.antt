@@ -1,5 +1,5 @@
 -- The office's answers, and what they leave.
-use Rattle.std.specs.Prelude.{ℕ, Bool, true, false, not, ◌||◌, nat_lt, List, [], ◌∷◌, ◌++◌, length, filter, map, codes, Option, Some, None, Result, Ok, Err, if◌then◌else◌, ℤ, pos, ◌*ℤ◌}
+use Rattle.std.specs.Prelude.{ℕ, Bool, false, not, ◌||◌, nat_lt, List, [], ◌∷◌, ◌++◌, length, filter, map, codes, Option, Some, None, Result, Ok, Err, if◌then◌else◌, ℤ, pos, ◌*ℤ◌}
 use Rattle.wb_instrument.specs.Setup.{Setup}
 use Rattle.wb_instrument.specs.WeightField.{weight_field}
 use Rattle.wb_journal.specs.declared.entry.EntryParts.{EntryParts}

@@ -1,5 +1,5 @@
 -- The verdict on a weighing or void: refused, repeated or accepted.
-use Rattle.std.specs.Prelude.{ℕ, Bool, List, [], ◌∷◌, Option, Some, None, find, option_map, ℤ, pos, ◌*ℤ◌, unsigned_abs}
+use Rattle.std.specs.Prelude.{ℕ, Bool, List, [], ◌∷◌, Option, Some, None, if◌then◌else◌, option_map, ℤ, pos, ◌*ℤ◌, unsigned_abs}
 use Rattle.wb_instrument.specs.Setup.{Setup}
 use Rattle.wb_journal.specs.declared.entry.EntryParts.{EntryParts}
 use Rattle.wb_journal.specs.declared.kind.Kind.{Kind}
@@ -36,7 +36,8 @@ of_new =
 
 -- the refusal of the first condition that holds
 abbrev pub first_refusal : List Condition → Asking → Option Refusal
-first_refusal conditions a = option_map (λ c. c.refusal) (find (λ c. c.holds a) conditions)
+first_refusal [] a = None
+first_refusal (c ∷ later) a = if c.holds a then Some c.refusal else first_refusal later a
 
 -- so many intervals in kilograms, without a sign: what is stored is positive
 abbrev pub kilograms : Setup → ℤ → ℕ

@@ -6,7 +6,9 @@
 #![tactic(auto)]
 
 mod answer;
+mod evidence;
 mod indication;
+mod judgement;
 mod refusal;
 mod request;
 

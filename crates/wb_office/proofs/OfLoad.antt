@@ -1,0 +1,73 @@
+-- Why a load isn't stored, by what is indicated and by the conditions.
+use Rattle.std.proofs.Common.{◌≡◌, ◌∙◌, Bool, true, false, not, ◌&&◌, if◌then◌else◌, Option, Some, None, ℤ, pos, refl}
+use Rattle.std.specs.Prelude.{int_lt, is_none, option_map, ◌-ℤ◌}
+use Rattle.wb_instrument.specs.Limits.{is_over, is_under}
+use Rattle.wb_instrument.specs.Rounding.{round}
+use Rattle.wb_instrument.specs.Setup.{Setup}
+use Rattle.wb_scale.specs.Indication.{gross, indicated, indicated_at, shown}
+use Rattle.wb_scale.specs.Tare.{tare_now, tare_tenths}
+use Rattle.wb_scale.specs.Zero.{above_zero}
+use Rattle.wb_window.specs.Stability.{is_stable}
+use Rattle.wb_office.specs.declared.refusal.Refusal.{Refusal}
+use Rattle.wb_office.specs.declared.refusal.Refusal.TheVariants as refusal
+use Rattle.wb_scale.specs.declared.answers.TareNow.{TareNow}
+use Rattle.wb_scale.specs.declared.answers.TareNow.TheVariants.{Empty, Weighed, Preset}
+use Rattle.wb_scale.specs.Moment.{readings}
+use Rattle.wb_office.specs.Asking.{Asking}
+use Rattle.wb_office.specs.Conditions.{holds_of, is_preset_below, weighs}
+use Rattle.wb_office.specs.Judging.{is_preset_below_shown, of_load, refusal_of_shown}
+use Rattle.wb_office.specs.Verdict.{first_refusal}
+
+-- the conditions on a load of a First, Second or Single, one after the other
+in_order : Setup → Bool → Bool → Option ℤ → Option Refusal
+in_order s weighed stable g =
+    if weighed && is_none g then Some refusal.NoLoad
+    else if weighed && holds_of (is_over s) g then Some refusal.Overload
+    else if weighed && holds_of is_under g then Some refusal.Underload
+    else if weighed && not stable then Some refusal.Unstable
+    else if weighed && holds_of (λ x. int_lt x (pos 20)) g then Some refusal.BelowMin
+    else None
+
+of_shown : (s : Setup) (stable : Bool) (g net : ℤ) (over under : Bool) → is_over s g ≡ over → is_under g ≡ under
+    → refusal_of_shown (shown s stable g net) ≡ in_order s true stable (Some g)
+unfolding in_order
+of_shown s stable g net true under o u = rw (o) refl
+of_shown s stable g net false true o u = rw (o, u) refl
+of_shown s stable g net false false o u = rw (o, u) refl
+
+of_indicated : (s : Setup) (stable : Bool) (tare : TareNow) (tenths : Option ℤ)
+    → refusal_of_shown (indicated_at s stable tare tenths) ≡ in_order s true stable (option_map round tenths)
+unfolding in_order
+of_indicated s stable tare None = refl
+of_indicated s stable tare (Some tenths) = of_shown s stable (round tenths) (round (tenths -ℤ tare_tenths tare)) (is_over s (round tenths)) (is_under (round tenths)) refl refl
+
+-- what is indicated decides alone why a load isn't stored
+pub by_indication : (a : Asking) → weighs a ≡ true → refusal_of_shown (indicated a.now.setup a.now.history) ≡ first_refusal of_load a
+unfolding indicated above_zero in_order
+by_indication a w = rw w (of_indicated a.now.setup (is_stable a.now.setup.window a.now.setup.band (readings a.now.history)) (tare_now a.now.history) (above_zero a.now.history))
+
+-- a Void needs no load
+pub of_void : (a : Asking) → weighs a ≡ false → first_refusal of_load a ≡ None
+of_void a w = rw w refl
+
+preset_of_shown : (s : Setup) (stable : Bool) (shown_gross net : ℤ) (over under : Bool) (tare : TareNow) → is_over s shown_gross ≡ over → is_under shown_gross ≡ under
+    → refusal_of_shown (shown s stable shown_gross net) ≡ None → is_preset_below_shown tare (shown s stable shown_gross net) ≡ is_preset_below tare (Some shown_gross)
+preset_of_shown s stable shown_gross net true under tare o u free = absurd (cc (rw o at free))
+preset_of_shown s stable shown_gross net false true tare o u free = absurd (cc (rw (o, u) at free))
+preset_of_shown s stable shown_gross net false false Empty o u free = refl
+preset_of_shown s stable shown_gross net false false (Weighed tenths) o u free = refl
+preset_of_shown s stable shown_gross net false false (Preset whole) o u free = rw (o, u) refl
+
+preset_of_indicated : (s : Setup) (stable : Bool) (now tare : TareNow) (tenths : Option ℤ) → refusal_of_shown (indicated_at s stable now tenths) ≡ None
+    → is_preset_below_shown tare (indicated_at s stable now tenths) ≡ is_preset_below tare (option_map round tenths)
+preset_of_indicated s stable now tare None free = absurd (cc)
+preset_of_indicated s stable now tare (Some tenths) free =
+    preset_of_shown s stable (round tenths) (round (tenths -ℤ tare_tenths now)) (is_over s (round tenths)) (is_under (round tenths)) tare refl refl free
+
+-- where no load is refused, the gross that is shown is the gross
+pub preset_by_indication : (a : Asking) (tare : TareNow) → weighs a ≡ true → first_refusal of_load a ≡ None
+    → is_preset_below_shown tare (indicated a.now.setup a.now.history) ≡ is_preset_below tare (gross a.now.history)
+unfolding indicated above_zero
+preset_by_indication a tare w free =
+    preset_of_indicated a.now.setup (is_stable a.now.setup.window a.now.setup.band (readings a.now.history)) (tare_now a.now.history) tare (above_zero a.now.history)
+      (by_indication a w ∙ free)

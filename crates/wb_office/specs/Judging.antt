@@ -1,0 +1,42 @@
+-- Groups of conditions, in their order, as the code judges them.
+use Rattle.std.specs.Prelude.{Bool, false, not, if◌then◌else◌, List, [], ◌∷◌, Option, Some, None, pos, int_lt}
+use Rattle.wb_scale.specs.declared.answers.Indicated.{Indicated}
+use Rattle.wb_scale.specs.declared.answers.Indicated.TheVariants.{NoLoad, Over, Under, Shown}
+use Rattle.wb_scale.specs.declared.answers.TareNow.{TareNow}
+use Rattle.wb_scale.specs.declared.answers.TareNow.TheVariants.{Empty, Weighed, Preset}
+use Rattle.wb_office.specs.declared.refusal.Refusal.{Refusal}
+use Rattle.wb_office.specs.declared.refusal.Refusal.TheVariants as refusal
+use Rattle.wb_office.specs.Conditions.{already_open, below_min, damaged_first, journal_full, no_load, no_open, no_preset, not_cleared, overload, tare_active, underload, unstable}
+use Rattle.wb_office.specs.Verdict.{Condition, on}
+
+-- on the load
+abbrev pub of_load : List Condition
+of_load = on no_load refusal.NoLoad ∷ on overload refusal.Overload ∷ on underload refusal.Underload ∷ on unstable refusal.Unstable ∷ on below_min refusal.BelowMin ∷ []
+
+-- on the tare and the bridge
+abbrev pub of_tare : List Condition
+of_tare = on tare_active refusal.TareActive ∷ on no_preset refusal.NoPreset ∷ on not_cleared refusal.NotCleared ∷ []
+
+-- on the journal
+abbrev pub of_journal : List Condition
+of_journal =
+    on already_open refusal.AlreadyOpen ∷ on no_open refusal.NoOpen ∷ on damaged_first refusal.Damaged ∷ on journal_full refusal.JournalFull ∷ []
+
+-- why a load that is indicated so isn't stored
+abbrev pub refusal_of_shown : Indicated → Option Refusal
+refusal_of_shown NoLoad = Some refusal.NoLoad
+refusal_of_shown Over = Some refusal.Overload
+refusal_of_shown Under = Some refusal.Underload
+refusal_of_shown (Shown gross net stable) =
+    if not stable then Some refusal.Unstable
+    else if int_lt gross (pos 20) then Some refusal.BelowMin
+    else None
+
+-- a preset tare is in force, below a gross that is shown
+abbrev pub is_preset_below_shown : TareNow → Indicated → Bool
+is_preset_below_shown (Preset whole) (Shown gross net stable) = int_lt whole gross
+is_preset_below_shown (Preset whole) NoLoad = false
+is_preset_below_shown (Preset whole) Over = false
+is_preset_below_shown (Preset whole) Under = false
+is_preset_below_shown (Weighed tenths) indicated = false
+is_preset_below_shown Empty indicated = false

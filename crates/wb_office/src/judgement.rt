@@ -1,0 +1,175 @@
+//! The conditions on which a weighing or void whose key is new is refused, in their order.
+ghost use Rattle.std.specs.Prelude.{◌≡◌, ◌+◌, ◌&&◌, nat_lt, not, None};
+ghost use Rattle.wb_journal.specs.Kind.{is_second as is_second_kind, is_void};
+ghost use Rattle.wb_office.specs.Asking.{Asking};
+ghost use Rattle.wb_office.specs.Conditions.{already_open, clock_back, damaged_first, journal_full, no_open, no_preset, not_cleared, places_of as places_needed, tare_active};
+ghost use Rattle.wb_office.specs.Judging.{is_preset_below_shown, of_load, refusal_of_shown};
+ghost use Rattle.wb_office.specs.Shows.{Shows};
+ghost use Rattle.wb_office.specs.Verdict.{first_refusal};
+
+use crate::evidence::{Evidence, OfJournal};
+use crate::refusal::Refusal;
+use wb_journal::{Kind, is_sound};
+use wb_scale::{Indicated, TareNow};
+
+/// Min in class III with e of 5 g or more, in intervals (OIML R 76-1:2006, 3.2).
+const MIN_INTERVALS: i32 = 20;
+
+/// The last number of an entry.
+const LAST_NUMBER: u64 = 4_294_967_295;
+
+impl Evidence {
+    /// Whether the moment is less than that of the newest entry.
+    fn is_clock_back(&self) -> bool
+        ensures { (a : Asking) → Shows self.now a → result ≡ clock_back a }
+    {
+        match &self.journal.newest {
+            Some(newest) => self.at.seconds() < newest.moment().seconds(),
+            None => false,
+        }
+    }
+
+    /// Why the load is refused.
+    fn refusal_of_load(&self) -> Option<Refusal>
+        ensures { (a : Asking) → Shows self.now a
+            → result ≡ first_refusal of_load a }
+    {
+        if weighs(self.kind) {
+            refusal_of_indication(self.scale.indicated)
+        } else {
+            None
+        }
+    }
+
+    /// Whether a tare is in force that the kind doesn't allow: any for a First or Second, a weighed one for a Single.
+    fn is_tare_active(&self) -> bool
+        ensures { (a : Asking) → Shows self.now a → result ≡ tare_active a }
+    {
+        match self.scale.tare {
+            TareNow::Empty => false,
+            TareNow::Weighed(_) => weighs(self.kind),
+            TareNow::Preset(_) => weighs(self.kind) && !self.kind.is_single(),
+        }
+    }
+
+    /// Whether a Single has no preset tare below its gross.
+    fn has_no_preset(&self) -> bool
+        ensures { (a : Asking) → Shows self.now a → first_refusal of_load a ≡ None
+            → result ≡ no_preset a }
+    {
+        self.kind.is_single() && !is_preset_below(self.scale.tare, self.scale.indicated)
+    }
+
+    /// Whether the bridge was to be cleared first.
+    fn is_not_cleared(&self) -> bool
+        ensures { (a : Asking) → Shows self.now a → result ≡ not_cleared a }
+    {
+        weighs(self.kind) && !self.scale.is_cleared
+    }
+
+    /// Whether a First finds a weighing of its plate open.
+    fn is_already_open(&self) -> bool
+        ensures { (a : Asking) → Shows self.now a → result ≡ already_open a }
+    {
+        self.kind.is_first() && self.journal.open.is_some()
+    }
+
+    /// Whether a Second or Void finds none.
+    fn has_no_open(&self) -> bool
+        ensures { (a : Asking) → Shows self.now a → result ≡ no_open a }
+    {
+        self.kind.is_closing() && self.journal.open.is_none()
+    }
+
+    /// Whether the First that a Second would close isn't sound.
+    fn is_first_damaged(&self) -> bool
+        ensures { (a : Asking) → Shows self.now a → result ≡ damaged_first a }
+    {
+        match &self.journal.open {
+            Some(open) => is_second(self.kind) && !is_sound(open),
+            None => false,
+        }
+    }
+
+    /// Whether the entry needs places that the journal hasn't, or a number after the last.
+    fn is_journal_full(&self) -> bool
+        ensures { (a : Asking) → Shows self.now a → result ≡ journal_full a }
+    {
+        lacks_places(self.capacity, &self.journal, places_of(self.kind))
+            || LAST_NUMBER < self.journal.next_number
+    }
+}
+
+/// Whether the free places of the journal are fewer than so many.
+fn lacks_places(capacity: u32, journal: &OfJournal, needed: usize) -> bool
+    ensures { result ≡ (nat_lt 0 needed && nat_lt capacity (journal.now.count + journal.now.open_count + needed)) }
+{
+    let taken = journal.count.saturating_add(journal.open_count);
+    (capacity as usize).saturating_sub(taken) < needed
+}
+
+/// The free places that an entry of the kind needs: a First keeps one for the entry that closes it, which so needs none.
+fn places_of(kind: Kind) -> usize
+    ensures { result ≡ places_needed kind }
+{
+    match kind {
+        Kind::First => 2,
+        Kind::Single => 1,
+        Kind::Second | Kind::Void => 0,
+    }
+}
+
+/// Whether a preset tare is in force below a gross that is shown.
+fn is_preset_below(tare: TareNow, indicated: Indicated) -> bool
+    ensures { result ≡ is_preset_below_shown tare indicated }
+{
+    match (tare, indicated) {
+        (
+            TareNow::Preset(whole),
+            Indicated::Shown {
+                gross,
+                net: _,
+                stable: _,
+            },
+        ) => whole < gross,
+        (TareNow::Preset(_), Indicated::NoLoad | Indicated::Over | Indicated::Under) => false,
+        (TareNow::Empty | TareNow::Weighed(_), _) => false,
+    }
+}
+
+fn is_second(kind: Kind) -> bool
+    ensures { result ≡ is_second_kind kind }
+{
+    matches!(kind, Kind::Second)
+}
+
+/// Whether an entry of the kind has a gross: each but a Void.
+fn weighs(kind: Kind) -> bool
+    ensures { result ≡ not (is_void kind) }
+{
+    !matches!(kind, Kind::Void)
+}
+
+/// Why a load that is indicated so isn't stored.
+fn refusal_of_indication(indicated: Indicated) -> Option<Refusal>
+    ensures { result ≡ refusal_of_shown indicated }
+{
+    match indicated {
+        Indicated::NoLoad => Some(Refusal::NoLoad),
+        Indicated::Over => Some(Refusal::Overload),
+        Indicated::Under => Some(Refusal::Underload),
+        Indicated::Shown {
+            gross,
+            net: _,
+            stable,
+        } => {
+            if !stable {
+                Some(Refusal::Unstable)
+            } else if gross < MIN_INTERVALS {
+                Some(Refusal::BelowMin)
+            } else {
+                None
+            }
+        }
+    }
+}
