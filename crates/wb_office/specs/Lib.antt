@@ -3,6 +3,7 @@ pub mod Asking
 pub mod Conditions
 pub mod Exports
 pub mod Judging
+pub mod Looks
 pub mod RefusalText
 pub mod Shows
 pub mod Verdict

@@ -9,6 +9,7 @@ mod answer;
 mod evidence;
 mod indication;
 mod judgement;
+mod looking;
 mod refusal;
 mod request;
 

@@ -1,0 +1,32 @@
+//! What the store shows of a journal.
+ghost use Rattle.wb_office.specs.Looks.{Looks};
+ghost use Rattle.wb_office.specs.Shows.{ShowsJournal};
+
+use crate::evidence::OfJournal;
+use sqlite::Alter;
+use std::alloc::Global;
+use wb_journal::Plate;
+use wb_store::{Store, StoreFault};
+
+/// What the journal shows of a plate.
+pub(crate) fn look_at_journal<D: Alter>(
+    alloc: Global,
+    store: &mut Store<D>,
+    plate: &Plate,
+) -> Result<OfJournal, StoreFault>
+    ensures { Looks D.Store store.old store.new result (λ entries spent journal.
+        ShowsJournal journal plate.now entries spent) }
+{
+    let newest = store.newest()?;
+    let open = store.open_of(plate)?;
+    let count = store.count()?;
+    let open_count = store.open_count(alloc)?;
+    let next_number = store.next_number()?;
+    Ok(OfJournal {
+        newest,
+        open,
+        count,
+        open_count,
+        next_number,
+    })
+}
