@@ -1,2 +1,4 @@
+mod InOrder
 mod LookUps
+mod NewEntry
 mod OfLoad

@@ -1,5 +1,5 @@
 -- Calls of the store that only read it, one after the other.
-use Rattle.std.proofs.Common.{◌≡◌, ◌∙◌, ◌↔◌, ap, sym, refl, true, false, List, Result, Ok, Err, IfOk}
+use Rattle.std.proofs.Common.{◌≡◌, ◌∙◌, ap, sym, List, Result, Ok, Err}
 use Rattle.sqlite.specs.Store.{Ghosts}
 use Rattle.wb_journal.specs.declared.entry.EntryParts.{EntryParts}
 use Rattle.wb_store.specs.declared.fault.StoreFault.{StoreFault}
@@ -36,7 +36,11 @@ module _ {D : Type 0} (g : Ghosts D) where
     keeps = record { stands = l.keeps.stands; leaves = l.keeps.leaves; known = l.keeps.known };
     closes = record {
       closed = ((λ e. l.closes.closed.0 (is_same_fault X f e)), λ e. is_same_fault Y f (l.closes.closed.1 e));
-      still = l.closes.still; closes = l.closes.closes; honest = l.closes.honest } }
+      still = l.closes.still;
+      closes = l.closes.closes;
+      honest = l.closes.honest;
+    };
+  }
 
   -- another thing is made of what was found
   pub made : {old new : StoreView D} {X Y : Type 0} (x : X) (y : Y) → Reads old new {X = X} (Ok x) → Reads old new {X = Y} (Ok y)
@@ -44,7 +48,11 @@ module _ {D : Type 0} (g : Ghosts D) where
     keeps = record { stands = l.keeps.stands; leaves = l.keeps.leaves; known = l.keeps.known };
     closes = record {
       closed = ((λ e. ok_is_no_fault y e), λ e. ok_is_no_fault x (l.closes.closed.1 e));
-      still = l.closes.still; closes = l.closes.closes; honest = l.closes.honest } }
+      still = l.closes.still;
+      closes = l.closes.closes;
+      honest = l.closes.honest;
+    };
+  }
 
   -- after a call that found something the store holds the lists that it held
   pub stood : {old mid : StoreView D} {X : Type 0} {x : X} → Reads old mid {X = X} (Ok x)
@@ -57,12 +65,15 @@ module _ {D : Type 0} (g : Ghosts D) where
     keeps = record {
       stands = λ es ks s h. next.keeps.stands es ks (stood first s (next.closes.honest h)) h;
       leaves = λ es ks s h. next.keeps.leaves es ks (stood first s (next.closes.honest h)) h;
-      known = λ es ks s h. next.keeps.known es ks (stood first s (next.closes.honest h)) h };
+      known = λ es ks s h. next.keeps.known es ks (stood first s (next.closes.honest h)) h;
+    };
     closes = record {
       closed = ((λ e. sym first.closes.closes ∙ next.closes.closed.0 e), λ e. next.closes.closed.1 (first.closes.closes ∙ e));
       still = λ e. ok_is_no_fault {X = X} x (first.closes.closed.1 e);
       closes = next.closes.closes ∙ ap (λ was. closed_by was r) first.closes.closes;
-      honest = λ h. first.closes.honest (next.closes.honest h) } }
+      honest = λ h. first.closes.honest (next.closes.honest h);
+    };
+  }
 
   -- a refused look-up has told nothing
   pub nothing_told : {old new : StoreView D} {X : Type 0} {f : StoreFault} {P : List EntryParts → List SpentKey → X → Type 0} → Reads old new {X = X} (Err f) → Looks g old new (Err f) P

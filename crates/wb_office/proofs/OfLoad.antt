@@ -4,6 +4,9 @@ use Rattle.std.specs.Prelude.{int_lt, is_none, option_map, ◌-ℤ◌}
 use Rattle.wb_instrument.specs.Limits.{is_over, is_under}
 use Rattle.wb_instrument.specs.Rounding.{round}
 use Rattle.wb_instrument.specs.Setup.{Setup}
+use Rattle.wb_journal.specs.declared.kind.Kind.{Kind}
+use Rattle.wb_journal.specs.declared.kind.Kind.TheVariants.{First, Second, Single, Void}
+use Rattle.wb_journal.specs.Kind.{is_void}
 use Rattle.wb_scale.specs.Indication.{gross, indicated, indicated_at, shown}
 use Rattle.wb_scale.specs.Tare.{tare_now, tare_tenths}
 use Rattle.wb_scale.specs.Zero.{above_zero}
@@ -15,8 +18,8 @@ use Rattle.wb_scale.specs.declared.answers.TareNow.TheVariants.{Empty, Weighed, 
 use Rattle.wb_scale.specs.Moment.{readings}
 use Rattle.wb_office.specs.Asking.{Asking}
 use Rattle.wb_office.specs.Conditions.{holds_of, is_preset_below, weighs}
-use Rattle.wb_office.specs.Judging.{is_preset_below_shown, of_load, refusal_of_shown}
-use Rattle.wb_office.specs.Verdict.{first_refusal}
+use Rattle.wb_office.specs.Judging.{gross_of_shown, gross_shown, is_preset_below_shown, of_load, refusal_of_shown}
+use Rattle.wb_office.specs.Verdict.{first_refusal, gross_kg, kilograms}
 
 -- the conditions on a load of a First, Second or Single, one after the other
 in_order : Setup → Bool → Bool → Option ℤ → Option Refusal
@@ -70,4 +73,33 @@ pub preset_by_indication : (a : Asking) (tare : TareNow) → weighs a ≡ true �
 unfolding indicated above_zero
 preset_by_indication a tare w free =
     preset_of_indicated a.now.setup (is_stable a.now.setup.window a.now.setup.band (readings a.now.history)) (tare_now a.now.history) tare (above_zero a.now.history)
-      (by_indication a w ∙ free)
+    (by_indication a w ∙ free)
+
+gross_of_indicated : (s : Setup) (stable : Bool) (now : TareNow) (tenths : Option ℤ) → refusal_of_shown (indicated_at s stable now tenths) ≡ None
+    → gross_shown s (indicated_at s stable now tenths) ≡ option_map (kilograms s) (option_map round tenths)
+gross_of_indicated s stable now None free = absurd (cc)
+gross_of_indicated s stable now (Some tenths) free = go (is_over s (round tenths)) (is_under (round tenths)) refl refl free
+  where
+    go : (over under : Bool) → is_over s (round tenths) ≡ over → is_under (round tenths) ≡ under → refusal_of_shown (indicated_at s stable now (Some tenths)) ≡ None
+        → gross_shown s (indicated_at s stable now (Some tenths)) ≡ Some (kilograms s (round tenths))
+    go true under o u f = absurd (cc (rw o at f))
+    go false true o u f = absurd (cc (rw (o, u) at f))
+    go false false o u f = rw (o, u) refl
+
+-- where no load is refused, the gross that is stored is that which is shown
+pub gross_by_indication : (a : Asking) → first_refusal of_load a ≡ None
+    → gross_of_shown a.now.setup a.kind (indicated a.now.setup a.now.history) ≡ gross_kg a.now.setup a.kind (gross a.now.history)
+unfolding indicated above_zero
+gross_by_indication a free = go a.kind (λ w. by_indication a w ∙ free)
+  where
+    shown_gross : refusal_of_shown (indicated a.now.setup a.now.history) ≡ None
+        → gross_shown a.now.setup (indicated a.now.setup a.now.history) ≡ option_map (kilograms a.now.setup) (gross a.now.history)
+    shown_gross f =
+        gross_of_indicated a.now.setup (is_stable a.now.setup.window a.now.setup.band (readings a.now.history)) (tare_now a.now.history) (above_zero a.now.history) f
+
+    go : (k : Kind) → (not (is_void k) ≡ true → refusal_of_shown (indicated a.now.setup a.now.history) ≡ None)
+        → gross_of_shown a.now.setup k (indicated a.now.setup a.now.history) ≡ gross_kg a.now.setup k (gross a.now.history)
+    go First f = shown_gross (f refl)
+    go Second f = shown_gross (f refl)
+    go Single f = shown_gross (f refl)
+    go Void f = refl

@@ -1,5 +1,8 @@
 -- Groups of conditions, in their order, as the code judges them.
-use Rattle.std.specs.Prelude.{Bool, false, not, if◌then◌else◌, List, [], ◌∷◌, Option, Some, None, pos, int_lt}
+use Rattle.std.specs.Prelude.{ℕ, Bool, false, not, if◌then◌else◌, List, [], ◌∷◌, Option, Some, None, pos, int_lt}
+use Rattle.wb_instrument.specs.Setup.{Setup}
+use Rattle.wb_journal.specs.declared.kind.Kind.{Kind}
+use Rattle.wb_journal.specs.declared.kind.Kind.TheVariants.{First, Second, Single, Void}
 use Rattle.wb_scale.specs.declared.answers.Indicated.{Indicated}
 use Rattle.wb_scale.specs.declared.answers.Indicated.TheVariants.{NoLoad, Over, Under, Shown}
 use Rattle.wb_scale.specs.declared.answers.TareNow.{TareNow}
@@ -7,7 +10,7 @@ use Rattle.wb_scale.specs.declared.answers.TareNow.TheVariants.{Empty, Weighed, 
 use Rattle.wb_office.specs.declared.refusal.Refusal.{Refusal}
 use Rattle.wb_office.specs.declared.refusal.Refusal.TheVariants as refusal
 use Rattle.wb_office.specs.Conditions.{already_open, below_min, damaged_first, journal_full, no_load, no_open, no_preset, not_cleared, overload, tare_active, underload, unstable}
-use Rattle.wb_office.specs.Verdict.{Condition, on}
+use Rattle.wb_office.specs.Verdict.{Condition, kilograms, on}
 
 -- on the load
 abbrev pub of_load : List Condition
@@ -40,3 +43,16 @@ is_preset_below_shown (Preset whole) Over = false
 is_preset_below_shown (Preset whole) Under = false
 is_preset_below_shown (Weighed tenths) indicated = false
 is_preset_below_shown Empty indicated = false
+
+abbrev pub gross_shown : Setup → Indicated → Option ℕ
+gross_shown s NoLoad = None
+gross_shown s Over = None
+gross_shown s Under = None
+gross_shown s (Shown gross net stable) = Some (kilograms s gross)
+
+-- the gross that is stored of what is indicated; none for a Void
+abbrev pub gross_of_shown : Setup → Kind → Indicated → Option ℕ
+gross_of_shown s First indicated = gross_shown s indicated
+gross_of_shown s Second indicated = gross_shown s indicated
+gross_of_shown s Single indicated = gross_shown s indicated
+gross_of_shown s Void indicated = None

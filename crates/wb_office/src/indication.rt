@@ -54,7 +54,8 @@ fn motion(stable: bool) -> &'static str
     if stable { "STABLE" } else { "MOVING" }
 }
 
-fn kilograms(instrument: &Instrument, whole: i32) -> i32
+/// So many intervals in kilograms.
+pub(crate) fn kilograms(instrument: &Instrument, whole: i32) -> i32
     requires least { neg_ℤ (pos (intervals instrument.now + 20)) ≤ℤ whole }
     requires most { whole ≤ℤ pos (intervals instrument.now + 9) }
     ensures { result ≡ pos instrument.now.interval_kg *ℤ whole }

@@ -3,9 +3,9 @@ ghost use Rattle.std.specs.Prelude.{◌≡◌, ◌+◌, ◌&&◌, nat_lt, not, N
 ghost use Rattle.wb_journal.specs.Kind.{is_second as is_second_kind, is_void};
 ghost use Rattle.wb_office.specs.Asking.{Asking};
 ghost use Rattle.wb_office.specs.Conditions.{already_open, clock_back, damaged_first, journal_full, no_open, no_preset, not_cleared, places_of as places_needed, tare_active};
-ghost use Rattle.wb_office.specs.Judging.{is_preset_below_shown, of_load, refusal_of_shown};
+ghost use Rattle.wb_office.specs.Judging.{is_preset_below_shown, of_journal, of_load, of_tare, refusal_of_shown};
 ghost use Rattle.wb_office.specs.Shows.{Shows};
-ghost use Rattle.wb_office.specs.Verdict.{first_refusal};
+ghost use Rattle.wb_office.specs.Verdict.{first_refusal, of_new};
 
 use crate::evidence::{Evidence, OfJournal};
 use crate::refusal::Refusal;
@@ -19,6 +19,22 @@ const MIN_INTERVALS: i32 = 20;
 const LAST_NUMBER: u64 = 4_294_967_295;
 
 impl Evidence {
+    /// Why the weighing or void is refused: by the first condition that holds.
+    pub(crate) fn refusal(&self) -> Option<Refusal>
+        ensures { (a : Asking) → Shows self.now a → result ≡ first_refusal of_new a }
+    {
+        if self.is_clock_back() {
+            return Some(Refusal::ClockBack);
+        }
+        if let Some(refusal) = self.refusal_of_load() {
+            return Some(refusal);
+        }
+        if let Some(refusal) = self.refusal_of_tare() {
+            return Some(refusal);
+        }
+        self.refusal_of_journal()
+    }
+
     /// Whether the moment is less than that of the newest entry.
     fn is_clock_back(&self) -> bool
         ensures { (a : Asking) → Shows self.now a → result ≡ clock_back a }
@@ -39,6 +55,42 @@ impl Evidence {
         } else {
             None
         }
+    }
+
+    /// Why the tare or the bridge is refused, where the load isn't.
+    fn refusal_of_tare(&self) -> Option<Refusal>
+        ensures { (a : Asking) → Shows self.now a → first_refusal of_load a ≡ None
+            → result ≡ first_refusal of_tare a }
+    {
+        if self.is_tare_active() {
+            return Some(Refusal::TareActive);
+        }
+        if self.has_no_preset() {
+            return Some(Refusal::NoPreset);
+        }
+        if self.is_not_cleared() {
+            return Some(Refusal::NotCleared);
+        }
+        None
+    }
+
+    /// Why the journal refuses it.
+    fn refusal_of_journal(&self) -> Option<Refusal>
+        ensures { (a : Asking) → Shows self.now a → result ≡ first_refusal of_journal a }
+    {
+        if self.is_already_open() {
+            return Some(Refusal::AlreadyOpen);
+        }
+        if self.has_no_open() {
+            return Some(Refusal::NoOpen);
+        }
+        if self.is_first_damaged() {
+            return Some(Refusal::Damaged);
+        }
+        if self.is_journal_full() {
+            return Some(Refusal::JournalFull);
+        }
+        None
     }
 
     /// Whether a tare is in force that the kind doesn't allow: any for a First or Second, a weighed one for a Single.

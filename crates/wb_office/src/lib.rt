@@ -10,6 +10,7 @@ mod evidence;
 mod indication;
 mod judgement;
 mod looking;
+mod new_entry;
 mod refusal;
 mod request;
 

@@ -1,4 +1,4 @@
-use Rattle.std.proofs.Common.{◌≡◌, Err, rules, Result}
+use Rattle.std.proofs.Common.{◌≡◌, Err, rules}
 use Rattle.wb_office.proofs.LookUps.{also, made, nothing_told, reads, stood, stop, told}
 use Rattle.wb_office.proofs.looking.look_at_journal.Goals as goal
 
@@ -44,17 +44,18 @@ returns g c =
     let four = reads g.D.Store c.in_ok-open_count.ensures.keeps c.in_ok-open_count.ensures.closes in
     let five = reads g.D.Store c.in_ok-next_number.ensures.keeps c.in_ok-next_number.ensures.closes in
     told g.D.Store (made g.D.Store _ _ (also g.D.Store (also g.D.Store (also g.D.Store (also g.D.Store one two) three) four) five)) (λ es ks s h5.
-      let h4 = c.in_ok-next_number.ensures.closes.honest h5 in
-      let h3 = c.in_ok-open_count.ensures.closes.honest h4 in
-      let h2 = c.in_ok-count.ensures.closes.honest h3 in
-      let h1 = c.in_ok-open.ensures.closes.honest h2 in
-      let s1 = stood g.D.Store one s h1 in
-      let s2 = stood g.D.Store two s1 h2 in
-      let s3 = stood g.D.Store three s2 h3 in
-      let s4 = stood g.D.Store four s3 h4 in
-      record {
-        last = c.in_ok-newest.ensures.found es ks s h1;
-        open_one = c.in_ok-open.ensures.found es ks s1 h2;
-        entries = c.in_ok-count.ensures.found es ks s2 h3;
-        firsts = c.in_ok-open_count.ensures.found es ks s3 h4;
-        next = c.in_ok-next_number.ensures.found es ks s4 h5 })
+    let h4 = c.in_ok-next_number.ensures.closes.honest h5 in
+    let h3 = c.in_ok-open_count.ensures.closes.honest h4 in
+    let h2 = c.in_ok-count.ensures.closes.honest h3 in
+    let h1 = c.in_ok-open.ensures.closes.honest h2 in
+    let s1 = stood g.D.Store one s h1 in
+    let s2 = stood g.D.Store two s1 h2 in
+    let s3 = stood g.D.Store three s2 h3 in
+    let s4 = stood g.D.Store four s3 h4 in
+    record {
+      last = c.in_ok-newest.ensures.found es ks s h1;
+      open_one = c.in_ok-open.ensures.found es ks s1 h2;
+      entries = c.in_ok-count.ensures.found es ks s2 h3;
+      firsts = c.in_ok-open_count.ensures.found es ks s3 h4;
+      next = c.in_ok-next_number.ensures.found es ks s4 h5;
+    })

@@ -19,7 +19,7 @@ pub returns-then-is_single : goal.returns-then-is_single
 returns-then-is_single c = λ a shows fits.
     let single : is_single a.kind ≡ true = ap is_single (sym shows.of_kind) ∙ sym c.is_single.ensures ∙ c.if-is_single.true in
     let same : c.is_preset_below.result ≡ is_preset_below (tare_now a.now.history) (gross a.now.history) = c.is_preset_below.ensures
-      ∙ ap (λ t. is_preset_below_shown t c.args.self.now.scale.indicated) shows.scale_shown.in_force
-      ∙ ap (λ i. is_preset_below_shown (tare_now a.now.history) i) shows.scale_shown.shown
-      ∙ preset_by_indication a (tare_now a.now.history) (single_weighs a.kind single) fits in
+    ∙ ap (λ t. is_preset_below_shown t c.args.self.now.scale.indicated) shows.scale_shown.in_force
+    ∙ ap (λ i. is_preset_below_shown (tare_now a.now.history) i) shows.scale_shown.shown
+    ∙ preset_by_indication a (tare_now a.now.history) (single_weighs a.kind single) fits in
     rw single (ap not same)
