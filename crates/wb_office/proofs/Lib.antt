@@ -1,4 +1,6 @@
+mod Found
 mod InOrder
 mod LookUps
 mod NewEntry
 mod OfLoad
+mod Verdicts

@@ -1,5 +1,5 @@
 -- Calls of the store that only read it, one after the other.
-use Rattle.std.proofs.Common.{◌≡◌, ◌∙◌, ap, sym, List, Result, Ok, Err}
+use Rattle.std.proofs.Common.{◌≡◌, ◌∙◌, ap, sym, List, Result, Ok, Err, IfOk}
 use Rattle.sqlite.specs.Store.{Ghosts}
 use Rattle.wb_journal.specs.declared.entry.EntryParts.{EntryParts}
 use Rattle.wb_store.specs.declared.fault.StoreFault.{StoreFault}
@@ -20,6 +20,10 @@ is_same_fault Y f same = ap Err (ap the_fault same)
 
 ok_is_no_fault : {X : Type 0} {C : Type 0} (x : X) → ◌≡◌ {A = Result X StoreFault} (Ok x) (Err Closed) → C
 ok_is_no_fault x same = absurd (cc)
+
+if_ok_map : {Y : Type 0} (P Q : Y → Type 0) (r : Result Y StoreFault) → ((y : Y) → P y → Q y) → IfOk r P → IfOk r Q
+if_ok_map P Q (Ok y) follows p = follows y p
+if_ok_map P Q (Err f) follows p = p
 
 module _ {D : Type 0} (g : Ghosts D) where
   -- a call that keeps the lists, whatever it answers
@@ -83,3 +87,12 @@ module _ {D : Type 0} (g : Ghosts D) where
   pub told : {old new : StoreView D} {X : Type 0} {x : X} {P : List EntryParts → List SpentKey → X → Type 0} → Reads old new {X = X} (Ok x)
       → ((es : List EntryParts) (ks : List SpentKey) → Stands g old es ks → IsHonest g new → P es ks x) → Looks g old new (Ok x) P
   told l tells = record { tells = tells; keeps = l.keeps; closes = l.closes }
+
+  -- what a later look-up tells, together with what was found before
+  pub then_told : {old mid new : StoreView D} {X Y : Type 0} {x : X} {r : Result Y StoreFault} {P Q : List EntryParts → List SpentKey → Y → Type 0} → Reads old mid {X = X} (Ok x)
+      → Looks g mid new r P → ((es : List EntryParts) (ks : List SpentKey) → Stands g old es ks → IsHonest g mid → (y : Y) → P es ks y → Q es ks y) → Looks g old new r Q
+  then_told {r = r} {P = P} {Q = Q} first next follows = record {
+    tells = λ es ks s h. if_ok_map (P es ks) (Q es ks) r (follows es ks s (next.closes.honest h)) (next.tells es ks (stood first s (next.closes.honest h)) h);
+    keeps = (also first (reads next.keeps next.closes)).keeps;
+    closes = (also first (reads next.keeps next.closes)).closes;
+  }

@@ -2,6 +2,7 @@ pub mod Answer
 pub mod Asking
 pub mod Conditions
 pub mod Exports
+pub mod Judged
 pub mod Judging
 pub mod Looks
 pub mod RefusalText

@@ -189,7 +189,8 @@ fn is_preset_below(tare: TareNow, indicated: Indicated) -> bool
     }
 }
 
-fn is_second(kind: Kind) -> bool
+/// Whether an entry of the kind is a Second.
+pub(crate) fn is_second(kind: Kind) -> bool
     ensures { result ≡ is_second_kind kind }
 {
     matches!(kind, Kind::Second)

@@ -9,6 +9,7 @@ mod answer;
 mod evidence;
 mod indication;
 mod judgement;
+mod judging;
 mod looking;
 mod new_entry;
 mod refusal;

@@ -1,0 +1,177 @@
+//! The judgement of a weighing or void.
+ghost use Rattle.std.specs.Prelude.{◌≡◌, false, not, Some, None};
+ghost use Rattle.std.specs.Option.{option_copied};
+ghost use Rattle.wb_journal.specs.Digest.{is_sound as is_sound_entry};
+ghost use Rattle.wb_journal.specs.Kind.{same_kind};
+ghost use Rattle.wb_journal.specs.Pairs.{partner_of};
+ghost use Rattle.wb_office.specs.Asking.{Asking};
+ghost use Rattle.wb_office.specs.Conditions.{gone, holds_of, is_other};
+ghost use Rattle.wb_office.specs.Judging.{is_damaged_with};
+ghost use Rattle.wb_office.specs.Judged.{AsksFor, IsJudged, IsOnLists, IsOnScale};
+ghost use Rattle.wb_office.specs.Looks.{Looks};
+ghost use Rattle.wb_office.specs.Shows.{Shows, ShowsScale};
+ghost use Rattle.wb_scale.specs.Indication.{IsInRange};
+ghost use Rattle.wb_scale.specs.Tare.{IsTare};
+ghost use Rattle.wb_store.specs.Lists.{AreLists, by_key};
+
+use crate::evidence::{Evidence, OfScale};
+use crate::judgement::is_second;
+use crate::looking::look_at_journal;
+use crate::new_entry::new_entry;
+use crate::refusal::Refusal;
+use sqlite::Alter;
+use std::alloc::Global;
+use wb_instrument::Instrument;
+use wb_journal::{Entry, Key, Kind, Moment, Plate, is_sound};
+use wb_scale::Scale;
+use wb_store::{Store, StoreFault};
+use wb_window::Window;
+
+/// A weighing or void that is asked for.
+#[derive(Debug, Drop)]
+pub(crate) struct Asked {
+    pub(crate) at: Moment,
+    pub(crate) key: Key,
+    pub(crate) kind: Kind,
+    pub(crate) plate: Plate,
+}
+
+/// What comes of it.
+#[derive(Debug, Drop)]
+pub(crate) enum Judgement {
+    Refused(Refusal),
+    /// The key repeats this entry; a Second comes with its partner.
+    Repeated(Entry, Option<Entry>),
+    /// This entry is to be added; a Second comes with the First that it closes.
+    Accepted(Entry, Option<Entry>),
+}
+
+/// Judges a repeated key: of the entry with the key, and its partner.
+fn judge_repetition(entry: Entry, partner: Option<Entry>, asked: &Asked) -> Judgement
+    ensures { (a : Asking) → AsksFor asked.now a → AreLists a.now.entries a.now.spent
+        → by_key a.now.entries a.key ≡ Some entry
+        → partner ≡ partner_of a.now.entries entry.number → IsJudged result a }
+{
+    if !is_same(&entry, asked) {
+        return Judgement::Refused(Refusal::KeyReused);
+    }
+    if is_damaged(&entry, partner.as_ref()) {
+        return Judgement::Refused(Refusal::Damaged);
+    }
+    Judgement::Repeated(entry, partner)
+}
+
+/// Whether the entry is of the kind and the plate that are asked for.
+fn is_same(entry: &Entry, asked: &Asked) -> bool
+    ensures { (a : Asking) → AsksFor asked.now a → result ≡ not (is_other a entry.now) }
+{
+    is_same_kind(entry.kind(), asked.kind) && entry.plate().as_str() == asked.plate.as_str()
+}
+
+fn is_same_kind(one: Kind, other: Kind) -> bool
+    ensures { result ≡ same_kind one other }
+{
+    match one {
+        Kind::First => other.is_first(),
+        Kind::Second => matches!(other, Kind::Second),
+        Kind::Single => other.is_single(),
+        Kind::Void => matches!(other, Kind::Void),
+    }
+}
+
+/// Whether the entry isn't sound, or is a Second whose partner is missing or isn't sound.
+fn is_damaged(entry: &Entry, partner: Option<&Entry>) -> bool
+    ensures { result ≡ is_damaged_with entry.now (option_copied partner.entry) }
+{
+    !is_sound(entry) || (is_second(entry.kind()) && lacks_sound(partner))
+}
+
+/// Whether there is no entry that is sound.
+fn lacks_sound(partner: Option<&Entry>) -> bool
+    ensures { result ≡ not (holds_of is_sound_entry (option_copied partner.entry)) }
+{
+    match partner {
+        Some(partner) => !is_sound(partner),
+        None => true,
+    }
+}
+
+/// Judges a weighing or void.
+pub(crate) fn judge<W: Window, D: Alter>(
+    alloc: Global,
+    store: &mut Store<D>,
+    scale: &Scale<W>,
+    asked: Asked,
+) -> Result<Judgement, StoreFault>
+    ensures { Looks D.Store store.old store.new result (λ es ks judgement. (a : Asking)
+        → AsksFor asked a → IsOnScale scale.now a → IsOnLists es ks a → IsJudged judgement a) }
+{
+    match store.by_key(&asked.key)? {
+        Some(entry) => {
+            let partner = store.partner(entry.number())?;
+            Ok(judge_repetition(entry, partner, &asked))
+        }
+        None => judge_new(alloc, store, scale, asked),
+    }
+}
+
+/// Judges a key that no entry has.
+fn judge_new<W: Window, D: Alter>(
+    alloc: Global,
+    store: &mut Store<D>,
+    scale: &Scale<W>,
+    asked: Asked,
+) -> Result<Judgement, StoreFault>
+    ensures { Looks D.Store store.old store.new result (λ es ks judgement. (a : Asking)
+        → AsksFor asked a → IsOnScale scale.now a → IsOnLists es ks a
+        → by_key a.now.entries a.key ≡ None → IsJudged judgement a) }
+{
+    if store.spent(&asked.key)? {
+        return Ok(Judgement::Refused(Refusal::Gone));
+    }
+    let journal = look_at_journal(alloc, store, &asked.plate)?;
+    let instrument = scale.instrument();
+    let evidence = Evidence {
+        kind: asked.kind,
+        at: asked.at,
+        capacity: instrument.capacity(),
+        scale: shown(scale),
+        journal,
+    };
+    Ok(judge_evidence(instrument, evidence, asked))
+}
+
+/// What the scale shows.
+fn shown<W: Window>(scale: &Scale<W>) -> OfScale
+    ensures shows { (a : Asking) → IsOnScale scale.now a → ShowsScale result a.now }
+    ensures load { IsInRange scale.now.setup result.indicated }
+    ensures tare { IsTare scale.now.setup result.tare }
+{
+    OfScale {
+        indicated: scale.indicated(),
+        tare: scale.tare_in_force(),
+        is_cleared: scale.is_cleared(),
+    }
+}
+
+/// Judges what the scale and the journal show.
+fn judge_evidence(instrument: &Instrument, evidence: Evidence, asked: Asked) -> Judgement
+    requires load { IsInRange instrument.now evidence.scale.indicated }
+    requires tare { IsTare instrument.now evidence.scale.tare }
+    ensures { (a : Asking) → AsksFor asked a → a.now.setup ≡ instrument.now → Shows evidence a
+        → by_key a.now.entries a.key ≡ None → gone a ≡ false → IsJudged result a }
+{
+    if let Some(refusal) = evidence.refusal() {
+        return Judgement::Refused(refusal);
+    }
+    let Asked {
+        at: _,
+        key,
+        kind: _,
+        plate,
+    } = asked;
+    match new_entry(&evidence, key, plate, instrument) {
+        Some(entry) => Judgement::Accepted(entry, evidence.journal.open),
+        None => Judgement::Refused(Refusal::JournalFull),
+    }
+}
