@@ -3,4 +3,5 @@ mod InOrder
 mod LookUps
 mod NewEntry
 mod OfLoad
+mod Serving
 mod Verdicts

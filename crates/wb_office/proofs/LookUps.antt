@@ -18,7 +18,7 @@ is_same_fault : {X : Type 0} (Y : Type 0) (f : StoreFault) → ◌≡◌ {A = Re
 unfolding the_fault
 is_same_fault Y f same = ap Err (ap the_fault same)
 
-ok_is_no_fault : {X : Type 0} {C : Type 0} (x : X) → ◌≡◌ {A = Result X StoreFault} (Ok x) (Err Closed) → C
+pub ok_is_no_fault : {X : Type 0} {C : Type 0} (x : X) → ◌≡◌ {A = Result X StoreFault} (Ok x) (Err Closed) → C
 ok_is_no_fault x same = absurd (cc)
 
 if_ok_map : {Y : Type 0} (P Q : Y → Type 0) (r : Result Y StoreFault) → ((y : Y) → P y → Q y) → IfOk r P → IfOk r Q

@@ -1,5 +1,5 @@
 -- A judgement is the verdict, and brings the entry that goes with it.
-use Rattle.std.specs.Prelude.{◌≡◌, true, List, Option}
+use Rattle.std.specs.Prelude.{◌≡◌, Bool, not, true, List, Option}
 use Rattle.wb_journal.specs.declared.entry.EntryParts.{EntryParts}
 use Rattle.wb_journal.specs.Kind.{is_second}
 use Rattle.wb_journal.specs.Pairs.{open_of, partner}
@@ -13,6 +13,7 @@ use Rattle.wb_office.specs.declared.judging.Asked.{Asked}
 use Rattle.wb_office.specs.declared.judging.Judgement.{Judgement}
 use Rattle.wb_office.specs.declared.judging.Judgement.TheVariants.{Refused, Repeated, Accepted}
 use Rattle.wb_office.specs.Asking.{Asking}
+use Rattle.wb_office.specs.Serves.{is_of_store}
 use Rattle.wb_office.specs.Verdict.{accepted, refused, repeated, verdict}
 
 -- the weighing or void is asked for
@@ -50,3 +51,9 @@ abbrev pub IsJudged : Judgement → Asking → Type 0
 IsJudged (Refused why) a = verdict a ≡ refused why
 IsJudged (Repeated e p) a = IsRepetition e p a
 IsJudged (Accepted e p) a = IsAccepted e p a
+
+-- no refusal is the store's
+abbrev pub is_plain : Judgement → Bool
+is_plain (Refused why) = not (is_of_store why)
+is_plain (Repeated e p) = true
+is_plain (Accepted e p) = true

@@ -6,5 +6,7 @@ pub mod Judged
 pub mod Judging
 pub mod Looks
 pub mod RefusalText
+pub mod Serves
 pub mod Shows
 pub mod Verdict
+pub mod Weighing

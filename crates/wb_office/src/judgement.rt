@@ -1,9 +1,10 @@
 //! The conditions on which a weighing or void whose key is new is refused, in their order.
-ghost use Rattle.std.specs.Prelude.{◌≡◌, ◌+◌, ◌&&◌, nat_lt, not, None};
+ghost use Rattle.std.specs.Prelude.{◌≡◌, ◌+◌, ◌&&◌, IfSome, None, false, nat_lt, not};
 ghost use Rattle.wb_journal.specs.Kind.{is_second as is_second_kind, is_void};
 ghost use Rattle.wb_office.specs.Asking.{Asking};
 ghost use Rattle.wb_office.specs.Conditions.{already_open, clock_back, damaged_first, journal_full, no_open, no_preset, not_cleared, places_of as places_needed, tare_active};
 ghost use Rattle.wb_office.specs.Judging.{is_preset_below_shown, of_journal, of_load, of_tare, refusal_of_shown};
+ghost use Rattle.wb_office.specs.Serves.{is_of_store};
 ghost use Rattle.wb_office.specs.Shows.{Shows};
 ghost use Rattle.wb_office.specs.Verdict.{first_refusal, of_new};
 
@@ -21,7 +22,8 @@ const LAST_NUMBER: u64 = 4_294_967_295;
 impl Evidence {
     /// Why the weighing or void is refused: by the first condition that holds.
     pub(crate) fn refusal(&self) -> Option<Refusal>
-        ensures { (a : Asking) → Shows self.now a → result ≡ first_refusal of_new a }
+        ensures judged { (a : Asking) → Shows self.now a → result ≡ first_refusal of_new a }
+        ensures plain { IfSome result (λ why. is_of_store why ≡ false) }
     {
         if self.is_clock_back() {
             return Some(Refusal::ClockBack);
@@ -47,8 +49,8 @@ impl Evidence {
 
     /// Why the load is refused.
     fn refusal_of_load(&self) -> Option<Refusal>
-        ensures { (a : Asking) → Shows self.now a
-            → result ≡ first_refusal of_load a }
+        ensures judged { (a : Asking) → Shows self.now a → result ≡ first_refusal of_load a }
+        ensures plain { IfSome result (λ why. is_of_store why ≡ false) }
     {
         if weighs(self.kind) {
             refusal_of_indication(self.scale.indicated)
@@ -59,8 +61,9 @@ impl Evidence {
 
     /// Why the tare or the bridge is refused, where the load isn't.
     fn refusal_of_tare(&self) -> Option<Refusal>
-        ensures { (a : Asking) → Shows self.now a → first_refusal of_load a ≡ None
+        ensures judged { (a : Asking) → Shows self.now a → first_refusal of_load a ≡ None
             → result ≡ first_refusal of_tare a }
+        ensures plain { IfSome result (λ why. is_of_store why ≡ false) }
     {
         if self.is_tare_active() {
             return Some(Refusal::TareActive);
@@ -76,7 +79,8 @@ impl Evidence {
 
     /// Why the journal refuses it.
     fn refusal_of_journal(&self) -> Option<Refusal>
-        ensures { (a : Asking) → Shows self.now a → result ≡ first_refusal of_journal a }
+        ensures judged { (a : Asking) → Shows self.now a → result ≡ first_refusal of_journal a }
+        ensures plain { IfSome result (λ why. is_of_store why ≡ false) }
     {
         if self.is_already_open() {
             return Some(Refusal::AlreadyOpen);
@@ -197,7 +201,7 @@ pub(crate) fn is_second(kind: Kind) -> bool
 }
 
 /// Whether an entry of the kind has a gross: each but a Void.
-fn weighs(kind: Kind) -> bool
+pub(crate) fn weighs(kind: Kind) -> bool
     ensures { result ≡ not (is_void kind) }
 {
     !matches!(kind, Kind::Void)
@@ -205,7 +209,8 @@ fn weighs(kind: Kind) -> bool
 
 /// Why a load that is indicated so isn't stored.
 fn refusal_of_indication(indicated: Indicated) -> Option<Refusal>
-    ensures { result ≡ refusal_of_shown indicated }
+    ensures value { result ≡ refusal_of_shown indicated }
+    ensures plain { IfSome result (λ why. is_of_store why ≡ false) }
 {
     match indicated {
         Indicated::NoLoad => Some(Refusal::NoLoad),

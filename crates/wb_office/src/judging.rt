@@ -1,5 +1,5 @@
 //! The judgement of a weighing or void.
-ghost use Rattle.std.specs.Prelude.{◌≡◌, false, not, Some, None};
+ghost use Rattle.std.specs.Prelude.{◌≡◌, IfOk, None, Some, false, not, true};
 ghost use Rattle.std.specs.Option.{option_copied};
 ghost use Rattle.wb_journal.specs.Digest.{is_sound as is_sound_entry};
 ghost use Rattle.wb_journal.specs.Kind.{same_kind};
@@ -7,7 +7,7 @@ ghost use Rattle.wb_journal.specs.Pairs.{partner_of};
 ghost use Rattle.wb_office.specs.Asking.{Asking};
 ghost use Rattle.wb_office.specs.Conditions.{gone, holds_of, is_other};
 ghost use Rattle.wb_office.specs.Judging.{is_damaged_with};
-ghost use Rattle.wb_office.specs.Judged.{AsksFor, IsJudged, IsOnLists, IsOnScale};
+ghost use Rattle.wb_office.specs.Judged.{AsksFor, IsJudged, IsOnLists, IsOnScale, is_plain};
 ghost use Rattle.wb_office.specs.Looks.{Looks};
 ghost use Rattle.wb_office.specs.Shows.{Shows, ShowsScale};
 ghost use Rattle.wb_scale.specs.Indication.{IsInRange};
@@ -48,7 +48,8 @@ pub(crate) enum Judgement {
 
 /// Judges a repeated key: of the entry with the key, and its partner.
 fn judge_repetition(entry: Entry, partner: Option<Entry>, asked: &Asked) -> Judgement
-    ensures { (a : Asking) → AsksFor asked.now a → AreLists a.now.entries a.now.spent
+    ensures plain { is_plain result ≡ true }
+    ensures judged { (a : Asking) → AsksFor asked.now a → AreLists a.now.entries a.now.spent
         → by_key a.now.entries a.key ≡ Some entry
         → partner ≡ partner_of a.now.entries entry.number → IsJudged result a }
 {
@@ -103,8 +104,9 @@ pub(crate) fn judge<W: Window, D: Alter>(
     scale: &Scale<W>,
     asked: Asked,
 ) -> Result<Judgement, StoreFault>
-    ensures { Looks D.Store store.old store.new result (λ es ks judgement. (a : Asking)
+    ensures looks { Looks D.Store store.old store.new result (λ es ks judgement. (a : Asking)
         → AsksFor asked a → IsOnScale scale.now a → IsOnLists es ks a → IsJudged judgement a) }
+    ensures plain { IfOk result (λ judgement. is_plain judgement ≡ true) }
 {
     match store.by_key(&asked.key)? {
         Some(entry) => {
@@ -122,9 +124,10 @@ fn judge_new<W: Window, D: Alter>(
     scale: &Scale<W>,
     asked: Asked,
 ) -> Result<Judgement, StoreFault>
-    ensures { Looks D.Store store.old store.new result (λ es ks judgement. (a : Asking)
+    ensures looks { Looks D.Store store.old store.new result (λ es ks judgement. (a : Asking)
         → AsksFor asked a → IsOnScale scale.now a → IsOnLists es ks a
         → by_key a.now.entries a.key ≡ None → IsJudged judgement a) }
+    ensures plain { IfOk result (λ judgement. is_plain judgement ≡ true) }
 {
     if store.spent(&asked.key)? {
         return Ok(Judgement::Refused(Refusal::Gone));
@@ -158,7 +161,8 @@ fn shown<W: Window>(scale: &Scale<W>) -> OfScale
 fn judge_evidence(instrument: &Instrument, evidence: Evidence, asked: Asked) -> Judgement
     requires load { IsInRange instrument.now evidence.scale.indicated }
     requires tare { IsTare instrument.now evidence.scale.tare }
-    ensures { (a : Asking) → AsksFor asked a → a.now.setup ≡ instrument.now → Shows evidence a
+    ensures plain { is_plain result ≡ true }
+    ensures judged { (a : Asking) → AsksFor asked a → a.now.setup ≡ instrument.now → Shows evidence a
         → by_key a.now.entries a.key ≡ None → gone a ≡ false → IsJudged result a }
 {
     if let Some(refusal) = evidence.refusal() {

@@ -14,6 +14,8 @@ mod looking;
 mod new_entry;
 mod refusal;
 mod request;
+mod texts;
+mod weighing;
 
 pub use answer::{Answer, CsvText};
 pub use refusal::Refusal;

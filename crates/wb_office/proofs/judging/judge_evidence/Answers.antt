@@ -5,13 +5,13 @@ use Rattle.wb_office.proofs.Found.{find_none, is_some_same}
 use Rattle.wb_office.proofs.Verdicts.{by_condition, by_none}
 use Rattle.wb_office.proofs.judging.judge_evidence.Goals as goal
 
-pub returns-in-Some : goal.returns-in-Some
-returns-in-Some c = λ a asks setup shows none ungone. by_condition a c.in-Some.refusal none ungone (sym (c.refusal.ensures a shows) ∙ c.in-Some.is)
+pub returns-in-Some-clause-judged : goal.returns-in-Some-clause-judged
+returns-in-Some-clause-judged c = λ a asks setup shows none ungone. by_condition a c.in-Some.refusal none ungone (sym (c.refusal.ensures.judged a shows) ∙ c.in-Some.is)
 
-pub returns-in-Some-new_entry : goal.returns-in-Some-new_entry
-returns-in-Some-new_entry c = λ a asks setup shows none ungone.
+pub returns-in-Some-new_entry-clause-judged : goal.returns-in-Some-new_entry-clause-judged
+returns-in-Some-new_entry-clause-judged c = λ a asks setup shows none ungone.
     let unrefused : c.refusal.result ≡ None = search (rules, c.in_default.is) in
-    let free : first_refusal of_new a ≡ None = sym (c.refusal.ensures a shows) ∙ unrefused in
+    let free : first_refusal of_new a ≡ None = sym (c.refusal.ensures.judged a shows) ∙ unrefused in
     let entry : c.in-Some-new_entry.entry ≡ new_entry a = is_some_same (sym c.in-Some-new_entry.is ∙ c.new_entry.ensures a shows asks.of_key asks.of_plate setup free) in
     rw entry (record {
       judged = by_none a none ungone free;

@@ -11,12 +11,12 @@ not_not : (b c : Bool) → not b ≡ c → b ≡ not c
 not_not true c e = ap not e
 not_not false c e = ap not e
 
-pub returns-then-not-is_same : goal.returns-then-not-is_same
-returns-then-not-is_same c = λ a asks lists found paired.
+pub returns-then-not-is_same-clause-judged : goal.returns-then-not-is_same-clause-judged
+returns-then-not-is_same-clause-judged c = λ a asks lists found paired.
     by_other a c.args.entry found (not_not (is_other a c.args.entry) false (sym (c.is_same.ensures a asks) ∙ c.if-not-is_same.true))
 
-pub returns-then-is_damaged : goal.returns-then-is_damaged
-returns-then-is_damaged c = λ a asks lists found paired.
+pub returns-then-is_damaged-clause-judged : goal.returns-then-is_damaged-clause-judged
+returns-then-is_damaged-clause-judged c = λ a asks lists found paired.
     let same : is_other a c.args.entry ≡ false = not_not (is_other a c.args.entry) true (sym (c.is_same.ensures a asks) ∙ c.if-not-is_same.false) in
     let ungone : gone a ≡ false = found_unspent a.now.entries a.now.spent a.key c.args.entry lists.apart found in
     let partner_is : c.args.partner ≡ partner a.now.entries c.args.entry = paired ∙ partner_of_found a.now.entries a.key c.args.entry lists.rising found in
@@ -24,8 +24,8 @@ returns-then-is_damaged c = λ a asks lists found paired.
     let damaged : is_damaged a.now.entries c.args.entry ≡ true = ap (is_damaged_with c.args.entry) (sym partner_is ∙ sym held) ∙ sym c.is_damaged.ensures ∙ c.if-is_damaged.true in
     by_damage a c.args.entry found same ungone damaged
 
-pub returns : goal.returns
-returns c = λ a asks lists found paired.
+pub returns-clause-judged : goal.returns-clause-judged
+returns-clause-judged c = λ a asks lists found paired.
     let same : is_other a c.args.entry ≡ false = not_not (is_other a c.args.entry) true (sym (c.is_same.ensures a asks) ∙ c.if-not-is_same.false) in
     let ungone : gone a ≡ false = found_unspent a.now.entries a.now.spent a.key c.args.entry lists.apart found in
     let partner_is : c.args.partner ≡ partner a.now.entries c.args.entry = paired ∙ partner_of_found a.now.entries a.key c.args.entry lists.rising found in
