@@ -1,5 +1,5 @@
 -- How calls of the store serve a weighing or void.
-use Rattle.std.proofs.Common.{◌≡◌, ◌∙◌, ◌↔◌, inl, sym, ap, Bool, true, false, ◌||◌, not, List, [], ◌∷◌, ◌++◌, IfErr, IfOk, IsOk, OnErr, Option, Some, None, is_some, unwrap_or, Result, Ok, Err, refl, true≢false}
+use Rattle.std.proofs.Common.{ℕ, ◌≡◌, ◌∙◌, ◌↔◌, inl, sym, ap, Bool, true, false, ◌||◌, not, List, [], ◌∷◌, ◌++◌, IfErr, IfOk, IsOk, OnErr, Option, Some, None, is_some, unwrap_or, Result, Ok, Err, refl, true≢false}
 use Rattle.sqlite.specs.Store.{Ghosts}
 use Rattle.wb_journal.specs.declared.entry.EntryParts.{EntryParts}
 use Rattle.wb_journal.specs.Kind.{is_void}
@@ -20,7 +20,7 @@ use Rattle.wb_office.specs.Answer.{Told, answer_of, asking, entries_after, marks
 use Rattle.wb_office.specs.Asking.{Situation}
 use Rattle.wb_office.specs.Conditions.{holds_of}
 use Rattle.wb_office.specs.Judged.{AsksFor, IsAccepted, IsOnLists, IsOnScale}
-use Rattle.wb_office.specs.Serves.{IsNow, Marks, Serves, closed_by, fault_of_refusal, is_of_store, is_store_refusal, told, told_of}
+use Rattle.wb_office.specs.Serves.{IsNow, Marks, Serves, Wanted, closed_by, fault_of_refusal, is_of_store, is_store_refusal, told, told_of}
 use Rattle.wb_office.specs.Verdict.{Verdict, accepted, verdict}
 use Rattle.wb_office.specs.Weighing.{IsWeighingWanted, wanted_by}
 use Rattle.wb_office.proofs.LookUps.{Reads, ok_is_no_fault, stood}
@@ -83,28 +83,34 @@ ok_tells (Err why) t ok is = absurd (cc ok)
 
 -- ---- serving
 
--- what a verdict that adds nothing is answered
-pub record IsAnswered (asked : Asked) (w : Situation) (r : Result Answer Refusal) : Type 0 where
-  pub v : Verdict
-  pub is : verdict (asking w asked.key asked.kind asked.plate) ≡ v
-  pub same : entries_after w.entries v ≡ w.entries
-  pub unmarked : marks_by v ≡ false
-  pub told : told_of r ≡ answer_of w.entries v
+-- an answer that leaves the lists and the scale as they are
+pub record IsAnswered (IsWanted : Situation → Wanted → Type 0) (w : Situation) (r : Result Answer Refusal) : Type 0 where
+  pub want : Wanted
+  pub is : IsWanted w want
+  pub entries : want.entries ≡ w.entries
+  pub spent : want.spent ≡ w.spent
+  pub marks : want.marks ≡ false
+  pub told_is : told_of r ≡ want.answer
 
-module _ {D : Type 0} (g : Ghosts D) (asked : Asked) where
+-- that of a verdict that adds nothing
+pub by_verdict : (asked : Asked) (w : Situation) (r : Result Answer Refusal) (v : Verdict) → verdict (asking w asked.key asked.kind asked.plate) ≡ v → entries_after w.entries v ≡ w.entries → marks_by v ≡ false
+    → told_of r ≡ answer_of w.entries v → IsAnswered (IsWeighingWanted asked) w r
+by_verdict asked w r v is same unmarked tells =
+    record { want = wanted_by w v; is = ap (wanted_by w) (sym is); entries = same; spent = refl; marks = unmarked; told_is = tells }
+
+module _ {D : Type 0} (g : Ghosts D) (at : ℕ) (IsWanted : Situation → Wanted → Type 0) where
   -- the store was read alone
   pub read_serves : {old new : StoreView D} {X : Type 0} {x : X} (before : State) (r : Result Answer Refusal) → Reads g old new {X = X} (Ok x) → is_store_refusal r ≡ false
-      → ((w : Situation) → IsNow before asked.at w → Stands g old w.entries w.spent → IsHonest g new → IsAnswered asked w r)
-      → Serves g old new before before asked.at r (IsWeighingWanted asked)
+      → ((w : Situation) → IsNow before at w → Stands g old w.entries w.spent → IsHonest g new → IsAnswered IsWanted w r) → Serves g old new before before at r IsWanted
   read_serves {X = X} {x = x} before r reads plain answered = record {
     judged = λ w n s h p. let a = answered w n s h in (
-      wanted_by w a.v,
-      ap (wanted_by w) (sym a.is),
+      a.want,
+      a.is,
       record {
-        answered = a.told;
-        stands = rw a.same (stood g reads s h);
-        only = rw a.same (reads.keeps.leaves w.entries w.spent s h);
-        marked = rw a.unmarked refl;
+        answered = a.told_is;
+        stands = rw (a.entries, a.spent) (stood g reads s h);
+        only = rw (a.entries, a.spent) (reads.keeps.leaves w.entries w.spent s h);
+        marked = rw a.marks refl;
       },
     );
     unmarked = λ p. refl;
@@ -117,7 +123,7 @@ module _ {D : Type 0} (g : Ghosts D) (asked : Asked) where
   }
 
   -- the store refused to be read
-  pub stop_serves : {old new : StoreView D} {X : Type 0} (before : State) (f : StoreFault) → Reads g old new {X = X} (Err f) → Serves g old new before before asked.at (Err (Store f)) (IsWeighingWanted asked)
+  pub stop_serves : {old new : StoreView D} {X : Type 0} (before : State) (f : StoreFault) → Reads g old new {X = X} (Err f) → Serves g old new before before at (Err (Store f)) IsWanted
   stop_serves before f reads = record {
     judged = λ w n s h p. absurd (true≢false p);
     unmarked = λ p. refl;
@@ -129,55 +135,94 @@ module _ {D : Type 0} (g : Ghosts D) (asked : Asked) where
     honest = reads.closes.honest;
   }
 
-module _ {D : Type 0} (g : Ghosts D) (old new : StoreView D) (e : EntryParts) (first : Option EntryParts) (r : Result Answer Refusal) where
-  -- the clauses of adding an entry
-  pub record Concluded : Type 0 where
-    pub added : (es : List EntryParts) (ks : List SpentKey) → Stands g old es ks → IsNext es ks e → first ≡ open_of es e.plate → IsHonest g new
-        → IfOk r (λ answer. (told answer ≡ text_of (es ++ e ∷ []) e e.kind) × Stands g new (es ++ e ∷ []) ks × LeavesOnly g new (es ++ e ∷ []) ks)
+-- what a change makes of the lists where its condition holds, and what it tells
+pub record Change : Type 1 where
+  pub may : List EntryParts → List SpentKey → Type 0
+  pub entries : List EntryParts → List SpentKey → List EntryParts
+  pub spent : List EntryParts → List SpentKey → List SpentKey
+  pub tells : List EntryParts → List SpentKey → Told
+
+module _ {D : Type 0} (g : Ghosts D) (old new : StoreView D) (change : Change) (r : Result Answer Refusal) where
+  -- the clauses of a change
+  pub record Changed : Type 0 where
+    pub done : (es : List EntryParts) (ks : List SpentKey) → Stands g old es ks → change.may es ks → IsHonest g new
+        → IfOk r (λ answer. (told answer ≡ change.tells es ks) × Stands g new (change.entries es ks) (change.spent es ks) × LeavesOnly g new (change.entries es ks) (change.spent es ks))
     pub kept : (es : List EntryParts) (ks : List SpentKey) → Stands g old es ks → IsHonest g new → new.is_closed ≡ false → OnErr r (Stands g new es ks × LeavesOnly g new es ks)
-    pub leaves : (es : List EntryParts) (ks : List SpentKey) → Stands g old es ks → IsNext es ks e → IsHonest g new → LeavesEither g new es ks (es ++ e ∷ []) ks
+    pub leaves : (es : List EntryParts) (ks : List SpentKey) → Stands g old es ks → change.may es ks → IsHonest g new
+        → LeavesEither g new es ks (change.entries es ks) (change.spent es ks)
     pub closed : (r ≡ Err (Store Closed)) ↔ (old.is_closed ≡ true)
     pub refused : IfErr r (λ why. is_of_store why ≡ true)
     pub still : old.is_closed ≡ true → new ≡ old
     pub closes : new.is_closed ≡ closed_by old.is_closed r
     pub honest : IsHonest g new → IsHonest g old
 
-module _ {D : Type 0} (g : Ghosts D) (asked : Asked) where
-  -- it was read, and the entry was added
-  pub added_serves : {old mid new : StoreView D} {X : Type 0} {x : X} {e : EntryParts} {first : Option EntryParts} {answer : Answer} (before after : State)
-      → Reads g old mid {X = X} (Ok x)
-      → ((w : Situation) → IsNow before asked.at w → Stands g old w.entries w.spent → IsHonest g mid → IsAccepted e first (asking w asked.key asked.kind asked.plate))
-      → Concluded g mid new e first (Ok answer) → Marks before after (not (is_void e.kind)) → Serves g old new before after asked.at (Ok answer) (IsWeighingWanted asked)
-  added_serves {X = X} {x = x} {e = e} before after reads accepts added marks = record {
+-- the change is what is wanted in a situation
+pub record IsChange (change : Change) (marks : Bool) (IsWanted : Situation → Wanted → Type 0) (w : Situation) : Type 0 where
+  pub may : change.may w.entries w.spent
+  pub want : Wanted
+  pub is : IsWanted w want
+  pub tells : Ok (change.tells w.entries w.spent) ≡ want.answer
+  pub marked : want.marks ≡ marks
+  pub all : (other : Wanted) → IsWanted w other → (other.entries ≡ change.entries w.entries w.spent) × (other.spent ≡ change.spent w.entries w.spent)
+
+module _ {D : Type 0} (g : Ghosts D) (at : ℕ) (IsWanted : Situation → Wanted → Type 0) (change : Change) where
+  -- it was read, and the change was made
+  pub change_serves : {old mid new : StoreView D} {X : Type 0} {x : X} {answer : Answer} (before after : State) (marks : Bool) → Reads g old mid {X = X} (Ok x)
+      → ((w : Situation) → IsNow before at w → Stands g old w.entries w.spent → IsHonest g mid → IsChange change marks IsWanted w)
+      → Changed g mid new change (Ok answer) → Marks before after marks → Serves g old new before after at (Ok answer) IsWanted
+  change_serves {X = X} {x = x} before after marks reads changes made marked = record {
     judged = λ w n s h p.
-        let is = accepts w n s (added.honest h) in
-        let all = added.added w.entries w.spent (stood g reads s (added.honest h)) is.next is.paired h in
-        (wanted_by w (accepted e), ap (wanted_by w) (sym is.judged), record { answered = ap Ok all.0; stands = all.1; only = all.2; marked = marks });
+      let is = changes w n s (made.honest h) in
+      let all = made.done w.entries w.spent (stood g reads s (made.honest h)) is.may h in
+      let lists = is.all is.want is.is in
+      (is.want, is.is, record {
+        answered = ap Ok all.0 ∙ is.tells;
+        stands = rw (lists.0, lists.1) all.1;
+        only = rw (lists.0, lists.1) all.2;
+        marked = rw is.marked marked });
     unmarked = λ p. absurd (true≢false (sym p));
     kept = λ es ks s h p o. absurd (true≢false (sym p));
     leaves = λ w n s h want is.
-        let this = accepts w n s (added.honest h) in
-        rw (is, this.judged) (added.leaves w.entries w.spent (stood g reads s (added.honest h)) this.next h);
+      let this = changes w n s (made.honest h) in
+      let lists = this.all want is in
+      rw (lists.0, lists.1) (made.leaves w.entries w.spent (stood g reads s (made.honest h)) this.may h);
     closed = ((λ e. plain_not_closed (Ok _) refl e), λ e. ok_is_no_fault {X = X} x (reads.closes.closed.1 e));
     still = λ e. ok_is_no_fault {X = X} x (reads.closes.closed.1 e);
-    closes = added.closes ∙ reads.closes.closes;
-    honest = λ h. reads.closes.honest (added.honest h);
-  }
+    closes = made.closes ∙ reads.closes.closes;
+    honest = λ h. reads.closes.honest (made.honest h) }
 
-  -- it was read, and the entry was refused
-  pub unadded_serves : {old mid new : StoreView D} {X : Type 0} {x : X} {e : EntryParts} {first : Option EntryParts} {why : Refusal} (before : State)
-      → Reads g old mid {X = X} (Ok x)
-      → ((w : Situation) → IsNow before asked.at w → Stands g old w.entries w.spent → IsHonest g mid → IsAccepted e first (asking w asked.key asked.kind asked.plate))
-      → Concluded g mid new e first (Err why) → Serves g old new before before asked.at (Err why) (IsWeighingWanted asked)
-  unadded_serves {X = X} {x = x} {why = why} before reads accepts added = record {
-    judged = λ w n s h p. absurd (true≢false (sym added.refused ∙ p));
+  -- it was read, and the change was refused
+  pub unchanged_serves : {old mid new : StoreView D} {X : Type 0} {x : X} {why : Refusal} (before : State) (marks : Bool) → Reads g old mid {X = X} (Ok x)
+      → ((w : Situation) → IsNow before at w → Stands g old w.entries w.spent → IsHonest g mid → IsChange change marks IsWanted w)
+      → Changed g mid new change (Err why) → Serves g old new before before at (Err why) IsWanted
+  unchanged_serves {X = X} {x = x} {why = why} before marks reads changes made = record {
+    judged = λ w n s h p. absurd (true≢false (sym made.refused ∙ p));
     unmarked = λ p. refl;
-    kept = λ es ks s h p o. added.kept es ks (stood g reads s (added.honest h)) h o;
+    kept = λ es ks s h p o. made.kept es ks (stood g reads s (made.honest h)) h o;
     leaves = λ w n s h want is.
-        let this = accepts w n s (added.honest h) in
-        rw (is, this.judged) (added.leaves w.entries w.spent (stood g reads s (added.honest h)) this.next h);
-    closed = ((λ e. sym reads.closes.closes ∙ added.closed.0 e), λ e. added.closed.1 (reads.closes.closes ∙ e));
+      let this = changes w n s (made.honest h) in
+      let lists = this.all want is in
+      rw (lists.0, lists.1) (made.leaves w.entries w.spent (stood g reads s (made.honest h)) this.may h);
+    closed = ((λ e. sym reads.closes.closes ∙ made.closed.0 e), λ e. made.closed.1 (reads.closes.closes ∙ e));
     still = λ e. ok_is_no_fault {X = X} x (reads.closes.closed.1 e);
-    closes = added.closes ∙ ap (λ was. closed_by was (Err why)) reads.closes.closes;
-    honest = λ h. reads.closes.honest (added.honest h);
-  }
+    closes = made.closes ∙ ap (λ was. closed_by was (Err why)) reads.closes.closes;
+    honest = λ h. reads.closes.honest (made.honest h) }
+
+-- an entry is added, with the First that it closes
+abbrev pub adding : EntryParts → Option EntryParts → Change
+adding e first = record {
+  may = λ es ks. IsNext es ks e × (first ≡ open_of es e.plate);
+  entries = λ es ks. es ++ e ∷ [];
+  spent = λ es ks. ks;
+  tells = λ es ks. text_of (es ++ e ∷ []) e e.kind }
+
+-- it is what is wanted where it is accepted
+pub is_adding : (asked : Asked) (e : EntryParts) (first : Option EntryParts) (w : Situation) → IsAccepted e first (asking w asked.key asked.kind asked.plate)
+    → IsChange (adding e first) (not (is_void e.kind)) (IsWeighingWanted asked) w
+is_adding asked e first w is = record {
+  may = (is.next, is.paired);
+  want = wanted_by w (accepted e);
+  is = ap (wanted_by w) (sym is.judged);
+  tells = refl;
+  marked = refl;
+  all = λ other wanted. (ap (λ o. o.entries) (wanted ∙ ap (wanted_by w) is.judged), ap (λ o. o.spent) (wanted ∙ ap (wanted_by w) is.judged)) }

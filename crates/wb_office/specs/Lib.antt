@@ -5,8 +5,11 @@ pub mod Exports
 pub mod Judged
 pub mod Judging
 pub mod Looks
+pub mod Pairing
+pub mod Purging
 pub mod RefusalText
 pub mod Serves
 pub mod Shows
 pub mod Verdict
+pub mod Wanting
 pub mod Weighing

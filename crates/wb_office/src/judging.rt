@@ -81,7 +81,7 @@ fn is_same_kind(one: Kind, other: Kind) -> bool
 }
 
 /// Whether the entry isn't sound, or is a Second whose partner is missing or isn't sound.
-fn is_damaged(entry: &Entry, partner: Option<&Entry>) -> bool
+pub(crate) fn is_damaged(entry: &Entry, partner: Option<&Entry>) -> bool
     ensures { result ≡ is_damaged_with entry.now (option_copied partner.entry) }
 {
     !is_sound(entry) || (is_second(entry.kind()) && lacks_sound(partner))

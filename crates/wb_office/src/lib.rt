@@ -6,15 +6,18 @@
 #![tactic(auto)]
 
 mod answer;
+mod checking;
 mod evidence;
 mod indication;
 mod judgement;
 mod judging;
 mod looking;
 mod new_entry;
+mod purging;
 mod refusal;
 mod request;
 mod texts;
+mod tickets;
 mod weighing;
 
 pub use answer::{Answer, CsvText};

@@ -1,0 +1,90 @@
+//! Tickets.
+ghost use Rattle.std.specs.Option.{option_copied};
+ghost use Rattle.std.specs.Prelude.{◌≡◌, ◌||◌, ℕ, List, Some, false, option_map};
+ghost use Rattle.wb_journal.specs.Kind.{is_second as is_second_kind, is_single as is_single_kind};
+ghost use Rattle.wb_journal.specs.Pairs.{partner as partner_in};
+ghost use Rattle.wb_journal.specs.declared.entry.EntryParts.{EntryParts};
+ghost use Rattle.wb_office.specs.Answer.{ticket_of};
+ghost use Rattle.wb_office.specs.Looks.{Looks};
+ghost use Rattle.wb_office.specs.Pairing.{IsPairOf, IsPaired};
+ghost use Rattle.wb_office.specs.Serves.{Serves, is_store_refusal, told_of};
+ghost use Rattle.wb_office.specs.Wanting.{IsWanted};
+ghost use Rattle.wb_office.specs.declared.request.Request.TheVariants as request;
+ghost use Rattle.wb_scale.specs.State.{State};
+
+use crate::answer::Answer;
+use crate::judging::is_damaged;
+use crate::refusal::Refusal;
+use crate::weighing::told_again;
+use sqlite::Alter;
+use wb_journal::{Entry, Kind};
+use wb_store::{Store, StoreFault};
+
+/// An entry, with its partner.
+struct Pair {
+    entry: Entry,
+    partner: Option<Entry>,
+}
+
+/// Answers the ticket of a number.
+pub(crate) fn answer_ticket<D: Alter>(
+    store: &mut Store<D>,
+    number: u32,
+) -> Result<Answer, Refusal>
+    ensures { (scale : State) (at : ℕ) → Serves D.Store store.old store.new scale scale at result
+        (IsWanted (request.Ticket number)) }
+{
+    match find_pair(store, number) {
+        Ok(found) => ticket(found),
+        Err(fault) => Err(Refusal::Store(fault)),
+    }
+}
+
+/// The entry of a number, with its partner.
+fn find_pair<D: Alter>(
+    store: &mut Store<D>,
+    number: u32,
+) -> Result<Option<Pair>, StoreFault>
+    ensures { Looks D.Store store.old store.new result (λ es ks found. IsPairOf es number found) }
+{
+    match store.by_number(number)? {
+        Some(entry) => {
+            let partner = store.partner(number)?;
+            Ok(Some(Pair { entry, partner }))
+        }
+        None => Ok(None),
+    }
+}
+
+/// The ticket of an entry, if it has one.
+fn ticket(found: Option<Pair>) -> Result<Answer, Refusal>
+    ensures plain { is_store_refusal result ≡ false }
+    ensures value { (es : List EntryParts) → IsPaired es found
+        → told_of result ≡ ticket_of es (option_map (λ pair. pair.entry) found) }
+{
+    match found {
+        Some(Pair { entry, partner }) => ticket_of_pair(&entry, partner.as_ref()),
+        None => Err(Refusal::NoTicket),
+    }
+}
+
+fn ticket_of_pair(entry: &Entry, partner: Option<&Entry>) -> Result<Answer, Refusal>
+    ensures plain { is_store_refusal result ≡ false }
+    ensures value { (es : List EntryParts) → option_copied partner.entry ≡ partner_in es entry.now
+        → told_of result ≡ ticket_of es (Some entry.now) }
+{
+    if !has_ticket(entry.kind()) {
+        return Err(Refusal::NoTicket);
+    }
+    if is_damaged(entry, partner) {
+        return Err(Refusal::Damaged);
+    }
+    told_again(entry, partner)
+}
+
+/// Whether an entry of the kind has a ticket: a Second or a Single.
+fn has_ticket(kind: Kind) -> bool
+    ensures { result ≡ (is_second_kind kind || is_single_kind kind) }
+{
+    matches!(kind, Kind::Second | Kind::Single)
+}
