@@ -3,5 +3,6 @@ mod InOrder
 mod LookUps
 mod NewEntry
 mod OfLoad
+mod Purges
 mod Serving
 mod Verdicts
