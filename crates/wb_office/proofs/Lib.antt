@@ -4,5 +4,6 @@ mod LookUps
 mod NewEntry
 mod OfLoad
 mod Purges
+mod Records
 mod Serving
 mod Verdicts

@@ -6,7 +6,7 @@ use Rattle.wb_journal.specs.Kind.{is_void}
 use Rattle.wb_journal.specs.Pairs.{open_of}
 use Rattle.wb_scale.specs.State.{State}
 use Rattle.wb_store.specs.declared.fault.StoreFault.{StoreFault}
-use Rattle.wb_store.specs.declared.fault.StoreFault.TheVariants.{Closed}
+use Rattle.wb_store.specs.declared.fault.StoreFault.TheVariants.{Closed, Memory}
 use Rattle.wb_store.specs.Faults.{is_disk}
 use Rattle.wb_store.specs.Journal.{IsHonest, StoreView, Stands}
 use Rattle.wb_store.specs.Keeping.{LeavesEither, LeavesOnly}
@@ -16,12 +16,14 @@ use Rattle.wb_office.specs.declared.answer.Answer.{Answer}
 use Rattle.wb_office.specs.declared.judging.Asked.{Asked}
 use Rattle.wb_office.specs.declared.refusal.Refusal.{Refusal}
 use Rattle.wb_office.specs.declared.refusal.Refusal.TheVariants.{Store}
+use Rattle.wb_office.specs.declared.request.Request.{Request}
 use Rattle.wb_office.specs.Answer.{Told, answer_of, asking, entries_after, marks_by, text_of}
 use Rattle.wb_office.specs.Asking.{Situation}
 use Rattle.wb_office.specs.Conditions.{holds_of}
 use Rattle.wb_office.specs.Judged.{AsksFor, IsAccepted, IsOnLists, IsOnScale}
 use Rattle.wb_office.specs.Serves.{IsNow, Marks, Serves, Wanted, closed_by, fault_of_refusal, is_of_store, is_store_refusal, told, told_of}
 use Rattle.wb_office.specs.Verdict.{Verdict, accepted, verdict}
+use Rattle.wb_office.specs.Wanting.{HasBound, IsWanted, wanted}
 use Rattle.wb_office.specs.Weighing.{IsWeighingWanted, wanted_by}
 use Rattle.wb_office.proofs.LookUps.{Reads, ok_is_no_fault, stood}
 
@@ -135,6 +137,30 @@ module _ {D : Type 0} (g : Ghosts D) (at : ℕ) (IsWanted : Situation → Wanted
     honest = reads.closes.honest;
   }
 
+module _ {D : Type 0} (g : Ghosts D) (at : ℕ) (IsWanted : Situation → Wanted → Type 0) where
+  -- the store was read, and then memory was refused
+  memory_serves : {old new : StoreView D} {X : Type 0} {x : X} (before : State) → Reads g old new {X = X} (Ok x) → Serves g old new before before at (Err (Store Memory)) IsWanted
+  memory_serves {X = X} {x = x} before reads = record {
+    judged = λ w n s h p. absurd (true≢false p);
+    unmarked = λ p. refl;
+    kept = λ es ks s h p o. (stood g reads s h, reads.keeps.leaves es ks s h);
+    leaves = λ w n s h want is db may. inl (reads.keeps.leaves w.entries w.spent s h db may);
+    closed = ((λ e. absurd (cc (is_same_refusal {X = X} Memory e))), λ e. ok_is_no_fault {X = X} x (reads.closes.closed.1 e));
+    still = λ e. ok_is_no_fault {X = X} x (reads.closes.closed.1 e);
+    closes = reads.closes.closes ∙ sym (or_false _);
+    honest = reads.closes.honest;
+  }
+
+  -- the store was read, and what was read is told unless memory is refused
+  pub told_serves : {old new : StoreView D} {X : Type 0} {x : X} (before : State) (r : Result Answer Refusal) → Reads g old new {X = X} (Ok x)
+      → (is_store_refusal r ≡ true → r ≡ Err (Store Memory))
+      → (is_store_refusal r ≡ false → (w : Situation) → IsNow before at w → Stands g old w.entries w.spent → IsHonest g new → IsAnswered IsWanted w r) → Serves g old new before before at r IsWanted
+  told_serves {old = old} {new = new} before r reads memory answered = go (is_store_refusal r) refl
+    where
+      go : (b : Bool) → is_store_refusal r ≡ b → Serves g old new before before at r IsWanted
+      go true is = rw (memory is) (memory_serves before reads)
+      go false is = read_serves g at IsWanted before r reads is (answered is)
+
 -- what a change makes of the lists where its condition holds, and what it tells
 pub record Change : Type 1 where
   pub may : List EntryParts → List SpentKey → Type 0
@@ -172,24 +198,29 @@ module _ {D : Type 0} (g : Ghosts D) (at : ℕ) (IsWanted : Situation → Wanted
       → Changed g mid new change (Ok answer) → Marks before after marks → Serves g old new before after at (Ok answer) IsWanted
   change_serves {X = X} {x = x} before after marks reads changes made marked = record {
     judged = λ w n s h p.
-      let is = changes w n s (made.honest h) in
-      let all = made.done w.entries w.spent (stood g reads s (made.honest h)) is.may h in
-      let lists = is.all is.want is.is in
-      (is.want, is.is, record {
-        answered = ap Ok all.0 ∙ is.tells;
-        stands = rw (lists.0, lists.1) all.1;
-        only = rw (lists.0, lists.1) all.2;
-        marked = rw is.marked marked });
+        let is = changes w n s (made.honest h) in
+        let all = made.done w.entries w.spent (stood g reads s (made.honest h)) is.may h in
+        let lists = is.all is.want is.is in (
+          is.want,
+          is.is,
+          record {
+            answered = ap Ok all.0 ∙ is.tells;
+            stands = rw (lists.0, lists.1) all.1;
+            only = rw (lists.0, lists.1) all.2;
+            marked = rw is.marked marked;
+          },
+        );
     unmarked = λ p. absurd (true≢false (sym p));
     kept = λ es ks s h p o. absurd (true≢false (sym p));
     leaves = λ w n s h want is.
-      let this = changes w n s (made.honest h) in
-      let lists = this.all want is in
-      rw (lists.0, lists.1) (made.leaves w.entries w.spent (stood g reads s (made.honest h)) this.may h);
+        let this = changes w n s (made.honest h) in
+        let lists = this.all want is in
+        rw (lists.0, lists.1) (made.leaves w.entries w.spent (stood g reads s (made.honest h)) this.may h);
     closed = ((λ e. plain_not_closed (Ok _) refl e), λ e. ok_is_no_fault {X = X} x (reads.closes.closed.1 e));
     still = λ e. ok_is_no_fault {X = X} x (reads.closes.closed.1 e);
     closes = made.closes ∙ reads.closes.closes;
-    honest = λ h. reads.closes.honest (made.honest h) }
+    honest = λ h. reads.closes.honest (made.honest h);
+  }
 
   -- it was read, and the change was refused
   pub unchanged_serves : {old mid new : StoreView D} {X : Type 0} {x : X} {why : Refusal} (before : State) (marks : Bool) → Reads g old mid {X = X} (Ok x)
@@ -200,13 +231,14 @@ module _ {D : Type 0} (g : Ghosts D) (at : ℕ) (IsWanted : Situation → Wanted
     unmarked = λ p. refl;
     kept = λ es ks s h p o. made.kept es ks (stood g reads s (made.honest h)) h o;
     leaves = λ w n s h want is.
-      let this = changes w n s (made.honest h) in
-      let lists = this.all want is in
-      rw (lists.0, lists.1) (made.leaves w.entries w.spent (stood g reads s (made.honest h)) this.may h);
+        let this = changes w n s (made.honest h) in
+        let lists = this.all want is in
+        rw (lists.0, lists.1) (made.leaves w.entries w.spent (stood g reads s (made.honest h)) this.may h);
     closed = ((λ e. sym reads.closes.closes ∙ made.closed.0 e), λ e. made.closed.1 (reads.closes.closes ∙ e));
     still = λ e. ok_is_no_fault {X = X} x (reads.closes.closed.1 e);
     closes = made.closes ∙ ap (λ was. closed_by was (Err why)) reads.closes.closes;
-    honest = λ h. reads.closes.honest (made.honest h) }
+    honest = λ h. reads.closes.honest (made.honest h);
+  }
 
 -- an entry is added, with the First that it closes
 abbrev pub adding : EntryParts → Option EntryParts → Change
@@ -214,7 +246,8 @@ adding e first = record {
   may = λ es ks. IsNext es ks e × (first ≡ open_of es e.plate);
   entries = λ es ks. es ++ e ∷ [];
   spent = λ es ks. ks;
-  tells = λ es ks. text_of (es ++ e ∷ []) e e.kind }
+  tells = λ es ks. text_of (es ++ e ∷ []) e e.kind;
+}
 
 -- it is what is wanted where it is accepted
 pub is_adding : (asked : Asked) (e : EntryParts) (first : Option EntryParts) (w : Situation) → IsAccepted e first (asking w asked.key asked.kind asked.plate)
@@ -225,4 +258,20 @@ is_adding asked e first w is = record {
   is = ap (wanted_by w) (sym is.judged);
   tells = refl;
   marked = refl;
-  all = λ other wanted. (ap (λ o. o.entries) (wanted ∙ ap (wanted_by w) is.judged), ap (λ o. o.spent) (wanted ∙ ap (wanted_by w) is.judged)) }
+  all = λ other wanted. (ap (λ o. o.entries) (wanted ∙ ap (wanted_by w) is.judged), ap (λ o. o.spent) (wanted ∙ ap (wanted_by w) is.judged));
+}
+
+-- a weighing or void that is wanted is what the request wants
+pub serves_weighing : {D : Type 0} (g : Ghosts D) {old new : StoreView D} {before after : State} {at : ℕ} {r : Result Answer Refusal} (asked : Asked) (request : Request)
+    → ((w : Situation) (b : ℕ) → wanted request w b ≡ wanted_by w (verdict (asking w asked.key asked.kind asked.plate))) → ((w : Situation) → HasBound request w 0)
+    → Serves g old new before after at r (IsWeighingWanted asked) → Serves g old new before after at r (IsWanted request)
+serves_weighing g asked request same bound served = record {
+  judged = λ w n s h p. let this = served.judged w n s h p in (this.0, record { bound = 0; is_bound = bound w; is = this.1 ∙ sym (same w 0) }, this.2);
+  unmarked = served.unmarked;
+  kept = served.kept;
+  leaves = λ w n s h want is. served.leaves w n s h want (is.is ∙ same w is.bound);
+  closed = served.closed;
+  still = served.still;
+  closes = served.closes;
+  honest = served.honest;
+}

@@ -5,6 +5,7 @@ pub mod Exports
 pub mod Judged
 pub mod Judging
 pub mod Looks
+pub mod Outright
 pub mod Pairing
 pub mod Purging
 pub mod RefusalText

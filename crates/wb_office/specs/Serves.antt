@@ -7,7 +7,7 @@ use Rattle.wb_scale.specs.History.{moments}
 use Rattle.wb_scale.specs.Stands.{Stands as StandsAfter, Takes}
 use Rattle.wb_scale.specs.State.{State}
 use Rattle.wb_store.specs.declared.fault.StoreFault.{StoreFault}
-use Rattle.wb_store.specs.declared.fault.StoreFault.TheVariants.{Closed}
+use Rattle.wb_store.specs.declared.fault.StoreFault.TheVariants.{Closed, Memory}
 use Rattle.wb_store.specs.Faults.{is_disk}
 use Rattle.wb_store.specs.Journal.{IsHonest, StoreView, Stands}
 use Rattle.wb_store.specs.Keeping.{LeavesEither, LeavesOnly}
@@ -45,6 +45,14 @@ is_of_store why = is_some (fault_of_refusal why)
 abbrev pub is_store_refusal : Result Answer Refusal → Bool
 is_store_refusal (Ok answer) = false
 is_store_refusal (Err why) = is_of_store why
+
+-- it is answered so, unless the store refuses
+abbrev pub Tells : Result Answer Refusal → Result Told Refusal → Type 0
+Tells result want = is_store_refusal result ≡ false → told_of result ≡ want
+
+-- if the store refuses, it is for want of memory
+abbrev pub WantsMemory : Result Answer Refusal → Type 0
+WantsMemory result = is_store_refusal result ≡ true → result ≡ Err (Store Memory)
 
 -- a fault of the disk is the one that closes the store
 abbrev pub closes_store : Refusal → Bool

@@ -8,18 +8,24 @@
 mod answer;
 mod checking;
 mod evidence;
+mod export;
+mod exporting;
 mod indication;
+mod journal_export;
 mod judgement;
 mod judging;
 mod looking;
 mod new_entry;
+mod office;
 mod purging;
 mod refusal;
 mod request;
 mod texts;
 mod tickets;
+mod tickets_export;
 mod weighing;
 
 pub use answer::{Answer, CsvText};
+pub use office::Office;
 pub use refusal::Refusal;
 pub use request::Request;

@@ -27,10 +27,7 @@ struct Pair {
 }
 
 /// Answers the ticket of a number.
-pub(crate) fn answer_ticket<D: Alter>(
-    store: &mut Store<D>,
-    number: u32,
-) -> Result<Answer, Refusal>
+pub(crate) fn answer_ticket<D: Alter>(store: &mut Store<D>, number: u32) -> Result<Answer, Refusal>
     ensures { (scale : State) (at : ℕ) → Serves D.Store store.old store.new scale scale at result
         (IsWanted (request.Ticket number)) }
 {
@@ -41,10 +38,7 @@ pub(crate) fn answer_ticket<D: Alter>(
 }
 
 /// The entry of a number, with its partner.
-fn find_pair<D: Alter>(
-    store: &mut Store<D>,
-    number: u32,
-) -> Result<Option<Pair>, StoreFault>
+fn find_pair<D: Alter>(store: &mut Store<D>, number: u32) -> Result<Option<Pair>, StoreFault>
     ensures { Looks D.Store store.old store.new result (λ es ks found. IsPairOf es number found) }
 {
     match store.by_number(number)? {

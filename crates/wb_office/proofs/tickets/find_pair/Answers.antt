@@ -16,8 +16,8 @@ returns-in_ok-partner-in-Some g c =
     let one = reads g.D.Store c.in_ok-entry.ensures.keeps c.in_ok-entry.ensures.closes in
     let two = reads g.D.Store c.in_ok-partner-in-Some.ensures.keeps c.in_ok-partner-in-Some.ensures.closes in
     told g.D.Store (made g.D.Store _ _ (also g.D.Store one two)) (λ es ks s h2.
-      let h1 = c.in_ok-partner-in-Some.ensures.closes.honest h2 in
-      let found : Some c.in-Some.entry ≡ with_number c.args.number es = sym c.in-Some.is ∙ c.in_ok-entry.ensures.found es ks s h1 in
-      let paired : c.in_ok-partner-in-Some.partner ≡ partner es c.in-Some.entry =
-        c.in_ok-partner-in-Some.ensures.found es ks (stood g.D.Store one s h1) h2 ∙ ap (option_and_then (partner es)) (sym found) in
-      record { entry = found; paired = paired })
+    let h1 = c.in_ok-partner-in-Some.ensures.closes.honest h2 in
+    let found : Some c.in-Some.entry ≡ with_number c.args.number es = sym c.in-Some.is ∙ c.in_ok-entry.ensures.found es ks s h1 in
+    let paired : c.in_ok-partner-in-Some.partner ≡ partner es c.in-Some.entry =
+    c.in_ok-partner-in-Some.ensures.found es ks (stood g.D.Store one s h1) h2 ∙ ap (option_and_then (partner es)) (sym found) in
+    record { entry = found; paired = paired })

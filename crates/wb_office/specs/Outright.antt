@@ -1,0 +1,25 @@
+-- What is answered without asking the store.
+use Rattle.std.specs.Prelude.{◌≡◌, List, Result, Ok, Err}
+use Rattle.wb_scale.specs.Call.{Call}
+use Rattle.wb_scale.specs.History.{moments}
+use Rattle.wb_scale.specs.Indication.{indicated}
+use Rattle.wb_scale.specs.Stands.{Stands}
+use Rattle.wb_scale.specs.State.{State}
+use Rattle.wb_office.specs.declared.answer.Answer.{Answer}
+use Rattle.wb_office.specs.declared.refusal.Refusal.{Refusal}
+use Rattle.wb_office.specs.declared.refusal.Refusal.TheVariants.{NoTicket}
+use Rattle.wb_office.specs.declared.request.Request.{Request}
+use Rattle.wb_office.specs.declared.request.Request.TheVariants.{Weigh, VoidOpen, Ticket, Indication, JournalCsv, TicketsCsv, Purge, Check}
+use Rattle.wb_office.specs.Answer.{indication_text, text_told}
+use Rattle.wb_office.specs.Serves.{told_of}
+
+-- an indication is that of the scale, and no ticket has the number 0; the other requests ask the store
+abbrev pub Outright : State → Request → Result Answer Refusal → Type 0
+Outright scale (Weigh key kind plate) result = Unit {0}
+Outright scale (VoidOpen key plate) result = Unit {0}
+Outright scale (Ticket number) result = result ≡ Err NoTicket
+Outright scale Indication result = (calls : List Call) → Stands scale calls → told_of result ≡ Ok (text_told (indication_text scale.setup (indicated scale.setup (moments scale.setup calls))))
+Outright scale JournalCsv result = Unit {0}
+Outright scale TicketsCsv result = Unit {0}
+Outright scale Purge result = Unit {0}
+Outright scale Check result = Unit {0}

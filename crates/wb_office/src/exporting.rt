@@ -1,0 +1,73 @@
+//! The answers of the exports.
+ghost use Rattle.std.specs.Prelude.{◌≡◌, ℕ, IfOk, List, Ok};
+ghost use Rattle.wb_journal.specs.Rising.{IsRising};
+ghost use Rattle.wb_office.specs.Answer.{csv_told, tickets_answer};
+ghost use Rattle.wb_office.specs.Serves.{Serves, Tells, WantsMemory};
+ghost use Rattle.wb_office.specs.Wanting.{IsWanted};
+ghost use Rattle.wb_office.specs.declared.request.Request.TheVariants as request;
+ghost use Rattle.wb_scale.specs.State.{State};
+
+use crate::answer::{Answer, CsvText};
+use crate::journal_export::journal_text;
+use crate::refusal::Refusal;
+use crate::tickets_export::tickets_text;
+use sqlite::Alter;
+use std::alloc::{AllocError, Global};
+use wb_journal::{Entry, Finding, check};
+use wb_store::{Store, StoreFault};
+
+/// Answers the export of the journal, also of one that is damaged.
+pub(crate) fn answer_journal<D: Alter>(
+    alloc: Global,
+    store: &mut Store<D>,
+) -> Result<Answer, Refusal>
+    ensures { (scale : State) (at : ℕ) → Serves D.Store store.old store.new scale scale at result
+        (IsWanted request.JournalCsv) }
+{
+    match store.entries(alloc) {
+        Ok(entries) => {
+            let text = journal_text(alloc, &entries);
+            exported(text)
+        }
+        Err(fault) => Err(Refusal::Store(fault)),
+    }
+}
+
+/// Answers the export of the tickets, unless the journal is damaged.
+pub(crate) fn answer_tickets<D: Alter>(
+    alloc: Global,
+    store: &mut Store<D>,
+) -> Result<Answer, Refusal>
+    ensures { (scale : State) (at : ℕ) → Serves D.Store store.old store.new scale scale at result
+        (IsWanted request.TicketsCsv) }
+{
+    match store.entries(alloc) {
+        Ok(entries) => tickets_if_sound(alloc, &entries),
+        Err(fault) => Err(Refusal::Store(fault)),
+    }
+}
+
+fn tickets_if_sound(alloc: Global, entries: &[Entry]) -> Result<Answer, Refusal>
+    ensures memory { WantsMemory result }
+    ensures tells { IsRising entries.now → Tells result (tickets_answer entries.now) }
+{
+    match check(entries) {
+        Finding::Sound(_) => {
+            let text = tickets_text(alloc, entries);
+            exported(text)
+        }
+        Finding::Damaged(_) => Err(Refusal::Damaged),
+    }
+}
+
+/// The answer of an export. It is refused for want of memory alone.
+fn exported(text: Result<CsvText, AllocError>) -> Result<Answer, Refusal>
+    ensures memory { WantsMemory result }
+    ensures tells { (wanted : List ℕ) → IfOk text (λ t. t ≡ wanted)
+        → Tells result (Ok (csv_told wanted)) }
+{
+    match text {
+        Ok(text) => Ok(Answer::Csv(text)),
+        Err(_) => Err(Refusal::Store(StoreFault::Memory)),
+    }
+}
