@@ -20,6 +20,8 @@ mod office;
 mod purging;
 mod refusal;
 mod request;
+#[cfg(test)]
+mod tests;
 mod texts;
 mod tickets;
 mod tickets_export;
