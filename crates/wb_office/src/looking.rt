@@ -20,7 +20,7 @@ pub(crate) fn look_at_journal<D: Alter>(
     let newest = store.newest()?;
     let open = store.open_of(plate)?;
     let count = store.count()?;
-    let open_count = store.open_count(alloc)?;
+    let open_count = store.open_count()?;
     let next_number = store.next_number()?;
     Ok(OfJournal {
         newest,
