@@ -1,0 +1,3 @@
+mod HeadFacts
+mod RouteFacts
+mod Seeking

@@ -1,0 +1,12 @@
+//! The station: the office's requests as they come over HTTP, and its answers as they go back.
+//!
+//! The bytes of a request are judged in the order of the formats page, and an answer or a fault is put into the form of a
+//! response. No call here asks the store or the scale; the events of a whole station are to come.
+#![tactic(auto)]
+
+mod fault;
+mod head;
+mod routes;
+
+pub use fault::{HttpFault, Method};
+pub use routes::Routes;
