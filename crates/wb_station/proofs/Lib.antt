@@ -1,3 +1,4 @@
 mod HeadFacts
+mod LengthFacts
 mod RouteFacts
 mod Seeking

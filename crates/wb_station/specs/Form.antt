@@ -1,5 +1,5 @@
 -- The fields of a form (application/x-www-form-urlencoded), and what they ask.
-use Rattle.std.specs.Prelude.{ℕ, Bool, List, [], ◌∷◌, All, bytes_eq, codes, filter, map, if◌then◌else◌, Option, Some, None, option_map}
+use Rattle.std.specs.Prelude.{ℕ, Bool, List, [], ◌∷◌, ⊤, bytes_eq, codes, filter, map, if◌then◌else◌, Option, Some, None, option_map}
 use Rattle.std.specs.Option.{option_and_then}
 use Rattle.std.specs.Str.Lossy.{utf8_lossy}
 use Rattle.form_urlencoded.specs.Form.{IsPlainText, decode, raw_pairs}
@@ -24,9 +24,12 @@ only [] = None
 only (one ∷ []) = Some one
 only (one ∷ two ∷ more) = None
 
--- the value of the field with this name, if there is exactly one
+-- the value of the field with this name, if there is exactly one: as it is encoded, and as its text
+abbrev pub encoded_in : List ℕ → List ℕ → Option (List ℕ)
+encoded_in body name = only (map (λ pair. pair.1) (filter (has_name name) (raw_pairs body)))
+
 abbrev pub value_in : List ℕ → List ℕ → Option (List ℕ)
-value_in body name = only (map (λ pair. text_of pair.1) (filter (has_name name) (raw_pairs body)))
+value_in body name = option_map text_of (encoded_in body name)
 
 abbrev pub key_of : List ℕ → Option (List ℕ)
 key_of text = if is_key text then Some text else None
@@ -65,6 +68,11 @@ weighing_in body = weigh (key_in body) (kind_in body) (plate_in body)
 abbrev pub void_in : List ℕ → Option Request
 void_in body = void_open (key_in body) (plate_in body)
 
--- each name and value stands for itself: UTF-8 without `+` and `%`. Of such a form nothing is decoded
+-- each name and value stands for itself: UTF-8 without `+` and `%`
+abbrev pub ArePlain : List (List ℕ × List ℕ) → Type 0
+ArePlain [] = ⊤
+ArePlain (pair ∷ pairs) = IsPlainText pair.0 × IsPlainText pair.1 × ArePlain pairs
+
+-- of such a form nothing is decoded
 abbrev pub IsPlain : List ℕ → Type 0
-IsPlain body = All (λ pair. IsPlainText pair.0 × IsPlainText pair.1) (raw_pairs body)
+IsPlain body = ArePlain (raw_pairs body)

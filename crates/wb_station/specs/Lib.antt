@@ -1,8 +1,11 @@
 pub mod BodyLength
 pub mod Faults
 pub mod Form
+pub mod Found
 pub mod Judgement
+pub mod Refused
 pub mod RequestBytes
 pub mod Places
 pub mod Router
 pub mod Routes
+pub mod Said

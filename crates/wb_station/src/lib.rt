@@ -4,7 +4,9 @@
 //! response. No call here asks the store or the scale; the events of a whole station are to come.
 #![tactic(auto)]
 
+mod body_length;
 mod fault;
+mod form;
 mod head;
 mod routes;
 
