@@ -1,4 +1,6 @@
 mod HeadFacts
+mod Judging
 mod LengthFacts
+mod Passing
 mod RouteFacts
 mod Seeking

@@ -72,19 +72,19 @@ of_body = on cut_short Malformed ∷ []
 abbrev pub first_fault : List Condition → Received → Option HttpFault
 first_fault conditions x = option_map (λ c. c.fault) (find (λ c. c.holds x) conditions)
 
--- what is asked by a route: of a form that lacks a field, or has one that isn't valid, nothing
-abbrev pub asked_on : Received → Route → Option Request
-asked_on x Weighings = weighing_in (body_of x)
-asked_on x Voids = void_in (body_of x)
-asked_on x Purge = Some request.Purge
-asked_on x Ticket = Some (request.Ticket (ticket_number (path_of x.head.target)))
-asked_on x Indication = Some request.Indication
-asked_on x JournalCsv = Some request.JournalCsv
-asked_on x TicketsCsv = Some request.TicketsCsv
-asked_on x Check = Some request.Check
+-- what a body and a target ask by a route: of a form that lacks a field, or has one that isn't valid, nothing
+abbrev pub asked_by : List ℕ → List ℕ → Route → Option Request
+asked_by body target Weighings = weighing_in body
+asked_by body target Voids = void_in body
+asked_by body target Purge = Some request.Purge
+asked_by body target Ticket = Some (request.Ticket (ticket_number (path_of target)))
+asked_by body target Indication = Some request.Indication
+asked_by body target JournalCsv = Some request.JournalCsv
+asked_by body target TicketsCsv = Some request.TicketsCsv
+asked_by body target Check = Some request.Check
 
 abbrev pub asked : Received → Option Request
-asked x = option_and_then (asked_on x) (route_of x.head.target)
+asked x = option_and_then (asked_by (body_of x) x.head.target) (route_of x.head.target)
 
 -- 9: no fault, and nothing is asked
 abbrev pub unless_faulty : Option HttpFault → Option Request → Result Request HttpFault
@@ -107,22 +107,23 @@ IsJudged bytes result = (x : Option Received) × IsRead bytes x × (result ≡ j
 
 -- ---- memory
 
--- a route whose request is asked for by a form
-abbrev pub has_form : Option Route → Bool
-has_form None = false
-has_form (Some Weighings) = true
-has_form (Some Voids) = true
-has_form (Some Purge) = false
-has_form (Some Ticket) = false
-has_form (Some Indication) = false
-has_form (Some JournalCsv) = false
-has_form (Some TicketsCsv) = false
-has_form (Some Check) = false
+-- a route whose request is asked for by the fields of a form
+abbrev pub has_form : Route → Bool
+has_form Weighings = true
+has_form Voids = true
+has_form Purge = false
+has_form Ticket = false
+has_form Indication = false
+has_form JournalCsv = false
+has_form TicketsCsv = false
+has_form Check = false
 
 -- memory is asked for a form alone, after all other faults, and only if something in it is to be decoded
 pub record MayWantMemory (bytes : List ℕ) : Type 0 where
   pub received : Received
   pub reads : Reads bytes received
   pub passed : option_or (first_fault of_head received) (first_fault of_body received) ≡ None
-  pub form : has_form (route_of received.head.target) ≡ true
+  pub route : Route
+  pub target : route_of received.head.target ≡ Some route
+  pub form : has_form route ≡ true
   pub encoded : ¬ (IsPlain (body_of received))

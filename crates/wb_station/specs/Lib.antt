@@ -9,3 +9,4 @@ pub mod Places
 pub mod Router
 pub mod Routes
 pub mod Said
+pub mod Sought

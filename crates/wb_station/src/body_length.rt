@@ -2,7 +2,7 @@
 ghost use Rattle.httparse.specs.Spans.{IsHeaderWithin, header_bytes};
 ghost use Rattle.std.specs.Char.{is_ascii_digit};
 ghost use Rattle.std.specs.List.{list_all};
-ghost use Rattle.std.specs.Prelude.{◌≡◌, All, codes, length, min, nat_lt, true};
+ghost use Rattle.std.specs.Prelude.{◌≡◌, All, IsErrOf, codes, length, min, nat_lt, true};
 ghost use Rattle.std.specs.Str.Parse.{digits_value};
 ghost use Rattle.wb_station.specs.BodyLength.{is_number as is_number_of};
 ghost use Rattle.wb_station.specs.RequestBytes.{is_named as is_named_of, values};
@@ -18,7 +18,8 @@ const BODY_LIMIT: u32 = 1_024;
 /// The length of a POST's body, or what is wrong with it.
 pub(crate) fn said_length(head: &Head<'_>) -> Result<u32, HttpFault>
     requires { All (IsHeaderWithin (length head.now.front.now)) head.now.fields.now }
-    ensures { result ≡ said (pairs head.now) }
+    ensures value { result ≡ said (pairs head.now) }
+    ensures memory { ¬ (IsErrOf result HttpFault.Memory) }
 {
     if is_encoded(head) {
         return Err(HttpFault::Malformed);
@@ -68,7 +69,8 @@ fn is_named(bytes: &[u8], field: HeaderSpan, name: &[u8]) -> bool
 
 /// The length that a text writes.
 fn length_in(text: &[u8]) -> Result<u32, HttpFault>
-    ensures { result ≡ said_text text.now }
+    ensures value { result ≡ said_text text.now }
+    ensures memory { ¬ (IsErrOf result HttpFault.Memory) }
 {
     if !is_number(text) {
         return Err(HttpFault::Malformed);

@@ -8,7 +8,9 @@ mod body_length;
 mod fault;
 mod form;
 mod head;
+mod request;
 mod routes;
 
 pub use fault::{HttpFault, Method};
+pub use request::request_of;
 pub use routes::Routes;
