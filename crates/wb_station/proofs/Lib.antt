@@ -1,6 +1,8 @@
+mod Appends
 mod HeadFacts
 mod Judging
 mod LengthFacts
+pub mod Names
 mod Passing
 mod RouteFacts
 mod Seeking

@@ -1,8 +1,10 @@
 //! The faults of HTTP.
 ghost use Rattle.std.specs.Prelude.{◌≡◌, ◌≤◌, length};
 ghost use Rattle.wb_station.specs.Faults.{name as name_of, status as status_of};
+ghost use Rattle.wb_station.specs.Response.{allowed as allowed_of, phrase};
 ghost use Rattle.wb_station.specs.Routes.{method_text};
 
+use http::StatusCode;
 use std::alloc::AllocError;
 
 /// The method of a route.
@@ -48,18 +50,35 @@ pub enum HttpFault {
 
 impl HttpFault {
     /// The status of the response.
-    pub fn status(self) -> u16
-        ensures { result ≡ status_of self }
+    pub fn status(self) -> StatusCode
+        ensures value { result ≡ status_of self }
+        ensures phrase { length (phrase result) ≤ 32 }
     {
         match self {
-            HttpFault::HeadTooLarge => 431,
-            HttpFault::Malformed => 400,
-            HttpFault::NoRoute => 404,
-            HttpFault::WrongMethod(_) => 405,
-            HttpFault::NoLength => 411,
-            HttpFault::TooLarge => 413,
-            HttpFault::BadField => 422,
-            HttpFault::Memory => 503,
+            HttpFault::HeadTooLarge => StatusCode::REQUEST_HEADER_FIELDS_TOO_LARGE,
+            HttpFault::Malformed => StatusCode::BAD_REQUEST,
+            HttpFault::NoRoute => StatusCode::NOT_FOUND,
+            HttpFault::WrongMethod(_) => StatusCode::METHOD_NOT_ALLOWED,
+            HttpFault::NoLength => StatusCode::LENGTH_REQUIRED,
+            HttpFault::TooLarge => StatusCode::PAYLOAD_TOO_LARGE,
+            HttpFault::BadField => StatusCode::UNPROCESSABLE_ENTITY,
+            HttpFault::Memory => StatusCode::SERVICE_UNAVAILABLE,
+        }
+    }
+
+    /// The method that the route allows, of a wrong method.
+    pub(crate) fn allowed(self) -> Option<Method>
+        ensures { result ≡ allowed_of self }
+    {
+        match self {
+            HttpFault::WrongMethod(method) => Some(method),
+            HttpFault::HeadTooLarge => None,
+            HttpFault::Malformed => None,
+            HttpFault::NoRoute => None,
+            HttpFault::NoLength => None,
+            HttpFault::TooLarge => None,
+            HttpFault::BadField => None,
+            HttpFault::Memory => None,
         }
     }
 

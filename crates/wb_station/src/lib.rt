@@ -1,16 +1,23 @@
 //! The station: the office's requests as they come over HTTP, and its answers as they go back.
 //!
-//! The bytes of a request are judged in the order of the formats page, and an answer or a fault is put into the form of a
-//! response. No call here asks the store or the scale; the events of a whole station are to come.
+//! The bytes of a request are judged in the order of `specs/Judgement`, and an answer, a refusal or a fault is put into the
+//! form of `specs/Response`. No call here asks the store or the scale; the events of a whole station are to come.
 #![tactic(auto)]
 
 mod body_length;
 mod fault;
 mod form;
 mod head;
+mod line;
+mod outcome;
 mod request;
+mod response;
+mod room;
 mod routes;
 
 pub use fault::{HttpFault, Method};
+pub use outcome::Outcome;
 pub use request::request_of;
+pub use response::response_bytes;
+pub use room::ResponseRoom;
 pub use routes::Routes;
