@@ -1,6 +1,6 @@
 -- What a response tells, by its parts.
 use Rattle.std.specs.Prelude.{ℕ, List}
-use Rattle.wb_station.specs.declared.response.Front.{Front}
+use Rattle.wb_station.specs.declared.response_head.Front.{Front}
 use Rattle.wb_station.specs.Response.{Told}
 
 abbrev pub told_by : Front → List ℕ → Told

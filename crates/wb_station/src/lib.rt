@@ -12,6 +12,7 @@ mod line;
 mod outcome;
 mod request;
 mod response;
+mod response_head;
 mod room;
 mod routes;
 

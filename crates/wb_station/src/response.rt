@@ -1,25 +1,40 @@
 //! The response to an outcome.
-ghost use Rattle.std.specs.Prelude.{◌≡◌, ◌≤◌, ◌<◌, ◌+◌, ◌^◌, ◌++◌, IsOk, OnErr, OnOk, [], decimal, false, length, vec_capacity, vec_len};
-ghost use Rattle.wb_station.specs.Response.{IsDateOf, IsResponse, allow_line as allow_line_of, answer_status as answer_status_of, has_export, is_csv, is_export, length_lines, media_type as media_type_of, phrase as phrase_of, refusal_status as refusal_status_of, response_text, status_line, told, told_answer, told_result, type_lines};
+ghost use Rattle.std.specs.Prelude.{◌≡◌, ◌≤◌, IsOk, OnErr, OnOk, [], false, length, vec_capacity};
 ghost use Rattle.wb_station.specs.Front.{told_by};
+ghost use Rattle.wb_station.specs.Response.{IsDateOf, IsResponse, answer_status as answer_status_of, has_export, is_csv, is_export, phrase as phrase_of, refusal_status as refusal_status_of, response_text, told, told_answer, told_result};
 
-use crate::fault::Method;
 use crate::line::{Line, count_line, line_of_fault, line_of_refusal};
 use crate::outcome::Outcome;
+use crate::response_head::{Front, put_response, put_whole};
 use crate::room::ResponseRoom;
 use http::StatusCode;
 use httpdate::HttpDate;
-use itoa::Buffer;
 use std::alloc::AllocError;
 use wb_journal::Moment;
 use wb_office::{Answer, Refusal, Request};
 
-/// What a response tells before its body.
-#[derive(Clone, Copy)]
-struct Front {
-    status: StatusCode,
-    csv: bool,
-    allow: Option<Method>,
+/// Builds the response to an outcome at a moment in the room, in place of what was there. After a refusal the room is
+/// empty.
+///
+/// # Errors
+///
+/// Refuses for want of memory alone, and then only an export.
+pub fn response_bytes(
+    moment: Moment,
+    outcome: Outcome<'_>,
+    room: &mut ResponseRoom,
+) -> Result<(), AllocError>
+    ensures value { OnOk result (IsResponse moment outcome.entry room.new) }
+    ensures none { OnErr result (room.new ≡ []) }
+    ensures fits { has_export outcome.entry ≡ false → IsOk result }
+{
+    room.bytes.clear();
+    let date = date_of(moment.seconds());
+    let put = put_outcome(&mut room.bytes, &date, &outcome);
+    if put.is_err() {
+        room.bytes.clear();
+    }
+    put
 }
 
 /// The date of a moment.
@@ -31,133 +46,6 @@ fn date_of(seconds: u64) -> [u8; 29]
         Ok(date) => date.to_bytes(),
         Err(_) => [b' '; 29],
     }
-}
-
-fn put_number(room: &mut Vec<u8>, number: u64) -> Result<(), AllocError>
-    ensures items { OnOk result (room.new.items ≡ room.old.items ++ decimal number) }
-    ensures fits { vec_len room.old + 20 ≤ vec_capacity room.old → IsOk result }
-    ensures len { vec_len room.new ≤ vec_len room.old + 20 }
-    ensures capacity { vec_capacity room.old ≤ vec_capacity room.new }
-{
-    let mut buffer = Buffer::new();
-    room.extend_from_slice(buffer.format(number).as_bytes())
-}
-
-/// The first line.
-fn put_status_line(room: &mut Vec<u8>, status: StatusCode) -> Result<(), AllocError>
-    requires { length (phrase_of status) ≤ 32 }
-    ensures items { OnOk result (room.new.items ≡ room.old.items ++ status_line status) }
-    ensures fits { vec_len room.old + 64 ≤ vec_capacity room.old → IsOk result }
-    ensures len { vec_len room.new ≤ vec_len room.old + 64 }
-    ensures capacity { vec_capacity room.old ≤ vec_capacity room.new }
-{
-    room.extend_from_slice(b"HTTP/1.1 ")?;
-    put_number(room, u64::from(status.as_u16()))?;
-    room.extend_from_slice(b" ")?;
-    room.extend_from_slice(phrase(status).as_bytes())?;
-    room.extend_from_slice(b"\r\n")?;
-    Ok(())
-}
-
-fn phrase(status: StatusCode) -> &'static str
-    ensures { result.now ≡ phrase_of status }
-{
-    status.canonical_reason().unwrap_or("")
-}
-
-/// The lines of the date and the content's type.
-fn put_type_lines(room: &mut Vec<u8>, date: &[u8; 29], csv: bool) -> Result<(), AllocError>
-    ensures items { OnOk result (room.new.items ≡ room.old.items ++ type_lines csv date.now) }
-    ensures fits { vec_len room.old + 80 ≤ vec_capacity room.old → IsOk result }
-    ensures len { vec_len room.new ≤ vec_len room.old + 80 }
-    ensures capacity { vec_capacity room.old ≤ vec_capacity room.new }
-{
-    room.extend_from_slice(b"Date: ")?;
-    room.extend_from_slice(date)?;
-    room.extend_from_slice(b"\r\nContent-Type: ")?;
-    room.extend_from_slice(media_type(csv).as_bytes())?;
-    room.extend_from_slice(b"\r\n")?;
-    Ok(())
-}
-
-fn media_type(csv: bool) -> &'static str
-    ensures value { result.now ≡ media_type_of csv }
-    ensures fits { length result.now ≤ 25 }
-{
-    if csv {
-        "text/csv; charset=utf-8"
-    } else {
-        "text/plain; charset=utf-8"
-    }
-}
-
-/// The lines after the type, up to the empty one.
-fn put_length_lines(
-    room: &mut Vec<u8>,
-    size: usize,
-    allow: Option<Method>,
-) -> Result<(), AllocError>
-    ensures items { OnOk result (room.new.items ≡ room.old.items ++ length_lines size allow) }
-    ensures fits { vec_len room.old + 80 ≤ vec_capacity room.old → IsOk result }
-    ensures len { vec_len room.new ≤ vec_len room.old + 80 }
-    ensures capacity { vec_capacity room.old ≤ vec_capacity room.new }
-{
-    room.extend_from_slice(b"Content-Length: ")?;
-    put_number(room, size as u64)?;
-    room.extend_from_slice(b"\r\n")?;
-    room.extend_from_slice(allow_line(allow).as_bytes())?;
-    room.extend_from_slice(b"Connection: close\r\n\r\n")?;
-    Ok(())
-}
-
-fn allow_line(allow: Option<Method>) -> &'static str
-    ensures value { result.now ≡ allow_line_of allow }
-    ensures fits { length result.now ≤ 13 }
-{
-    match allow {
-        None => "",
-        Some(Method::Get) => "Allow: GET\r\n",
-        Some(Method::Post) => "Allow: POST\r\n",
-    }
-}
-
-/// A response whose body is in two parts.
-fn put_response(
-    room: &mut Vec<u8>,
-    date: &[u8; 29],
-    front: Front,
-    text: &[u8],
-    end: &[u8],
-) -> Result<(), AllocError>
-    requires phrase { length (phrase_of front.status) ≤ 32 }
-    requires size { length text.now + length end.now < 2 ^ 64 }
-    ensures items { OnOk result (room.new.items
-        ≡ room.old.items ++ response_text (told_by front (text.now ++ end.now)) date.now) }
-    ensures fits { vec_len room.old + 224 + length text.now + length end.now ≤ vec_capacity room.old → IsOk result }
-    ensures capacity { vec_capacity room.old ≤ vec_capacity room.new }
-{
-    put_status_line(room, front.status)?;
-    put_type_lines(room, date, front.csv)?;
-    put_length_lines(room, text.len() + end.len(), front.allow)?;
-    room.extend_from_slice(text)?;
-    room.extend_from_slice(end)?;
-    Ok(())
-}
-
-/// A response whose body is one text.
-fn put_whole(
-    room: &mut Vec<u8>,
-    date: &[u8; 29],
-    front: Front,
-    text: &[u8],
-) -> Result<(), AllocError>
-    requires phrase { length (phrase_of front.status) ≤ 32 }
-    ensures items { OnOk result (room.new.items
-        ≡ room.old.items ++ response_text (told_by front text.now) date.now) }
-    ensures fits { vec_len room.old + 224 + length text.now ≤ vec_capacity room.old → IsOk result }
-    ensures capacity { vec_capacity room.old ≤ vec_capacity room.new }
-{
-    put_response(room, date, front, text, b"")
 }
 
 /// The status of an answer: created for a weighing or void, else fine.
@@ -307,28 +195,4 @@ fn put_result(
             put_line(room, date, front, &line_of_refusal(*refusal))
         }
     }
-}
-
-/// Builds the response to an outcome at a moment in the room, in place of what was there. After a refusal the room is
-/// empty.
-///
-/// # Errors
-///
-/// Refuses for want of memory alone, and then only an export.
-pub fn response_bytes(
-    moment: Moment,
-    outcome: Outcome<'_>,
-    room: &mut ResponseRoom,
-) -> Result<(), AllocError>
-    ensures value { OnOk result (IsResponse moment outcome.entry room.new) }
-    ensures none { OnErr result (room.new ≡ []) }
-    ensures fits { has_export outcome.entry ≡ false → IsOk result }
-{
-    room.bytes.clear();
-    let date = date_of(moment.seconds());
-    let put = put_outcome(&mut room.bytes, &date, &outcome);
-    if put.is_err() {
-        room.bytes.clear();
-    }
-    put
 }
