@@ -6,3 +6,4 @@ pub mod Names
 mod Passing
 mod RouteFacts
 mod Seeking
+mod Wholeness

@@ -20,7 +20,7 @@ use Rattle.wb_station.specs.Sought.{IsDecoded, sought, sought_on, with_length}
 use Rattle.wb_station.proofs.Judging.{first_of, last_mapped, mapped, not_below, not_both, said_with, steps, steps_at}
 
 -- the first fault, by what is known of a head
-abbrev known_fault : Option Route → Bool → Bool → Bool → List (List ℕ) → Option HttpFault
+abbrev pub known_fault : Option Route → Bool → Bool → Bool → List (List ℕ) → Option HttpFault
 known_fault o get post encoded vs =
     first_of (is_none o) (allows Get o && not get) (allows Post o && not post)
     (post && (encoded || are_wrong vs)) (post && not (nat_lt 0 (length vs))) (post && nat_lt 1024 (first_number vs))

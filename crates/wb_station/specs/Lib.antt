@@ -12,3 +12,4 @@ pub mod Response
 pub mod Routes
 pub mod Said
 pub mod Sought
+pub mod Whole

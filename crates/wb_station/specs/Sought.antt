@@ -1,5 +1,5 @@
 -- What a head asks, step by step: its route, and how many bytes the body has.
-use Rattle.std.specs.Prelude.{◌≡◌, ℕ, true, false, nat_lt, List, bytes_eq, length, take, if◌then◌else◌, Option, Some, None, ok_or, Result, Ok, Err}
+use Rattle.std.specs.Prelude.{◌≡◌, ℕ, Bool, true, false, not, nat_lt, List, bytes_eq, length, take, if◌then◌else◌, Option, Some, None, ok_or, Result, Ok, Err}
 use Rattle.wb_office.specs.declared.request.Request.{Request}
 use Rattle.wb_station.specs.declared.fault.HttpFault.{HttpFault}
 use Rattle.wb_station.specs.declared.fault.HttpFault.TheVariants.{BadField, Malformed, NoRoute, WrongMethod}
@@ -42,6 +42,11 @@ answered s target rest =
 abbrev pub answered_by : Result Sought HttpFault → List ℕ → List ℕ → Result Request HttpFault
 answered_by (Ok s) target rest = answered s target rest
 answered_by (Err fault) target rest = Err fault
+
+-- nothing of it is cut short
+abbrev pub whole_by : Result Sought HttpFault → List ℕ → Bool
+whole_by (Ok s) rest = not (nat_lt (length rest) s.length)
+whole_by (Err fault) rest = true
 
 -- a form whose bytes all came, and that has something to decode
 pub record IsFormToDecode (s : Sought) (rest : List ℕ) : Type 0 where

@@ -15,6 +15,7 @@ mod response;
 mod response_head;
 mod room;
 mod routes;
+mod whole;
 
 pub use fault::{HttpFault, Method};
 pub use outcome::Outcome;
@@ -22,3 +23,4 @@ pub use request::request_of;
 pub use response::response_bytes;
 pub use room::ResponseRoom;
 pub use routes::Routes;
+pub use whole::{is_whole, law_of_one_judgement, law_of_whole_requests};
