@@ -15,6 +15,8 @@ mod response;
 mod response_head;
 mod room;
 mod routes;
+#[cfg(test)]
+mod tests;
 mod whole;
 
 pub use fault::{HttpFault, Method};
