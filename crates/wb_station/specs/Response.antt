@@ -159,3 +159,7 @@ has_export (Fault fault) = false
 -- the response to an outcome at a moment
 abbrev pub IsResponse : ℕ → Outcome → List ℕ → Type 0
 IsResponse moment outcome bytes = (date : List ℕ) × IsDateOf moment date × (bytes ≡ response_text (told outcome) date)
+
+-- an outcome at a moment has one response
+abbrev pub OneResponse : Type 0
+OneResponse = (moment : ℕ) (outcome : Outcome) (a b : List ℕ) → IsResponse moment outcome a → IsResponse moment outcome b → a ≡ b

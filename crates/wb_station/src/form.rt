@@ -101,8 +101,10 @@ fn encoded_value<'a, A: Allocator + Copy + Drop>(
     body: &'a [u8],
     name: &str,
 ) -> Result<&'a [u8], HttpFault>
-    ensures value { IsOf (ok_or (encoded_in body.now name.now) HttpFault.BadField) (as_bytes result) }
-    ensures plain { IsPlain body.now → IfOk result (λ v. IsPlainText v.now) × ¬ (IsErrOf result HttpFault.Memory) }
+    ensures value { IsOf (ok_or (encoded_in body.now name.now) HttpFault.BadField)
+        (as_bytes result) }
+    ensures plain { IsPlain body.now
+        → IfOk result (λ v. IsPlainText v.now) × ¬ (IsErrOf result HttpFault.Memory) }
 {
     let mut found: Option<&'a [u8]> = None;
     for (field, value) in raw_pairs(body) {

@@ -22,7 +22,7 @@ mod whole;
 pub use fault::{HttpFault, Method};
 pub use outcome::Outcome;
 pub use request::request_of;
-pub use response::response_bytes;
+pub use response::{law_of_one_response, response_bytes};
 pub use room::ResponseRoom;
 pub use routes::Routes;
 pub use whole::{is_whole, law_of_one_judgement, law_of_whole_requests};

@@ -5,9 +5,7 @@ ghost use Rattle.wb_office.specs.declared.request.Request.{Request as Asked};
 ghost use Rattle.wb_station.specs.Form.{IsPlain};
 ghost use Rattle.wb_station.specs.Judgement.{IsJudged, MayWantMemory, asked_by, has_form};
 ghost use Rattle.wb_station.specs.Refused.{IsOf};
-ghost use Rattle.wb_station.specs.Routes.{route_of as route_of_target};
-ghost use Rattle.wb_station.specs.Said.{pairs, said};
-ghost use Rattle.wb_station.specs.Sought.{IsDecoded, IsFormToDecode, answered, answered_by, sought_on};
+ghost use Rattle.wb_station.specs.Sought.{IsDecoded, IsFormToDecode, answered, answered_by, sought_in};
 ghost use Rattle.wb_station.specs.declared.fault.HttpFault.{HttpFault as Fault};
 
 use crate::body_length::said_length;
@@ -52,10 +50,10 @@ fn request_of_head<A: Allocator + Copy + Drop>(
 ) -> Result<Request, HttpFault>
     requires text { IsUtf8 head.now.target.now }
     requires within { All (IsHeaderWithin (length head.now.front.now)) head.now.fields.now }
-    ensures value { IsOf (answered_by (sought_on (route_of_target head.now.target.now) head.now.method.now
-        (said (pairs head.now))) head.now.target.now head.now.rest.now) result }
-    ensures memory { IsErrOf result HttpFault.Memory → IsDecoded (sought_on (route_of_target head.now.target.now)
-        head.now.method.now (said (pairs head.now))) head.now.rest.now }
+    ensures value { IsOf (answered_by (sought_in head.now) head.now.target.now head.now.rest.now)
+        result }
+    ensures memory { IsErrOf result HttpFault.Memory
+        → IsDecoded (sought_in head.now) head.now.rest.now }
 {
     match sought_by(routes, head) {
         Ok(sought) => request_in(alloc, head, sought),
@@ -67,7 +65,7 @@ fn request_of_head<A: Allocator + Copy + Drop>(
 pub(crate) fn sought_by(routes: &Routes, head: &Head<'_>) -> Result<Sought, HttpFault>
     requires text { IsUtf8 head.now.target.now }
     requires within { All (IsHeaderWithin (length head.now.front.now)) head.now.fields.now }
-    ensures value { result ≡ sought_on (route_of_target head.now.target.now) head.now.method.now (said (pairs head.now)) }
+    ensures value { result ≡ sought_in head.now }
     ensures memory { ¬ (IsErrOf result HttpFault.Memory) }
 {
     let route = route_of(routes, head.target).ok_or(HttpFault::NoRoute)?;

@@ -1,7 +1,7 @@
 //! The response to an outcome.
 ghost use Rattle.std.specs.Prelude.{◌≡◌, ◌≤◌, IsOk, OnErr, OnOk, [], false, length, vec_capacity};
 ghost use Rattle.wb_station.specs.Front.{told_by};
-ghost use Rattle.wb_station.specs.Response.{IsDateOf, IsResponse, answer_status as answer_status_of, has_export, is_csv, is_export, phrase as phrase_of, refusal_status as refusal_status_of, response_text, told, told_answer, told_result};
+ghost use Rattle.wb_station.specs.Response.{IsDateOf, IsResponse, OneResponse, answer_status as answer_status_of, has_export, is_csv, is_export, phrase as phrase_of, refusal_status as refusal_status_of, response_text, told, told_answer, told_result};
 
 use crate::line::{Line, count_line, line_of_fault, line_of_refusal};
 use crate::outcome::Outcome;
@@ -100,7 +100,8 @@ fn put_answer(
     requires phrase { length (phrase_of status) ≤ 32 }
     requires empty { room.old.items ≡ [] }
     requires room { 2048 ≤ vec_capacity room.old }
-    ensures items { OnOk result (room.new.items ≡ response_text (told_answer status answer.now) date.now) }
+    ensures items { OnOk result (room.new.items
+        ≡ response_text (told_answer status answer.now) date.now) }
     ensures fits { is_csv answer.now ≡ false → IsOk result }
     ensures capacity { vec_capacity room.old ≤ vec_capacity room.new }
 {
@@ -144,7 +145,8 @@ fn put_line(
     requires phrase { length (phrase_of front.status) ≤ 32 }
     requires empty { room.old.items ≡ [] }
     requires room { 2048 ≤ vec_capacity room.old }
-    ensures items { OnOk result (room.new.items ≡ response_text (told_by front line.now.bytes) date.now) }
+    ensures items { OnOk result (room.new.items
+        ≡ response_text (told_by front line.now.bytes) date.now) }
     ensures fits { IsOk result }
     ensures capacity { vec_capacity room.old ≤ vec_capacity room.new }
 {
@@ -180,7 +182,8 @@ fn put_result(
 ) -> Result<(), AllocError>
     requires empty { room.old.items ≡ [] }
     requires room { 2048 ≤ vec_capacity room.old }
-    ensures items { OnOk result (room.new.items ≡ response_text (told_result request.now answered.now) date.now) }
+    ensures items { OnOk result (room.new.items
+        ≡ response_text (told_result request.now answered.now) date.now) }
     ensures fits { is_export answered.now ≡ false → IsOk result }
     ensures capacity { vec_capacity room.old ≤ vec_capacity room.new }
 {
@@ -196,3 +199,8 @@ fn put_result(
         }
     }
 }
+
+/// An outcome at a moment has one response.
+pub fn law_of_one_response()
+    ensures { OneResponse }
+{}

@@ -116,7 +116,8 @@ pub(crate) fn put_response(
     requires size { length text.now + length end.now < 2 ^ 64 }
     ensures items { OnOk result (room.new.items
         ≡ room.old.items ++ response_text (told_by front (text.now ++ end.now)) date.now) }
-    ensures fits { vec_len room.old + 224 + length text.now + length end.now ≤ vec_capacity room.old → IsOk result }
+    ensures fits { vec_len room.old + 224 + length text.now + length end.now ≤ vec_capacity room.old
+        → IsOk result }
     ensures capacity { vec_capacity room.old ≤ vec_capacity room.new }
 {
     put_status_line(room, front.status)?;

@@ -1,9 +1,7 @@
 //! Whether a request is whole.
 ghost use Rattle.httparse.specs.Spans.{IsHeaderWithin};
 ghost use Rattle.std.specs.Prelude.{◌≡◌, All, IsUtf8, length};
-ghost use Rattle.wb_station.specs.Routes.{route_of as route_of_target};
-ghost use Rattle.wb_station.specs.Said.{pairs, said};
-ghost use Rattle.wb_station.specs.Sought.{sought_on, whole_by};
+ghost use Rattle.wb_station.specs.Sought.{sought_in, whole_by};
 ghost use Rattle.wb_station.specs.Whole.{OneJudgement, TellsWhole, WholeStays};
 
 use crate::fault::HttpFault;
@@ -27,8 +25,7 @@ pub fn is_whole(routes: &Routes, bytes: &[u8]) -> bool
 fn is_body_whole(routes: &Routes, head: &Head<'_>) -> bool
     requires text { IsUtf8 head.now.target.now }
     requires within { All (IsHeaderWithin (length head.now.front.now)) head.now.fields.now }
-    ensures { result ≡ whole_by (sought_on (route_of_target head.now.target.now) head.now.method.now
-        (said (pairs head.now))) head.now.rest.now }
+    ensures { result ≡ whole_by (sought_in head.now) head.now.rest.now }
 {
     match sought_by(routes, head) {
         Ok(sought) => sought.length as usize <= head.rest.len(),
