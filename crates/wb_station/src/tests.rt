@@ -2,6 +2,7 @@
 mod forms;
 mod heads;
 mod lengths;
+mod memory;
 mod orders;
 mod responses;
 mod targets;

@@ -202,11 +202,15 @@ fn exports_as_csv(rt: HostRuntime) -> Result<(), Fail> {
 #[test]
 fn dates_the_first_and_the_last_moment(rt: HostRuntime) -> Result<(), Fail> {
     for (seconds, date) in [
-        (0u64, "Date: Thu, 01 Jan 1970 00:00:00 GMT\r\n"),
-        (253_402_207_200, "Date: Thu, 30 Dec 9999 22:00:00 GMT\r\n"),
+        (0u64, "Thu, 01 Jan 1970 00:00:00 GMT"),
+        (951_782_400, "Tue, 29 Feb 2000 00:00:00 GMT"),
+        (253_402_207_200, "Thu, 30 Dec 9999 22:00:00 GMT"),
     ] {
         let told = response(&rt, seconds, Outcome::Fault(HttpFault::NoRoute))?;
-        assert_eq!(rt; told.as_str().contains(date), true);
+        let expected = format!(in rt.alloc();
+            "HTTP/1.1 404 Not Found\r\nDate: {date}\r\nContent-Type: text/plain; charset=utf-8\r\nContent-Length: 19\r\nConnection: close\r\n\r\nfault 404 no_route\n"
+        )?;
+        assert_eq!(rt; told.as_str(), expected.as_str());
     }
     Ok(())
 }
