@@ -70,7 +70,9 @@ impl Model for Routes {
 
 impl Routes {
     /// The routes. Refuses for want of memory alone.
-    pub fn new(alloc: Global) -> Result<Self, AllocError> {
+    pub fn new(alloc: Global) -> Result<Self, AllocError>
+        ensures { IfOk result (λ routes. routes ≡ table) }
+    {
         match router(alloc) {
             Ok(router) => Ok(Routes { router }),
             Err(_) => Err(AllocError),
