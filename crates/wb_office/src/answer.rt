@@ -39,7 +39,7 @@ impl CsvText {
     ghost use Rattle.std.specs.Prelude.{◌≡◌};
 
     /// The text of these bytes.
-    pub(crate) fn new(bytes: Vec<u8>) -> Self
+    pub fn new(bytes: Vec<u8>) -> Self
         ensures { result ≡ bytes.items }
     {
         CsvText { bytes }

@@ -1,0 +1,15 @@
+pub mod BodyLength
+pub mod Faults
+pub mod Form
+pub mod Found
+pub mod Front
+pub mod Judgement
+pub mod Refused
+pub mod RequestBytes
+pub mod Places
+pub mod Router
+pub mod Response
+pub mod Routes
+pub mod Said
+pub mod Sought
+pub mod Whole

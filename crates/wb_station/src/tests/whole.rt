@@ -1,0 +1,47 @@
+//! Whole requests.
+use super::{PURGE, stretched};
+use crate::{Routes, is_whole};
+use std::test::Fail;
+
+/// How many of the first bytes make a whole request; one more than there are if none do.
+fn whole_at(routes: &Routes, bytes: &[u8]) -> usize {
+    for count in 0..bytes.len() {
+        if is_whole(routes, &bytes[..count]) {
+            return count;
+        }
+    }
+    if is_whole(routes, bytes) {
+        bytes.len()
+    } else {
+        bytes.len().saturating_add(1)
+    }
+}
+
+#[test]
+fn tells_where_a_request_ends(rt: HostRuntime) -> Result<(), Fail> {
+    let routes = Routes::new(rt.alloc())?;
+    for (request, count) in [
+        ("GET /check HTTP/1.1\r\n\r\nmore", 23usize),
+        (PURGE, 43),
+        ("POST /voids HTTP/1.1\r\nContent-Length: 2\r\n\r\nabc", 45),
+        ("POST /voids HTTP/1.1\r\nContent-Length: 2\r\n\r\na", 45),
+        ("POST /nowhere HTTP/1.1\r\nContent-Length: 2\r\n\r\nab", 45),
+        ("POST /check HTTP/1.1\r\nContent-Length: 2\r\n\r\nab", 43),
+        ("POST /voids HTTP/1.1\r\nContent-Length: x\r\n\r\nab", 43),
+        ("POST /voids HTTP/1.1\r\n\r\nab", 24),
+        ("POST /voids HTTP/1.1\r\nContent-Length: 1025\r\n\r\nab", 46),
+    ] {
+        assert_eq!(rt; whole_at(&routes, request.as_bytes()), count);
+    }
+    Ok(())
+}
+
+#[test]
+fn gives_up_on_a_head_past_8192_bytes(rt: HostRuntime) -> Result<(), Fail> {
+    let routes = Routes::new(rt.alloc())?;
+    for (count, whole) in [(8_192usize, false), (8_193, true)] {
+        let rubbish = stretched(&rt, "", b'a', count, "")?;
+        assert_eq!(rt; is_whole(&routes, rubbish.as_slice()), whole);
+    }
+    Ok(())
+}
