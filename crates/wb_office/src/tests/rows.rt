@@ -74,7 +74,7 @@ fn exports_the_journal_with_absent_weights(rt: HostRuntime) -> Result<(), Fail> 
             Step::Ask(
                 MORNING,
                 Asks::Journal,
-                "number,key,kind,plate,moment,gross_kg,preset_kg,interval_kg,max_kg,serial,digest\n1,K1,first,AB-12,2025-03-10 08:00:00,18340,,20,60000,WB01,1ff0f144d39a8d0890cc2c886fab380c93a9dd98d1d16ca37031b262a56fd3b3\n2,K2,void,AB-12,2025-03-10 08:00:00,,,20,60000,WB01,34947ae11903e3b3e1c129025a4ca9627d8bfefb5ae3a10456680a566fa390ad\n",
+                "number,key,kind,plate,moment,gross_kg,preset_kg,interval_kg,max_kg,serial,digest\n1,K1,first,AB-12,2025-03-10 08:00:00,18340,,20,60000,WB01,1ff0f144d39a8d0890cc2c886fab380c93a9dd98d1d16ca37031b262a56fd3b3\n2,K2,void,AB-12,2025-03-10 08:00:00,,,20,60000,WB01,e4683fc4a739b53db3dc54e3484bee95fe5c9c0b6cd453d985c47e155a359783\n",
             ),
         ],
     )
