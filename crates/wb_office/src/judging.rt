@@ -20,7 +20,6 @@ use crate::looking::look_at_journal;
 use crate::new_entry::new_entry;
 use crate::refusal::Refusal;
 use sqlite::Alter;
-use std::alloc::Global;
 use wb_instrument::Instrument;
 use wb_journal::{Entry, Key, Kind, Moment, Plate, is_sound};
 use wb_scale::Scale;
@@ -99,7 +98,6 @@ fn lacks_sound(partner: Option<&Entry>) -> bool
 
 /// Judges a weighing or void.
 pub(crate) fn judge<W: Window, D: Alter>(
-    alloc: Global,
     store: &mut Store<D>,
     scale: &Scale<W>,
     asked: Asked,
@@ -113,13 +111,12 @@ pub(crate) fn judge<W: Window, D: Alter>(
             let partner = store.partner(entry.number())?;
             Ok(judge_repetition(entry, partner, &asked))
         }
-        None => judge_new(alloc, store, scale, asked),
+        None => judge_new(store, scale, asked),
     }
 }
 
 /// Judges a key that no entry has.
 fn judge_new<W: Window, D: Alter>(
-    alloc: Global,
     store: &mut Store<D>,
     scale: &Scale<W>,
     asked: Asked,
@@ -132,7 +129,7 @@ fn judge_new<W: Window, D: Alter>(
     if store.spent(&asked.key)? {
         return Ok(Judgement::Refused(Refusal::Gone));
     }
-    let journal = look_at_journal(alloc, store, &asked.plate)?;
+    let journal = look_at_journal(store, &asked.plate)?;
     let instrument = scale.instrument();
     let evidence = Evidence {
         kind: asked.kind,

@@ -4,13 +4,11 @@ ghost use Rattle.wb_office.specs.Shows.{ShowsJournal};
 
 use crate::evidence::OfJournal;
 use sqlite::Alter;
-use std::alloc::Global;
 use wb_journal::Plate;
 use wb_store::{Store, StoreFault};
 
 /// What the journal shows of a plate.
 pub(crate) fn look_at_journal<D: Alter>(
-    alloc: Global,
     store: &mut Store<D>,
     plate: &Plate,
 ) -> Result<OfJournal, StoreFault>

@@ -75,7 +75,7 @@ impl<D: Alter> Office<D> {
                     kind,
                     plate,
                 };
-                answer_weighing(alloc, &mut self.store, scale, asked)
+                answer_weighing(&mut self.store, scale, asked)
             }
             Request::VoidOpen { key, plate } => {
                 let asked = Asked {
@@ -84,7 +84,7 @@ impl<D: Alter> Office<D> {
                     kind: Kind::Void,
                     plate,
                 };
-                answer_weighing(alloc, &mut self.store, scale, asked)
+                answer_weighing(&mut self.store, scale, asked)
             }
             Request::Ticket(0) => Err(Refusal::NoTicket),
             Request::Ticket(number) => answer_ticket(&mut self.store, number),

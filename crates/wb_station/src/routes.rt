@@ -1,5 +1,6 @@
 //! The routes of the office.
-ghost use Rattle.std.specs.Prelude.{◌≡◌, IfOk, IsUtf8};
+ghost use Rattle.std.specs.Prelude.{◌≡◌, IfErr, IfOk, IsUtf8};
+ghost use Rattle.matchit.specs.declared.error.InsertError.TheVariants.{OutOfMemory};
 ghost use Rattle.wb_station.specs.Router.{table};
 ghost use Rattle.wb_text.specs.Digits.{digits};
 ghost use Rattle.wb_station.specs.Routes.{method_of, number_or_zero, path_of as path_of_target, route_of as route_of_target, route_of_path, ticket_number};
@@ -91,7 +92,8 @@ impl Routes {
 }
 
 fn router(alloc: Global) -> Result<Router<Route>, InsertError>
-    ensures { IfOk result (λ r. r ≡ table) }
+    ensures value { IfOk result (λ r. r ≡ table) }
+    ensures memory { IfErr result (λ e. e ≡ OutOfMemory) }
 {
     let mut router = Router::new(alloc);
     router.insert("/weighings", Route::Weighings)?;

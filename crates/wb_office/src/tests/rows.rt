@@ -97,6 +97,8 @@ fn refuses_loads_by_name(rt: HostRuntime) -> Result<(), Fail> {
             Step::Ask(MORNING, Asks::Indication, "UNDERLOAD"),
             Step::Load(190),
             Step::Weigh(MORNING, "K1", Kind::First, "AB-12", "below_min"),
+            Step::Read(200),
+            Step::Weigh(MORNING, "K1", Kind::First, "AB-12", "unstable"),
             Step::Load(200),
             Step::Weigh(MORNING, "K1", Kind::First, "AB-12", "WEIGHING SLIP 1\n"),
             Step::Weigh(MORNING, "K2", Kind::First, "CD-34", "not_cleared"),
