@@ -1,8 +1,9 @@
 //! The office: what it is asked, how a weighing or void is judged, and what it answers.
 //!
 //! The definitions of the verdict and of every answer are in `specs/`, over lists: what came of the scale's calls, the
-//! entries and the spent keys. Here are the types that they speak of, and the text of an indication. The office itself,
-//! which judges by look-ups in the store, and the exports are to come.
+//! entries and the spent keys. `Office::answer` answers each request as they say, and leaves the lists and the scale that they
+//! say; a refusal changes nothing. A weighing or void is judged by look-ups in the store: its entry and its text are made before
+//! the entry is added, and nothing is refused after.
 #![tactic(auto)]
 
 mod answer;
