@@ -122,6 +122,7 @@ module _ {D : Type 0} (g : Ghosts D) (at : ℕ) (IsWanted : Situation → Wanted
     still = λ e. ok_is_no_fault {X = X} x (reads.closes.closed.1 e);
     closes = reads.closes.closes ∙ sym (plain_closes _ r plain);
     honest = reads.closes.honest;
+    scale = (false, refl);
   }
 
   -- the store refused to be read
@@ -135,6 +136,7 @@ module _ {D : Type 0} (g : Ghosts D) (at : ℕ) (IsWanted : Situation → Wanted
     still = reads.closes.still;
     closes = reads.closes.closes;
     honest = reads.closes.honest;
+    scale = (false, refl);
   }
 
 module _ {D : Type 0} (g : Ghosts D) (at : ℕ) (IsWanted : Situation → Wanted → Type 0) where
@@ -149,6 +151,7 @@ module _ {D : Type 0} (g : Ghosts D) (at : ℕ) (IsWanted : Situation → Wanted
     still = λ e. ok_is_no_fault {X = X} x (reads.closes.closed.1 e);
     closes = reads.closes.closes ∙ sym (or_false _);
     honest = reads.closes.honest;
+    scale = (false, refl);
   }
 
   -- the store was read, and what was read is told unless memory is refused
@@ -220,6 +223,7 @@ module _ {D : Type 0} (g : Ghosts D) (at : ℕ) (IsWanted : Situation → Wanted
     still = λ e. ok_is_no_fault {X = X} x (reads.closes.closed.1 e);
     closes = made.closes ∙ reads.closes.closes;
     honest = λ h. reads.closes.honest (made.honest h);
+    scale = (marks, marked);
   }
 
   -- it was read, and the change was refused
@@ -238,6 +242,7 @@ module _ {D : Type 0} (g : Ghosts D) (at : ℕ) (IsWanted : Situation → Wanted
     still = λ e. ok_is_no_fault {X = X} x (reads.closes.closed.1 e);
     closes = made.closes ∙ ap (λ was. closed_by was (Err why)) reads.closes.closes;
     honest = λ h. reads.closes.honest (made.honest h);
+    scale = (false, refl);
   }
 
 -- an entry is added, with the First that it closes
@@ -274,4 +279,5 @@ serves_weighing g asked request same bound served = record {
   still = served.still;
   closes = served.closes;
   honest = served.honest;
+  scale = served.scale;
 }

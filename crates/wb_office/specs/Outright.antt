@@ -1,5 +1,5 @@
 -- What is answered without asking the store.
-use Rattle.std.specs.Prelude.{◌≡◌, List, Result, Ok, Err}
+use Rattle.std.specs.Prelude.{◌≡◌, ℕ, List, Result, Ok, Err}
 use Rattle.wb_scale.specs.Call.{Call}
 use Rattle.wb_scale.specs.History.{moments}
 use Rattle.wb_scale.specs.Indication.{indicated}
@@ -18,7 +18,9 @@ abbrev pub Outright : State → Request → Result Answer Refusal → Type 0
 Outright scale (Weigh key kind plate) result = Unit {0}
 Outright scale (VoidOpen key plate) result = Unit {0}
 Outright scale (Ticket number) result = result ≡ Err NoTicket
-Outright scale Indication result = (calls : List Call) → Stands scale calls → told_of result ≡ Ok (text_told (indication_text scale.setup (indicated scale.setup (moments scale.setup calls))))
+Outright scale Indication result =
+    (text : List ℕ) × (told_of result ≡ Ok (text_told text))
+    × ((calls : List Call) → Stands scale calls → text ≡ indication_text scale.setup (indicated scale.setup (moments scale.setup calls)))
 Outright scale JournalCsv result = Unit {0}
 Outright scale TicketsCsv result = Unit {0}
 Outright scale Purge result = Unit {0}

@@ -107,3 +107,5 @@ module _ {D : Type 0} (g : Ghosts D) (old new : StoreView D) (before after : Sta
     pub still : old.is_closed ≡ true → new ≡ old
     pub closes : new.is_closed ≡ closed_by old.is_closed result
     pub honest : IsHonest g new → IsHonest g old
+    -- the scale is as before, or takes a stored weighing
+    pub scale : (marks : Bool) × Marks before after marks

@@ -1,4 +1,6 @@
 //! What the office is asked.
+ghost use Rattle.std.specs.Prelude.{◌≡◌};
+
 use wb_journal::{Key, Kind, Plate};
 
 /// A request to the office.
@@ -20,4 +22,29 @@ pub enum Request {
     Purge,
     /// The check of the journal.
     Check,
+}
+
+impl Request {
+    /// A copy of the request.
+    pub fn copied(&self) -> Self
+        ensures { result ≡ self.now }
+    {
+        match self {
+            Request::Weigh { key, kind, plate } => Request::Weigh {
+                key: key.copied(),
+                kind: *kind,
+                plate: plate.copied(),
+            },
+            Request::VoidOpen { key, plate } => Request::VoidOpen {
+                key: key.copied(),
+                plate: plate.copied(),
+            },
+            Request::Ticket(number) => Request::Ticket(*number),
+            Request::Indication => Request::Indication,
+            Request::JournalCsv => Request::JournalCsv,
+            Request::TicketsCsv => Request::TicketsCsv,
+            Request::Purge => Request::Purge,
+            Request::Check => Request::Check,
+        }
+    }
 }

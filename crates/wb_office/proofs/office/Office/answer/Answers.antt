@@ -1,6 +1,7 @@
-use Rattle.std.proofs.Common.{sym, refl}
+use Rattle.std.proofs.Common.{sym, refl, ap, ◌∙◌}
 use Rattle.wb_journal.specs.declared.kind.Kind.TheVariants as kind
 use Rattle.wb_office.specs.declared.request.Request.TheVariants as request
+use Rattle.wb_office.specs.Answer.{indication_text}
 use Rattle.wb_office.proofs.Serving.{serves_weighing}
 use Rattle.wb_office.proofs.office.Office.answer.Goals as goal
 
@@ -30,3 +31,16 @@ returns-in-Purge-clause-serves g c = λ asks. rw (sym c.self.view_is, c.in-Purge
 
 pub returns-in-Check-clause-serves : goal.returns-in-Check-clause-serves
 returns-in-Check-clause-serves g c = λ asks. rw (sym c.self.view_is, c.in-Check.is) (c.answer_check.ensures c.args.scale.now c.args.at)
+
+pub returns-in-Indication-clause-outright : goal.returns-in-Indication-clause-outright
+returns-in-Indication-clause-outright g c = λ asks.
+    rw c.in-Indication.is (
+      refl,
+      refl,
+      (
+        c.indication_text.result.bytes,
+        refl,
+        λ calls stood. c.indication_text.ensures ∙ ap (λ s. indication_text s c.indicated.result) c.instrument.ensures.value
+            ∙ ap (indication_text c.args.scale.now.setup) (c.indicated.ensures.value calls stood)
+      ),
+    )
