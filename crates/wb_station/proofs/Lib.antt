@@ -1,9 +1,14 @@
+mod Accounts
 mod Appends
+mod Asked
 mod HeadFacts
 mod Judging
 mod LengthFacts
-pub mod Names
+mod OneHistory
 mod Passing
+mod Replied
 mod RouteFacts
+mod Runs
 mod Seeking
 mod Wholeness
+pub mod Names

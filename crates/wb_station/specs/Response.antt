@@ -3,13 +3,13 @@ use Rattle.std.specs.Prelude.{◌≡◌, ℕ, Bool, true, false, List, [], ◌++
 use Rattle.http.specs.StatusCode.{reason_phrase}
 use Rattle.httpdate.specs.Date.{date_text, unix_secs}
 use Rattle.httpdate.specs.declared.date.HttpDate.{HttpDate}
-use Rattle.wb_office.specs.declared.answer.Answer.{Answer}
-use Rattle.wb_office.specs.declared.answer.Answer.TheVariants.{Csv, Damaged, Purged, Slip, Sound, Text, Ticket}
 use Rattle.wb_office.specs.declared.refusal.Refusal.{Refusal}
 use Rattle.wb_office.specs.declared.refusal.Refusal.TheVariants as refusal
 use Rattle.wb_office.specs.declared.request.Request.{Request}
 use Rattle.wb_office.specs.declared.request.Request.TheVariants as request
+use Rattle.wb_office.specs.Answer.{Told as Answered, csv_told, damaged_told, purged_told, slip_told, sound_told, text_told, ticket_told}
 use Rattle.wb_office.specs.RefusalText as refusal_text
+use Rattle.wb_office.specs.Serves.{told_of}
 use Rattle.wb_station.specs.declared.fault.HttpFault.{HttpFault}
 use Rattle.wb_station.specs.declared.fault.HttpFault.TheVariants.{BadField, HeadTooLarge, Malformed, Memory, NoLength, NoRoute, TooLarge, WrongMethod}
 use Rattle.wb_station.specs.declared.fault.Method.{Method}
@@ -58,23 +58,23 @@ refusal_status refusal.NoTicket = 404
 refusal_status refusal.Damaged = 409
 
 -- the bytes of an answer
-abbrev pub answer_body : Answer → List ℕ
-answer_body (Slip text) = text.bytes
-answer_body (Ticket text) = text.bytes
-answer_body (Text text) = text.bytes ++ codes "\n"
-answer_body (Csv text) = text
-answer_body (Purged count) = codes "PURGED " ++ decimal count ++ codes "\n"
-answer_body (Sound count) = codes "SOUND " ++ decimal count ++ codes "\n"
-answer_body (Damaged number) = codes "DAMAGED " ++ decimal number ++ codes "\n"
+abbrev pub answer_body : Answered → List ℕ
+answer_body (slip_told text) = text
+answer_body (ticket_told text) = text
+answer_body (text_told text) = text ++ codes "\n"
+answer_body (csv_told text) = text
+answer_body (purged_told count) = codes "PURGED " ++ decimal count ++ codes "\n"
+answer_body (sound_told count) = codes "SOUND " ++ decimal count ++ codes "\n"
+answer_body (damaged_told number) = codes "DAMAGED " ++ decimal number ++ codes "\n"
 
-abbrev pub is_csv : Answer → Bool
-is_csv (Slip text) = false
-is_csv (Ticket text) = false
-is_csv (Text text) = false
-is_csv (Csv text) = true
-is_csv (Purged count) = false
-is_csv (Sound count) = false
-is_csv (Damaged number) = false
+abbrev pub is_csv : Answered → Bool
+is_csv (slip_told text) = false
+is_csv (ticket_told text) = false
+is_csv (text_told text) = false
+is_csv (csv_told text) = true
+is_csv (purged_told count) = false
+is_csv (sound_told count) = false
+is_csv (damaged_told number) = false
 
 abbrev pub refused_line : ℕ → List ℕ → List ℕ
 refused_line number name = codes "refused " ++ decimal number ++ codes " " ++ name ++ codes "\n"
@@ -104,10 +104,10 @@ allowed TooLarge = None
 allowed BadField = None
 allowed Memory = None
 
-abbrev pub told_answer : ℕ → Answer → Told
+abbrev pub told_answer : ℕ → Answered → Told
 told_answer status answer = record { status = status; csv = is_csv answer; allow = None; body = answer_body answer }
 
-abbrev pub told_result : Request → Result Answer Refusal → Told
+abbrev pub told_result : Request → Result Answered Refusal → Told
 told_result r (Ok answer) = told_answer (answer_status r) answer
 told_result r (Err why) = record { status = refusal_status why; csv = false; allow = None; body = refused_line (refusal_text.number why) (refusal_text.name why) }
 
@@ -115,7 +115,7 @@ abbrev pub told_fault : HttpFault → Told
 told_fault fault = record { status = fault_text.status fault; csv = false; allow = allowed fault; body = fault_body fault }
 
 abbrev pub told : Outcome → Told
-told (Office request result) = told_result request.now result.now
+told (Office request result) = told_result request.now (told_of result.now)
 told (Fault fault) = told_fault fault
 
 -- ---- the text of a response
@@ -148,12 +148,12 @@ unfoldable pub response_text : Told → List ℕ → List ℕ
 response_text t date = status_line t.status ++ type_lines t.csv date ++ length_lines (length t.body) t.allow ++ t.body
 
 -- an export, which alone may be longer than the room from the start
-abbrev pub is_export : Result Answer Refusal → Bool
+abbrev pub is_export : Result Answered Refusal → Bool
 is_export (Ok answer) = is_csv answer
 is_export (Err why) = false
 
 abbrev pub has_export : Outcome → Bool
-has_export (Office request result) = is_export result.now
+has_export (Office request result) = is_export (told_of result.now)
 has_export (Fault fault) = false
 
 -- the response to an outcome at a moment

@@ -1,5 +1,6 @@
 //! The response to an outcome.
 ghost use Rattle.std.specs.Prelude.{◌≡◌, ◌≤◌, IsOk, OnErr, OnOk, [], false, length, vec_capacity};
+ghost use Rattle.wb_office.specs.Serves.{told as told_by_office, told_of};
 ghost use Rattle.wb_station.specs.Front.{told_by};
 ghost use Rattle.wb_station.specs.Response.{IsDateOf, IsResponse, OneResponse, answer_status as answer_status_of, has_export, is_csv, is_export, phrase as phrase_of, refusal_status as refusal_status_of, response_text, told, told_answer, told_result};
 
@@ -101,8 +102,8 @@ fn put_answer(
     requires empty { room.old.items ≡ [] }
     requires room { 2048 ≤ vec_capacity room.old }
     ensures items { OnOk result (room.new.items
-        ≡ response_text (told_answer status answer.now) date.now) }
-    ensures fits { is_csv answer.now ≡ false → IsOk result }
+        ≡ response_text (told_answer status (told_by_office answer.now)) date.now) }
+    ensures fits { is_csv (told_by_office answer.now) ≡ false → IsOk result }
     ensures capacity { vec_capacity room.old ≤ vec_capacity room.new }
 {
     let plain = Front {
@@ -183,8 +184,8 @@ fn put_result(
     requires empty { room.old.items ≡ [] }
     requires room { 2048 ≤ vec_capacity room.old }
     ensures items { OnOk result (room.new.items
-        ≡ response_text (told_result request.now answered.now) date.now) }
-    ensures fits { is_export answered.now ≡ false → IsOk result }
+        ≡ response_text (told_result request.now (told_of answered.now)) date.now) }
+    ensures fits { is_export (told_of answered.now) ≡ false → IsOk result }
     ensures capacity { vec_capacity room.old ≤ vec_capacity room.new }
 {
     match answered {

@@ -1,10 +1,12 @@
 //! Rows from outside: requests and responses byte by byte.
+mod days;
 mod forms;
 mod heads;
 mod lengths;
 mod memory;
 mod orders;
 mod responses;
+mod station;
 mod targets;
 mod whole;
 

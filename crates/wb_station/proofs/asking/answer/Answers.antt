@@ -1,0 +1,32 @@
+use Rattle.std.proofs.Common.{◌≡◌, ap, refl, subst, subst₂, sym, ◌∙◌, Bool, true, false, true≢false, Result, Ok, Err}
+use Rattle.wb_office.specs.Outright.{Outright}
+use Rattle.wb_office.specs.Serves.{Serves, told_of}
+use Rattle.wb_office.specs.Wanting.{IsWanted}
+use Rattle.wb_station.specs.Account.{responded}
+use Rattle.wb_station.specs.Response.{IsDateOf, is_export, told_result}
+use Rattle.wb_station.proofs.Accounts.{response_is, when_err, when_not_err}
+use Rattle.wb_station.proofs.Asked.{answered_took, failed_took}
+use Rattle.wb_station.proofs.asking.answer.Goals as goal
+
+pub returns-then-is_err : goal.returns-then-is_err
+returns-then-is_err g c = λ bytes judged.
+    failed_took g.D.Store c.law_of_stored_weighings.ensures c.law_of_one_bound.ensures c.law_of_one_judgement.ensures c.args.moment.now bytes c.args.request judged
+    c.args.terminal.now c.answer-result.new.scale c.args.office.now c.answer-result.new.self c.answer-result.result
+    (λ asks. subst₂ (λ sc at. Serves g.D.Store c.args.office.now c.answer-result.new.self sc c.answer-result.new.scale at c.answer-result.result (IsWanted c.args.request)) c.scale_mut.ensures.value
+    c.copied.ensures (c.answer-result.ensures.serves asks))
+    (λ none. subst (λ sc. (c.answer-result.new.self ≡ c.args.office.now) × (c.answer-result.new.scale ≡ sc) × Outright sc c.args.request c.answer-result.result) c.scale_mut.ensures.value
+    (c.answer-result.ensures.outright none))
+    (when_err (is_export (told_of c.answer-result.result)) c.response_bytes.result c.response_bytes.ensures.fits (sym c.is_err.ensures.value ∙ c.if-is_err.true)) (responded c.put_fault.new.room) c.put_fault.ensures
+
+pub returns : goal.returns
+returns g c = λ bytes judged.
+    answered_took g.D.Store c.law_of_stored_weighings.ensures c.law_of_one_bound.ensures c.law_of_one_judgement.ensures c.args.moment.now bytes c.args.request judged
+    c.args.terminal.now c.answer-result.new.scale c.args.office.now c.answer-result.new.self c.answer-result.result
+    (λ asks. subst₂ (λ sc at. Serves g.D.Store c.args.office.now c.answer-result.new.self sc c.answer-result.new.scale at c.answer-result.result (IsWanted c.args.request)) c.scale_mut.ensures.value
+    c.copied.ensures (c.answer-result.ensures.serves asks))
+    (λ none. subst (λ sc. (c.answer-result.new.self ≡ c.args.office.now) × (c.answer-result.new.scale ≡ sc) × Outright sc c.args.request c.answer-result.result) c.scale_mut.ensures.value
+    (c.answer-result.ensures.outright none))
+    (responded c.response_bytes.new.room)
+    (response_is c.args.moment.now c.copied-2.result (told_result c.args.request (told_of c.answer-result.result)) (told_result c.copied-asked.result (told_of c.answer-result.result)) _ c.copied-2.ensures
+    (ap (λ r. told_result r (told_of c.answer-result.result)) c.copied-asked.ensures)
+    (when_not_err c.response_bytes.result c.response_bytes.ensures.value (sym c.is_err.ensures.value ∙ c.if-is_err.false)))

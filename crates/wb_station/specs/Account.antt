@@ -1,0 +1,86 @@
+-- What a history makes of a station: the events of its terminal, the entries and the spent keys, and what it puts out at each place.
+use Rattle.std.specs.Prelude.{◌≡◌, ℕ, Bool, true, false, List, [], ◌∷◌, ◌++◌, if◌then◌else◌, Result, Ok, Err}
+use Rattle.wb_instrument.specs.Setup.{Setup}
+use Rattle.wb_journal.specs.declared.entry.EntryParts.{EntryParts}
+use Rattle.wb_office.specs.declared.request.Request.{Request}
+use Rattle.wb_office.specs.Asking.{Situation}
+use Rattle.wb_office.specs.Serves.{Wanted}
+use Rattle.wb_office.specs.Wanting.{IsWanted}
+use Rattle.wb_scale.specs.History.{moments}
+use Rattle.wb_sics.specs.Calls.{calls}
+use Rattle.wb_sics.specs.declared.reply.Reply.{Reply}
+use Rattle.wb_sics.specs.Event as terminal
+use Rattle.wb_sics.specs.Event.{Event as AtTerminal}
+use Rattle.wb_sics.specs.Replies.{replies}
+use Rattle.wb_sics.specs.ReplyText.{reply_bytes}
+use Rattle.wb_store.specs.Rows.{SpentKey}
+use Rattle.wb_station.specs.declared.fault.HttpFault.{HttpFault}
+use Rattle.wb_station.specs.declared.fault.HttpFault.TheVariants.{Memory}
+use Rattle.wb_station.specs.Happening.{Happening, reading, byte, hang_up, office}
+use Rattle.wb_station.specs.Judgement.{IsJudged}
+use Rattle.wb_station.specs.Response.{IsDateOf, Told, response_text, told_fault, told_result}
+
+-- the events of the terminal, the newest first, and the two lists of the store
+pub record Account : Type 0 where
+  pub terminal : List AtTerminal
+  pub entries : List EntryParts
+  pub spent : List SpentKey
+
+-- at the opening: nothing has come to the terminal
+abbrev pub opened : List EntryParts → List SpentKey → Account
+opened entries spent = record { terminal = []; entries = entries; spent = spent }
+
+-- what is put out: the replies of the terminal, the response of the office, or nothing
+pub data Out : Type 0 where
+  replied : List Reply → Out
+  responded : List ℕ → Out
+  nothing : Out
+
+abbrev pub bytes_of_replies : List Reply → List ℕ
+bytes_of_replies [] = []
+bytes_of_replies (reply ∷ more) = reply_bytes reply ++ bytes_of_replies more
+
+abbrev pub bytes_of : Out → List ℕ
+bytes_of (replied rs) = bytes_of_replies rs
+bytes_of (responded bytes) = bytes
+bytes_of nothing = []
+
+-- something comes to the terminal
+abbrev pub hears : AtTerminal → Account → Account
+hears e a = record { terminal = e ∷ a.terminal; entries = a.entries; spent = a.spent }
+
+-- what the office is asked on, at a moment
+abbrev pub situation : Setup → ℕ → Account → Situation
+situation s at a = record { setup = s; history = moments s (calls s a.terminal); entries = a.entries; spent = a.spent; at = at }
+
+-- what a request leaves; a stored weighing comes to the terminal too
+abbrev pub leaves : Wanted → Account → Account
+leaves want a =
+    record { terminal = if want.marks then terminal.stored ∷ a.terminal else a.terminal; entries = want.entries; spent = want.spent }
+
+-- the response at a moment
+abbrev pub IsResponse : ℕ → Told → Out → Type 0
+IsResponse at told out = (date : List ℕ) × IsDateOf at date × (out ≡ responded (response_text told date))
+
+-- what comes of a request: of a fault of HTTP nothing but its response; else what the office answers, and what it leaves
+abbrev pub ComesOf : Setup → ℕ → Result Request HttpFault → Account → Account → Out → Type 0
+ComesOf s at (Err fault) before after out = (after ≡ before) × IsResponse at (told_fault fault) out
+ComesOf s at (Ok request) before after out =
+    (want : Wanted) × IsWanted request (situation s at before) want × (after ≡ leaves want before) × IsResponse at (told_result request want.answer) out
+
+-- what comes of a happening: the account after it, and what is put out; a request that counts as never made is answered 503
+abbrev pub Comes : Setup → Happening → Account → Account → Out → Type 0
+Comes s (reading r) before after out = (after ≡ hears (terminal.reading r) before) × (out ≡ replied (replies s (terminal.reading r ∷ before.terminal)))
+Comes s (byte b) before after out = (after ≡ hears (terminal.byte b) before) × (out ≡ replied (replies s (terminal.byte b ∷ before.terminal)))
+Comes s hang_up before after out = (after ≡ hears terminal.hang_up before) × (out ≡ nothing)
+Comes s (office at bytes true) before after out = (after ≡ before) × IsResponse at (told_fault Memory) out
+Comes s (office at bytes false) before after out = (r : Result Request HttpFault) × IsJudged bytes r × ComesOf s at r before after out
+
+-- the account of a history that began with this one
+abbrev pub IsAccount : Setup → Account → List Happening → Account → Type 0
+IsAccount s opening [] a = a ≡ opening
+IsAccount s opening (p ∷ h) a = (before : Account) × IsAccount s opening h before × ((out : Out) × Comes s p before a out)
+
+-- what is put out at the newest happening
+abbrev pub IsOut : Setup → Account → Happening → List Happening → Out → Type 0
+IsOut s opening p h out = (before : Account) × IsAccount s opening h before × ((after : Account) × Comes s p before after out)

@@ -1,0 +1,77 @@
+//! A request to the office: judged, answered, and the response to it.
+ghost use Rattle.std.specs.Prelude.{Bool, List, Ok, ℕ};
+ghost use Rattle.wb_station.specs.Account.{IsResponse, responded};
+ghost use Rattle.wb_station.specs.Happening.{office as office_happening};
+ghost use Rattle.wb_station.specs.Judgement.{IsJudged};
+ghost use Rattle.wb_station.specs.Response.{told_fault};
+ghost use Rattle.wb_station.specs.Stands.{Took};
+
+use crate::fault::HttpFault;
+use crate::outcome::Outcome;
+use crate::request::request_of;
+use crate::response::response_bytes;
+use crate::room::ResponseRoom;
+use crate::routes::Routes;
+use crate::whole::law_of_one_judgement;
+use sqlite::Alter;
+use std::alloc::Global;
+use wb_journal::{Moment, law_of_one_bound};
+use wb_office::{Office, Request};
+use wb_sics::{Terminal, law_of_stored_weighings};
+use wb_window::Window;
+
+/// Asks the office what the bytes ask, and leaves the response in the room.
+pub(crate) fn ask<W: Window, D: Alter>(
+    alloc: Global,
+    routes: &Routes,
+    terminal: &mut Terminal<W>,
+    office: &mut Office<D>,
+    room: &mut ResponseRoom,
+    moment: &Moment,
+    bytes: &[u8],
+)
+    ensures { (unmade : Bool) × Took D.Store (office_happening moment.now bytes.now unmade)
+        (responded room.new) terminal.old office.old terminal.new office.new }
+{
+    law_of_one_judgement();
+    match request_of(alloc, routes, bytes) {
+        Ok(request) => answer(alloc, terminal, office, room, moment, request),
+        Err(fault) => put_fault(room, moment, fault),
+    }
+}
+
+/// Has the office answer a request, and leaves the response in the room. An export for whose response memory is refused is
+/// answered 503.
+fn answer<W: Window, D: Alter>(
+    alloc: Global,
+    terminal: &mut Terminal<W>,
+    office: &mut Office<D>,
+    room: &mut ResponseRoom,
+    moment: &Moment,
+    request: Request,
+)
+    ensures { (bytes : List ℕ) → IsJudged bytes (Ok request) → (unmade : Bool)
+        × Took D.Store (office_happening moment.now bytes unmade)
+        (responded room.new) terminal.old office.old terminal.new office.new }
+{
+    law_of_one_bound();
+    law_of_one_judgement();
+    law_of_stored_weighings();
+    let asked = request.copied();
+    let result = office.answer(alloc, terminal.scale_mut(), moment.copied(), request);
+    let outcome = Outcome::Office {
+        request: &asked,
+        result: &result,
+    };
+    if response_bytes(moment.copied(), outcome, room).is_err() {
+        put_fault(room, moment, HttpFault::Memory);
+    }
+}
+
+/// Leaves the response to a fault in the room.
+fn put_fault(room: &mut ResponseRoom, moment: &Moment, fault: HttpFault)
+    ensures { IsResponse moment.now (told_fault fault) (responded room.new) }
+{
+    // it fits into the room
+    let _ = response_bytes(moment.copied(), Outcome::Fault(fault), room);
+}

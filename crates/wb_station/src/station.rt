@@ -1,0 +1,157 @@
+//! The station: a terminal and an office over one scale, and what it puts out at each event.
+ghost use Rattle.std.specs.Borrow.{sem};
+ghost use Rattle.std.specs.Prelude.{◌≡◌, [], Bool, IfErr, IfOk, List};
+ghost use Rattle.wb_journal.specs.declared.entry.EntryParts.{EntryParts};
+ghost use Rattle.wb_station.specs.Account.{opened};
+ghost use Rattle.wb_station.specs.Happening.{IsTaken, happening};
+ghost use Rattle.wb_station.specs.Lends.{Leaves};
+ghost use Rattle.wb_station.specs.Shown.{shown, shown_in};
+ghost use Rattle.wb_station.specs.Stands.{Hears, Stands, Took};
+ghost use Rattle.wb_store.specs.Journal.{Stands as StoreStands};
+ghost use Rattle.wb_store.specs.Rows.{SpentKey};
+
+use crate::asking::ask;
+use crate::event::{Event, Output, Room};
+use crate::room::ResponseRoom;
+use crate::routes::Routes;
+use sqlite::Alter;
+use std::alloc::Global;
+use wb_instrument::Instrument;
+use wb_office::Office;
+use wb_scale::Scale;
+use wb_sics::{Replies, Terminal, law_of_replies};
+use wb_store::{Store, law_of_leaving};
+use wb_window::Window;
+
+/// A weighbridge: readings, the terminal's bytes and the office's requests come to it one by one.
+///
+/// Readings, bytes and hang-ups take no memory. A request that wants memory or the store and is refused it is answered 503, and
+/// counts as never made. After a fault of the disk the store is closed: each later request that asks it is answered 503, while
+/// the terminal, the indication and the faults of HTTP go on.
+#[derive(Drop)]
+pub struct Station<W: Window, D: Alter> {
+    pub(crate) alloc: Global,
+    pub(crate) routes: Routes,
+    pub(crate) terminal: Terminal<W>,
+    pub(crate) office: Office<D>,
+    pub(crate) replies: Replies,
+    pub(crate) response: ResponseRoom,
+}
+
+/// A station that was not opened, for want of memory: its window and its store.
+#[derive(Drop)]
+pub struct OpenRefused<W: Window, D: Alter> {
+    pub window: W,
+    pub store: Store<D>,
+}
+
+impl<W: Window, D: Alter> Station<W, D> {
+    ghost use Rattle.wb_station.specs.contracts.station.Station.{the_row};
+
+    /// A station over a fresh window of the instrument's size and band, and a store. Its zero is the calibration zero, no tare
+    /// is in force, and the bridge isn't cleared.
+    ///
+    /// # Errors
+    ///
+    /// Refuses for want of memory alone, and hands both back.
+    pub fn open(
+        alloc: Global,
+        instrument: Instrument,
+        window: W,
+        store: Store<D>,
+    ) -> Result<Self, OpenRefused<W, D>>
+        requires fresh { W.held window
+            ≡ record { size = instrument.window; band = instrument.band; readings = [] } }
+        ensures setup { IfOk result (λ s. s.terminal.scale.setup ≡ instrument) }
+        ensures stands { IfOk result (λ s. (entries : List EntryParts) (spent : List SpentKey)
+            → StoreStands D.Store store entries spent
+            → Stands D.Store (opened entries spent) s.terminal s.office []) }
+        ensures hears { IfOk result (λ s. Hears s.terminal []) }
+        ensures store { IfOk result (λ s. s.office ≡ store) }
+        ensures hands_back { IfErr result (λ r. (r.window ≡ window) × (r.store ≡ store)) }
+    {
+        law_of_leaving(&store);
+        let Ok(routes) = Routes::new(alloc) else {
+            return Err(OpenRefused { window, store });
+        };
+        let Ok(response) = ResponseRoom::new(alloc) else {
+            return Err(OpenRefused { window, store });
+        };
+        Ok(Station {
+            alloc,
+            routes,
+            terminal: Terminal::new(Scale::new(instrument, window)),
+            office: Office::new(store),
+            replies: Replies::new(),
+            response,
+        })
+    }
+
+    /// Takes an event, and shows what it puts out.
+    pub fn turn(&mut self, event: &Event<'_>) -> Output<'_>
+        requires { IsTaken event.now }
+        ensures* leaves { sem 𝓛 (Leaves (the_row W.row D.row W.Window D.Store) self.entry (λ new. (unmade : Bool)
+            × Took D.Store (happening unmade event.now) (shown result)
+            self.old.terminal self.old.office new.terminal new.office)) }
+    {
+        let room = self.take(event);
+        self.output(room)
+    }
+
+    /// Takes an event, and makes what it puts out in a room.
+    pub(crate) fn take(&mut self, event: &Event<'_>) -> Room
+        requires { IsTaken event.now }
+        ensures { (unmade : Bool) × Took D.Store (happening unmade event.now)
+            (shown_in result self.new.replies.items self.new.response)
+            self.old.terminal self.old.office self.new.terminal self.new.office }
+    {
+        law_of_replies();
+        match event {
+            Event::Reading(reading) => {
+                self.terminal.reading_into(*reading, &mut self.replies);
+                Room::Replies
+            }
+            Event::Byte(byte) => {
+                self.terminal.byte_into(*byte, &mut self.replies);
+                Room::Replies
+            }
+            Event::Hangup => {
+                self.terminal.hangup();
+                Room::Nothing
+            }
+            Event::Office { moment, bytes } => {
+                ask(
+                    self.alloc,
+                    &self.routes,
+                    &mut self.terminal,
+                    &mut self.office,
+                    &mut self.response,
+                    moment,
+                    bytes,
+                );
+                Room::Response
+            }
+        }
+    }
+
+    /// What is in a room.
+    pub(crate) fn output(&self, room: Room) -> Output<'_>
+        ensures { shown result ≡ shown_in room self.now.replies.items self.now.response }
+    {
+        match room {
+            Room::Replies => Output::Replies(&self.replies),
+            Room::Response => Output::Response(self.response.as_slice()),
+            Room::Nothing => Output::Nothing,
+        }
+    }
+}
+
+impl<W: Window + Drop, D: Alter> Station<W, D> {
+    /// The store.
+    pub fn into_store(self) -> Store<D>
+        ensures { result ≡ self.office }
+    {
+        let Station { office, .. } = self;
+        office.into_store()
+    }
+}
