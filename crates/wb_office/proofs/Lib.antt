@@ -1,9 +1,16 @@
+mod Acceptance
 mod Found
 mod InOrder
 mod LookUps
 mod NewEntry
+mod Numbering
 mod OfLoad
+mod Places
 mod Purges
 mod Records
+mod Repeating
 mod Serving
+mod StoredEntry
+mod StoredLoads
+mod TakenKeys
 mod Verdicts

@@ -1,12 +1,14 @@
 -- The verdict, case by case.
-use Rattle.std.proofs.Common.{◌≡◌, true, false, Some, None, refl}
+use Rattle.std.proofs.Common.{◌≡◌, ◌∙◌, sym, true, false, true≢false, Option, Some, None, refl}
 use Rattle.wb_journal.specs.declared.entry.EntryParts.{EntryParts}
 use Rattle.wb_store.specs.Lists.{by_key}
 use Rattle.wb_office.specs.declared.refusal.Refusal.{Refusal}
 use Rattle.wb_office.specs.declared.refusal.Refusal.TheVariants as refusal
 use Rattle.wb_office.specs.Asking.{Asking}
 use Rattle.wb_office.specs.Conditions.{gone, is_damaged, is_other}
-use Rattle.wb_office.specs.Verdict.{accepted, first_refusal, new_entry, of_new, refused, repeated, verdict}
+use Rattle.wb_office.specs.Laws.{KeyDecides}
+use Rattle.wb_office.specs.Verdict.{accepted, first_refusal, new_entry, of_new, on_new, refused, repeated, verdict}
+use Rattle.wb_office.proofs.Found.{found_unspent}
 
 -- the key is that of an entry
 pub by_other : (a : Asking) (e : EntryParts) → by_key a.now.entries a.key ≡ Some e → is_other a e ≡ true → verdict a ≡ refused refusal.KeyReused
@@ -35,3 +37,23 @@ by_condition a why none ungone holds = rw (none, ungone, none, holds) refl
 pub by_none : (a : Asking) → by_key a.now.entries a.key ≡ None → gone a ≡ false → first_refusal of_new a ≡ None → verdict a ≡ accepted (new_entry a)
 unfolding verdict
 by_none a none ungone free = rw (none, ungone, none, free) refl
+
+by_newness : (a : Asking) → by_key a.now.entries a.key ≡ None → gone a ≡ false → verdict a ≡ on_new a (first_refusal of_new a)
+unfolding verdict
+by_newness a none ungone = rw (none, ungone, none) refl
+
+-- an entry of the key that was spent isn't stored
+by_gone : (a : Asking) → gone a ≡ true → (o : Option EntryParts) → by_key a.now.entries a.key ≡ o → ((e : EntryParts) → by_key a.now.entries a.key ≡ Some e → gone a ≡ false) → verdict a ≡ refused refusal.Gone
+by_gone a spent (Some e) found unspent = absurd (true≢false (sym spent ∙ unspent e found))
+by_gone a spent None none unspent = by_spent a none spent
+
+pub key_decides : KeyDecides
+key_decides a lists =
+    let unspent = λ (e : EntryParts) (found : by_key a.now.entries a.key ≡ Some e). found_unspent a.now.entries a.now.spent a.key e lists.apart found in
+    record {
+      repeated = λ e found other sound. by_repetition a e found other (unspent e found) sound;
+      damaged = λ e found other damaged. by_damage a e found other (unspent e found) damaged;
+      reused = λ e found other. by_other a e found other;
+      gone = λ spent. by_gone a spent (by_key a.now.entries a.key) refl unspent;
+      anew = λ none free. by_newness a none free;
+    }

@@ -1,9 +1,11 @@
 pub mod Answer
 pub mod Asking
 pub mod Conditions
+pub mod Course
 pub mod Exports
 pub mod Judged
 pub mod Judging
+pub mod Laws
 pub mod Looks
 pub mod Outright
 pub mod Pairing

@@ -15,6 +15,7 @@ mod indication;
 mod journal_export;
 mod judgement;
 mod judging;
+mod laws;
 mod looking;
 mod new_entry;
 mod office;
@@ -29,6 +30,10 @@ mod tickets_export;
 mod weighing;
 
 pub use answer::{Answer, CsvText};
+pub use laws::{
+    law_of_closing_places, law_of_keys, law_of_known_keys, law_of_numbers, law_of_places,
+    law_of_purged_journals, law_of_repeated_requests, law_of_stored_loads,
+};
 pub use office::Office;
 pub use refusal::Refusal;
 pub use request::Request;

@@ -31,6 +31,7 @@ const INDICATION: &str = "GET /indication HTTP/1.1\r\n\r\n";
 fn weighs_a_pair_and_repeats_its_ticket(rt: HostRuntime) -> Result<(), Fail> {
     day(
         &rt,
+        rt.alloc(),
         1_000,
         &[
             Step::Load(0, 4, ""),
@@ -79,6 +80,7 @@ fn weighs_a_pair_and_repeats_its_ticket(rt: HostRuntime) -> Result<(), Fail> {
 fn a_stored_weighing_asks_for_a_cleared_bridge(rt: HostRuntime) -> Result<(), Fail> {
     day(
         &rt,
+        rt.alloc(),
         1_000,
         &[
             Step::Load(9_170, 4, ""),
@@ -98,6 +100,7 @@ fn a_stored_weighing_asks_for_a_cleared_bridge(rt: HostRuntime) -> Result<(), Fa
 fn a_waiting_command_is_answered_between_requests(rt: HostRuntime) -> Result<(), Fail> {
     day(
         &rt,
+        rt.alloc(),
         1_000,
         &[
             Step::Load(0, 1, ""),
@@ -126,6 +129,7 @@ fn a_waiting_command_is_answered_between_requests(rt: HostRuntime) -> Result<(),
 fn faults_of_http_change_nothing(rt: HostRuntime) -> Result<(), Fail> {
     day(
         &rt,
+        rt.alloc(),
         1_000,
         &[
             Step::Ask(MORNING, "", "400 fault 400 malformed\n"),

@@ -1,0 +1,5 @@
+use Rattle.wb_office.proofs.TakenKeys.{one_entry_per_key}
+use Rattle.wb_office.proofs.laws.law_of_keys.Goals as goal
+
+pub returns : goal.returns
+returns c = one_entry_per_key

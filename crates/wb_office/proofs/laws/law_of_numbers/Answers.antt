@@ -1,0 +1,5 @@
+use Rattle.wb_office.proofs.Numbering.{numbers_run}
+use Rattle.wb_office.proofs.laws.law_of_numbers.Goals as goal
+
+pub returns : goal.returns
+returns c = numbers_run

@@ -1,0 +1,5 @@
+use Rattle.wb_office.proofs.Places.{within_capacity}
+use Rattle.wb_office.proofs.laws.law_of_places.Goals as goal
+
+pub returns : goal.returns
+returns c = within_capacity
