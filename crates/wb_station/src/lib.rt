@@ -1,7 +1,11 @@
-//! The station: the office's requests as they come over HTTP, and its answers as they go back.
+//! The station: a terminal and an office over one scale, event by event.
 //!
-//! The bytes of a request are judged in the order of `specs/Judgement`, and an answer, a refusal or a fault is put into the
-//! form of `specs/Response`. No call here asks the store or the scale; the events of a whole station are to come.
+//! Readings, bytes of the terminal, hang-ups and requests come in one list. `specs/Account` reads off a history what came to the
+//! terminal, the entries and the spent keys, and what is put out at each event, by the definitions of the terminal and of the
+//! office; a request that is answered 503 counts as never made. `Station::turn` and `run` meet it for every history.
+//!
+//! The bytes of a request are judged in the order of `specs/Judgement`, and an answer, a refusal or a fault is put into the form of
+//! `specs/Response`.
 #![tactic(auto)]
 
 mod asking;
