@@ -1,6 +1,7 @@
 mod Accounts
 mod Appends
 mod Asked
+mod CourseFacts
 mod HeadFacts
 mod Judging
 mod LengthFacts

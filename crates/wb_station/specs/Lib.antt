@@ -1,5 +1,6 @@
 pub mod Account
 pub mod BodyLength
+pub mod Courses
 pub mod Faults
 pub mod Form
 pub mod Found

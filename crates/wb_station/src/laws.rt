@@ -1,7 +1,9 @@
 //! Laws of whole histories.
+ghost use Rattle.wb_station.specs.Courses.{HasCourse, SameAgain};
 ghost use Rattle.wb_station.specs.Laws.{OneHistory, RepliesAlone};
 
 use crate::whole::law_of_one_judgement;
+use wb_office::law_of_repeated_requests;
 use wb_sics::law_of_replies;
 
 /// A history has one account, and at each event one output.
@@ -16,4 +18,18 @@ pub fn law_of_replies_alone()
     ensures { RepliesAlone }
 {
     law_of_replies();
+}
+
+/// The requests of a history are a course of the office, so that the office's laws on every course hold of every history: a key is
+/// accepted at most once, numbers run, places stay within the capacity.
+pub fn law_of_courses()
+    ensures { HasCourse }
+{}
+
+/// A request that added an entry is answered as at first whenever it is made again, whatever came between, or its entry was purged
+/// and it is refused as gone.
+pub fn law_of_same_again()
+    ensures { SameAgain }
+{
+    law_of_repeated_requests();
 }
