@@ -41,6 +41,6 @@ returns-in-Indication-clause-outright g c = λ asks.
         c.indication_text.result.bytes,
         refl,
         λ calls stood. c.indication_text.ensures ∙ ap (λ s. indication_text s c.indicated.result) c.instrument.ensures.value
-            ∙ ap (indication_text c.args.scale.now.setup) (c.indicated.ensures.value calls stood)
+            ∙ ap (indication_text c.args.scale.now.setup) (c.indicated.ensures.value calls stood),
       ),
     )
