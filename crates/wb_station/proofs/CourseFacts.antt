@@ -1,5 +1,5 @@
 -- The requests of a history as a course of the office.
-use Rattle.std.proofs.Common.{◌≡◌, ℕ, ◌⊎◌, inl, inr, refl, sym, ap, subst, ◌∙◌, Bool, true, false, List, [], ◌∷◌, ◌++◌, Option, Some, Result, Ok, Err}
+use Rattle.std.proofs.Common.{◌≡◌, ℕ, ◌⊎◌, inl, inr, refl, sym, ap, subst, subst₂, ◌∙◌, Bool, true, false, List, [], ◌∷◌, ◌++◌, Option, Some, Result, Ok, Err}
 use Rattle.wb_instrument.specs.Setup.{Setup}
 use Rattle.wb_journal.specs.declared.entry.EntryParts.{EntryParts}
 use Rattle.wb_office.specs.declared.refusal.Refusal.{Refusal}
@@ -11,10 +11,10 @@ use Rattle.wb_office.specs.Course.{AreBounds, Journal, Turn, added, after, answe
 use Rattle.wb_office.specs.Laws.{AnsweredAgain, IsGone, IsKept}
 use Rattle.wb_office.specs.Serves.{Wanted}
 use Rattle.wb_office.specs.Wanting.{HasBound, IsWanted, wanted}
-use Rattle.wb_store.specs.Lists.{AreLists}
+use Rattle.wb_store.specs.Lists.{by_key, is_spent}
 use Rattle.wb_station.specs.declared.fault.HttpFault.{HttpFault}
 use Rattle.wb_station.specs.Account.{Account, ComesOf, IsAccount, Out, leaves, situation}
-use Rattle.wb_station.specs.Courses.{AreTurns, HasCourse, IsCourse, SameAgain, journal_of, turn}
+use Rattle.wb_station.specs.Courses.{Adds, AreTurns, HasCourse, IsCourse, KeptForGood, SameAgain, journal_of, turn}
 use Rattle.wb_station.specs.Happening.{Happening, reading, byte, hang_up, office}
 use Rattle.wb_station.specs.Judgement.{IsJudged}
 
@@ -53,18 +53,41 @@ has_course s opening (office at bytes true ∷ h) a is = let c = has_course s op
 has_course s opening (office at bytes false ∷ h) a is =
     one_turn s opening at bytes h is.2.1.0 is.0 a is.2.0 is.2.1.1 is.1 is.2.1.2 (has_course s opening h is.0 is.1)
 
+module _ (law : AnsweredAgain) (s : Setup) (before : Account) (request : Request) (want : Wanted) (e : EntryParts) (adds : Adds s before request want e) (later : List Happening) (c : Account)
+    (account : IsAccount s (leaves want before) later c) where
+  abbrev first_turn : Turn
+  first_turn = turn s adds.at request adds.is.bound before
+
+  start : journal_of (leaves want before) ≡ left (journal_of before) first_turn
+  start = left_by s adds.at request before want adds.is
+
+  course_of : IsCourse s (leaves want before) later c
+  course_of = has_course s (leaves want before) later c account
+
+  bounds : AreBounds (left (journal_of before) first_turn) course_of.turns
+  bounds = subst (λ j. AreBounds j course_of.turns) start course_of.bounds
+
+  ends : journal_of c ≡ after (left (journal_of before) first_turn) course_of.turns
+  ends = course_of.leads ∙ ap (λ j. after j course_of.turns) start
+
+  either : (u : Turn) → u.request ≡ request → IsKept (journal_of c) e (answer_in (journal_of before) first_turn) (answer_in (journal_of c) u) ⊎ IsGone (journal_of c) e (answer_in (journal_of c) u)
+  either u same = subst (λ j. IsKept j e (answer_in (journal_of before) first_turn) (answer_in j u) ⊎ IsGone j e (answer_in j u)) (sym ends)
+      (law (journal_of before) adds.lists first_turn e adds.adds course_of.turns bounds u same)
+
+  pub again : (at : ℕ) (want' : Wanted) → IsWanted request (situation s at c) want' → IsKept (journal_of c) e want.answer want'.answer ⊎ IsGone (journal_of c) e want'.answer
+  again at want' is' = subst₂ (λ x y. IsKept (journal_of c) e x y ⊎ IsGone (journal_of c) e y) (sym (ap (λ x. x.answer) adds.is.is)) (sym (ap (λ x. x.answer) is'.is))
+      (either (turn s at request is'.bound c) refl)
+
+  pub stays : (by_key c.entries e.key ≡ Some e) ⊎ (is_spent c.spent e.key ≡ true)
+  stays = one (either first_turn refl)
+    where
+      one : IsKept (journal_of c) e (answer_in (journal_of before) first_turn) (answer_in (journal_of c) first_turn) ⊎ IsGone (journal_of c) e (answer_in (journal_of c) first_turn)
+          → (by_key c.entries e.key ≡ Some e) ⊎ (is_spent c.spent e.key ≡ true)
+      one (inl kept) = inl kept.stored
+      one (inr gone) = inr gone.spent
+
 pub same_again : AnsweredAgain → SameAgain
-same_again law s m lists at request want is e adds later c account at' want' is' =
-    let t : Turn = turn s at request is.bound m in
-    let u : Turn = turn s at' request is'.bound c in
-    let start : journal_of (leaves want m) ≡ left (journal_of m) t = left_by s at request m want is in
-    let k : IsCourse s (leaves want m) later c = has_course s (leaves want m) later c account in
-    let bounds : AreBounds (left (journal_of m) t) k.turns = subst (λ j. AreBounds j k.turns) start k.bounds in
-    let ends : journal_of c ≡ after (left (journal_of m) t) k.turns = k.leads ∙ ap (λ j. after j k.turns) start in
-    let first : want.answer ≡ answer_in (journal_of m) t = ap (λ x. x.answer) is.is in
-    let again : want'.answer ≡ answer_in (after (left (journal_of m) t) k.turns) u = ap (λ x. x.answer) is'.is ∙ ap (λ j. answer_in j u) ends in
-    either first again (law (journal_of m) lists t e adds k.turns bounds u refl)
-  where
-    either : {j : Journal} {x y : Result Told Refusal} → want.answer ≡ x → want'.answer ≡ y → IsKept j e x y ⊎ IsGone j e y → (want'.answer ≡ want.answer) ⊎ (want'.answer ≡ Err Gone)
-    either first again (inl kept) = inl (again ∙ kept.same ∙ sym first)
-    either first again (inr gone) = inr (again ∙ gone.gone)
+same_again = again
+
+pub kept_for_good : AnsweredAgain → KeptForGood
+kept_for_good = stays

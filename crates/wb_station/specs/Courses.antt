@@ -2,14 +2,14 @@
 use Rattle.std.specs.Prelude.{◌≡◌, ◌⊎◌, ℕ, Bool, true, false, List, [], ◌∷◌, ◌++◌, Some, Result, Ok, Err}
 use Rattle.wb_instrument.specs.Setup.{Setup}
 use Rattle.wb_journal.specs.declared.entry.EntryParts.{EntryParts}
-use Rattle.wb_office.specs.declared.refusal.Refusal.TheVariants.{Gone}
 use Rattle.wb_office.specs.declared.request.Request.{Request}
 use Rattle.wb_office.specs.Course.{AreBounds, Journal, Turn, added, after}
+use Rattle.wb_office.specs.Laws.{IsGone, IsKept}
 use Rattle.wb_office.specs.Serves.{Wanted}
 use Rattle.wb_office.specs.Wanting.{IsWanted}
 use Rattle.wb_scale.specs.History.{moments}
 use Rattle.wb_sics.specs.Calls.{calls}
-use Rattle.wb_store.specs.Lists.{AreLists}
+use Rattle.wb_store.specs.Lists.{AreLists, by_key, is_spent}
 use Rattle.wb_station.specs.declared.fault.HttpFault.{HttpFault}
 use Rattle.wb_station.specs.Account.{Account, IsAccount, leaves, situation}
 use Rattle.wb_station.specs.Happening.{Happening, reading, byte, hang_up, office}
@@ -50,9 +50,24 @@ pub record IsCourse (s : Setup) (opening : Account) (h : List Happening) (a : Ac
 abbrev pub HasCourse : Type 0
 HasCourse = (s : Setup) (opening : Account) (h : List Happening) (a : Account) → IsAccount s opening h a → IsCourse s opening h a
 
--- a request that added an entry, asked again after whatever came, is answered as at first, or it was purged and is gone
+-- ---- an entry that was added
+
+-- in a situation of this account the request adds the entry, and this is wanted of it
+pub record Adds (s : Setup) (before : Account) (request : Request) (want : Wanted) (e : EntryParts) : Type 0 where
+  pub lists : AreLists before.entries before.spent
+  pub at : ℕ
+  pub is : IsWanted request (situation s at before) want
+  pub adds : added (situation s at before) request ≡ Some e
+
+-- it is asked again after whatever came: its entry is stored, and the answer and the ticket of its number are those that it had at first; or
+-- it was purged, and it is refused as gone
 abbrev pub SameAgain : Type 0
-SameAgain = (s : Setup) (m : Account) → AreLists m.entries m.spent → (at : ℕ) (request : Request) (want : Wanted) → IsWanted request (situation s at m) want
-    → (e : EntryParts) → added (situation s at m) request ≡ Some e
-    → (later : List Happening) (c : Account) → IsAccount s (leaves want m) later c
-    → (at' : ℕ) (want' : Wanted) → IsWanted request (situation s at' c) want' → (want'.answer ≡ want.answer) ⊎ (want'.answer ≡ Err Gone)
+SameAgain = (s : Setup) (before : Account) (request : Request) (want : Wanted) (e : EntryParts) → Adds s before request want e
+    → (later : List Happening) (c : Account) → IsAccount s (leaves want before) later c
+    → (at : ℕ) (again : Wanted) → IsWanted request (situation s at c) again → IsKept (journal_of c) e want.answer again.answer ⊎ IsGone (journal_of c) e again.answer
+
+-- after whatever came it is stored, or its key is spent
+abbrev pub KeptForGood : Type 0
+KeptForGood = (s : Setup) (before : Account) (request : Request) (want : Wanted) (e : EntryParts) → Adds s before request want e
+    → (later : List Happening) (c : Account) → IsAccount s (leaves want before) later c
+    → (by_key c.entries e.key ≡ Some e) ⊎ (is_spent c.spent e.key ≡ true)

@@ -1,5 +1,5 @@
 //! Laws of whole histories.
-ghost use Rattle.wb_station.specs.Courses.{HasCourse, SameAgain};
+ghost use Rattle.wb_station.specs.Courses.{HasCourse, KeptForGood, SameAgain};
 ghost use Rattle.wb_station.specs.Laws.{OneHistory, RepliesAlone};
 
 use crate::whole::law_of_one_judgement;
@@ -26,10 +26,17 @@ pub fn law_of_courses()
     ensures { HasCourse }
 {}
 
-/// A request that added an entry is answered as at first whenever it is made again, whatever came between, or its entry was purged
-/// and it is refused as gone.
+/// A request that added an entry is answered as at first whenever it is made again, and so is the ticket of its number, whatever
+/// came between; or its entry was purged, and it is refused as gone.
 pub fn law_of_same_again()
     ensures { SameAgain }
+{
+    law_of_repeated_requests();
+}
+
+/// An entry that was added is stored in every later account, or its key is spent.
+pub fn law_of_kept_entries()
+    ensures { KeptForGood }
 {
     law_of_repeated_requests();
 }

@@ -32,7 +32,10 @@ mod whole;
 
 pub use event::{Event, Output};
 pub use fault::{HttpFault, Method};
-pub use laws::{law_of_courses, law_of_one_history, law_of_replies_alone, law_of_same_again};
+pub use laws::{
+    law_of_courses, law_of_kept_entries, law_of_one_history, law_of_replies_alone,
+    law_of_same_again,
+};
 pub use outcome::Outcome;
 pub use output_list::{OutputList, Placed};
 pub use outputs::{Outputs, Refused};
