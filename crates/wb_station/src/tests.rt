@@ -6,6 +6,7 @@ mod lengths;
 mod memory;
 mod orders;
 mod responses;
+mod runs;
 mod station;
 mod targets;
 mod whole;

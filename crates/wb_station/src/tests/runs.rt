@@ -1,0 +1,105 @@
+//! Runs of events: what is handed on, and where a run stops.
+ghost use Rattle.wb_station.specs.Kept.{kept_of};
+
+use super::days::{instrument, store};
+use crate::{Event, OutputList, Outputs, Placed, Refused, RunStopped, Station};
+use sqlite::Connection;
+use std::alloc::Global;
+use std::test::Fail;
+use wb_window::RingWindow;
+
+/// Takes so many outputs, and refuses every later one.
+#[derive(Drop)]
+struct Limited {
+    alloc: Global,
+    most: usize,
+    outputs: Vec<Placed>,
+    refusals: u64,
+}
+
+impl Outputs for Limited {
+    ghost taken = { λ s. kept_of s.outputs.items };
+
+    ghost refusals = { λ s. s.refusals };
+
+    fn put(&mut self, at: u64, bytes: &[u8]) -> Result<(), Refused> {
+        if self.most <= self.outputs.len() {
+            self.refusals += 1;
+            return Err(Refused);
+        }
+        match Vec::from_slice(self.alloc, bytes) {
+            Ok(copy) => match self.outputs.push(Placed { at, bytes: copy }) {
+                Ok(()) => Ok(()),
+                Err(_) => {
+                    self.refusals += 1;
+                    Err(Refused)
+                }
+            },
+            Err(_) => {
+                self.refusals += 1;
+                Err(Refused)
+            }
+        }
+    }
+}
+
+/// `SI` and a line feed, three times.
+const ASKED: [Event<'static>; 9] = [
+    Event::Byte(b'S'),
+    Event::Byte(b'I'),
+    Event::Byte(b'\n'),
+    Event::Byte(b'S'),
+    Event::Byte(b'I'),
+    Event::Byte(b'\n'),
+    Event::Byte(b'S'),
+    Event::Byte(b'I'),
+    Event::Byte(b'\n'),
+];
+
+#[test]
+fn hands_on_each_reply_at_its_place(rt: HostRuntime) -> Result<(), Fail> {
+    let alloc = rt.alloc();
+    let instrument = instrument(1_000)?;
+    let window = RingWindow::new(alloc, instrument.window() as usize, instrument.band())?;
+    let store = store(Connection::open_in_memory(alloc)?)?;
+    match Station::open(alloc, instrument, window, store) {
+        Ok(station) => {
+            let mut station = station;
+            let mut outputs = OutputList::new(alloc);
+            assert_eq!(rt; station.run(&ASKED, &mut outputs), Ok(()));
+            let taken = outputs.outputs();
+            assert_eq!(rt; taken.len(), 3);
+            for (place, output) in taken.iter().enumerate() {
+                assert_eq!(rt; output.at, 3 * (place as u64 + 1));
+                assert_eq!(rt; output.bytes.as_slice(), b"S I\r\n".as_slice());
+            }
+            Ok(())
+        }
+        Err(_) => Err("no station".into()),
+    }
+}
+
+#[test]
+fn stops_at_the_output_that_is_refused(rt: HostRuntime) -> Result<(), Fail> {
+    let alloc = rt.alloc();
+    let instrument = instrument(1_000)?;
+    let window = RingWindow::new(alloc, instrument.window() as usize, instrument.band())?;
+    let store = store(Connection::open_in_memory(alloc)?)?;
+    match Station::open(alloc, instrument, window, store) {
+        Ok(station) => {
+            let mut station = station;
+            let mut outputs = Limited {
+                alloc,
+                most: 1,
+                outputs: Vec::new(alloc),
+                refusals: 0,
+            };
+            let stopped = station.run(&ASKED, &mut outputs);
+            assert_eq!(rt; stopped, Err(RunStopped { events: 6 }));
+            assert_eq!(rt; outputs.outputs.len(), 1);
+            assert_eq!(rt; outputs.outputs[0].at, 3);
+            Ok(())
+        }
+        Err(_) => Err("no station".into()),
+    }
+}
