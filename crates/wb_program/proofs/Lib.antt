@@ -1,5 +1,7 @@
 pub mod Ending
 pub mod FirstLine
 pub mod LineKinds
-pub mod Replaying
+pub mod Progress
+pub mod Taken
 pub mod Typing
+pub mod Writing

@@ -1,5 +1,5 @@
 -- The events of a line, by its first byte.
-use Rattle.std.proofs.Common.{◌≡◌, ℕ, ◌-◌, ◌≤◌, List, [], ◌∷◌, length, take, drop, slice_index_or, refl, sym, ◌∙◌, ap, arith}
+use Rattle.std.proofs.Common.{◌≡◌, ℕ, ◌-◌, ◌≤◌, List, [], ◌∷◌, length, take, drop, slice_index_or, refl, ◌∙◌, ap, arith}
 use Rattle.std.proofs.Math.Seq.{take-length}
 use Rattle.wb_program.specs.TraceLines.{line_events, of_text, reading_line, without_blank}
 

@@ -2,16 +2,19 @@
 use Rattle.std.proofs.Common.{ℕ, List, [], ◌∷◌, map, Option, sym, subst, Ok, Err}
 use Rattle.std.specs.Prelude.{OnOk, reverse}
 use Rattle.std.specs.declared.result.Result.{Result}
-use Rattle.wb_program.specs.TraceLines.{typed}
-use Rattle.wb_sics.specs.Event.{byte}
-use Rattle.wb_sics.specs.Stands.{TerminalState}
+use Rattle.sqlite.specs.Store.{Ghosts}
 use Rattle.wb_program.specs.Performed.{Performed}
-use Rattle.wb_program.proofs.Replaying.{Performed-append, reversed-typed}
+use Rattle.wb_program.specs.TraceLines.{typed}
+use Rattle.wb_program.proofs.Taken.{Performed-append, reversed-typed}
+use Rattle.wb_sics.specs.Stands.{TerminalState}
+use Rattle.wb_station.specs.Happening.{byte}
+use Rattle.wb_store.specs.Journal.{StoreView}
 
 -- a text was typed, and then a line end
-pub Typed-line : {T E : Type 0} (text : List ℕ) (a b c d : TerminalState) (x y z w : Option (List ℕ)) (r : Result T E) → Performed (reverse (map byte text)) a b x y → Performed (byte 13 ∷ []) b c y z
-    → OnOk r (Performed (byte 10 ∷ []) c d z w) → OnOk r (Performed (reverse (typed text)) a d x w)
-Typed-line text a b c d x y z w (Ok v) first second third =
-    subst (λ es. Performed es a d x w) (sym (reversed-typed text))
-    (Performed-append (byte 13 ∷ reverse (map byte text)) (byte 10 ∷ []) a c d x z w (Performed-append (reverse (map byte text)) (byte 13 ∷ []) a b c x y z first second) third)
-Typed-line text a b c d x y z w (Err e) first second third = third
+pub Typed-line : {D : Type 0} (g : Ghosts D) {T E : Type 0} (text : List ℕ) (ta : TerminalState) (ja : StoreView D) (tb : TerminalState) (jb : StoreView D) (tc : TerminalState) (jc : StoreView D)
+    (td : TerminalState) (jd : StoreView D) (x y z w : Option (List ℕ)) (r : Result T E) → Performed g (reverse (map byte text)) ta ja tb jb x y → Performed g (byte 13 ∷ []) tb jb tc jc y z
+    → OnOk r (Performed g (byte 10 ∷ []) tc jc td jd z w) → OnOk r (Performed g (reverse (typed text)) ta ja td jd x w)
+Typed-line g text ta ja tb jb tc jc td jd x y z w (Ok v) first second third =
+    subst (λ es. Performed g es ta ja td jd x w) (sym (reversed-typed text))
+    (Performed-append g (byte 13 ∷ reverse (map byte text)) (byte 10 ∷ []) ta ja tc jc td jd x z w (Performed-append g (reverse (map byte text)) (byte 13 ∷ []) ta ja tb jb tc jc x y z first second) third)
+Typed-line g text ta ja tb jb tc jc td jd x y z w (Err e) first second third = third

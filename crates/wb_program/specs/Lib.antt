@@ -4,5 +4,7 @@ pub mod Performed
 pub mod Printed
 pub mod Reading
 pub mod Replayed
+pub mod RequestLines
 pub mod Trace
 pub mod TraceLines
+pub mod Words

@@ -1,5 +1,7 @@
 -- Numbers in a trace.
 use Rattle.std.specs.Prelude.{ℕ, ◌==◌, ◌&&◌, nat_le, List, [], ◌∷◌, if◌then◌else◌, Option, Some, None, option_map, ℤ, pos, neg_ℤ}
+use Rattle.hex.specs.Hex.{decode_of}
+use Rattle.std.specs.Result.{result_ok}
 use Rattle.wb_text.specs.Digits.{digits}
 
 -- an optional minus sign, and 1 to 18 digits
@@ -18,3 +20,8 @@ if_within least most (Some n) = within least most n
 abbrev pub count : List ℕ → Option ℕ
 count [] = None
 count (c ∷ cs) = if c == 48 then None else if_within 1 10000 (digits 18 (c ∷ cs))
+
+-- bytes: an even number of hexadecimal digits, at least two
+abbrev pub hexadecimal : List ℕ → Option (List ℕ)
+hexadecimal [] = None
+hexadecimal (digit ∷ digits) = result_ok (decode_of (digit ∷ digits))

@@ -1,11 +1,19 @@
--- What performing events does.
-use Rattle.std.specs.Prelude.{ℕ, List, Option}
+-- What performing a list of happenings does.
+use Rattle.std.specs.Prelude.{◌≡◌, ℕ, List, Option, map}
 use Rattle.std.specs.Io.KnownBytes.{Appends}
-use Rattle.wb_sics.specs.Event.{Event}
-use Rattle.wb_program.specs.Printed.{printed_after}
-use Rattle.wb_sics.specs.Stands.{Stands, TakesAll, TerminalState}
+use Rattle.sqlite.specs.Store.{Ghosts}
+use Rattle.wb_program.specs.Printed.{printed}
+use Rattle.wb_sics.specs.Stands.{TerminalState}
+use Rattle.wb_station.specs.Account.{Out}
+use Rattle.wb_station.specs.Happening.{Happening, unmarked}
+use Rattle.wb_station.specs.Running.{Ran}
+use Rattle.wb_store.specs.Journal.{StoreView}
 
--- the events es, the newest first, led from one terminal to the other, and the replies to them were printed
-pub record Performed (es : List Event) (old new : TerminalState) (w w' : Option (List ℕ)) : Type 0 where
-  pub takes : TakesAll old new es
-  pub printed : (h : List Event) → Stands old h → Appends w w' (printed_after old.scale.setup es h)
+module _ {D : Type 0} (g : Ghosts D) (asked : List Happening) (t : TerminalState) (j : StoreView D) (t' : TerminalState) (j' : StoreView D) (w w' : Option (List ℕ)) where
+  -- what is asked for, the newest first, led from one station to the other, but for the marks, and what was put out was printed
+  pub record Performed : Type 0 where
+    pub happenings : List Happening
+    pub outs : List Out
+    pub as_asked : map unmarked happenings ≡ asked
+    pub ran : Ran g happenings t j t' j' outs
+    pub written : Appends w w' (printed outs)

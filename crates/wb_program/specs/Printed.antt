@@ -1,24 +1,50 @@
--- The printed form of replies.
-use Rattle.std.specs.Prelude.{ℕ, List, [], ◌∷◌, ◌++◌}
-use Rattle.wb_instrument.specs.Setup.{Setup}
+-- The printed form of what is put out.
+use Rattle.std.specs.Prelude.{ℕ, Bool, true, false, List, [], ◌∷◌, ◌++◌, codes}
+use Rattle.std.specs.List.{after_first}
+use Rattle.std.specs.Str.Lines.{lines}
+use Rattle.wb_program.specs.Words.{after_word, first_word}
 use Rattle.wb_sics.specs.declared.reply.Reply.{Reply}
-use Rattle.wb_sics.specs.Event.{Event}
-use Rattle.wb_sics.specs.Replies.{replies}
 use Rattle.wb_sics.specs.ReplyText.{reply_text}
+use Rattle.wb_station.specs.Account.{Out, nothing, replied, responded}
 
 -- `t `, the reply without its CR LF, and a line feed
 abbrev pub printed_reply : Reply → List ℕ
-printed_reply reply = (116 ∷ 32 ∷ []) ++ reply_text reply ++ 10 ∷ []
+printed_reply reply = codes "t " ++ reply_text reply ++ codes "\n"
 
 abbrev pub printed_replies : List Reply → List ℕ
 printed_replies [] = []
 printed_replies (reply ∷ more) = printed_reply reply ++ printed_replies more
 
--- what is printed of the events es after h, both the newest first
-abbrev pub printed_after : Setup → List Event → List Event → List ℕ
-printed_after s [] h = []
-printed_after s (e ∷ es) h = printed_after s es h ++ printed_replies (replies s (e ∷ (es ++ h)))
+-- the second word of a response
+abbrev pub status_of : List ℕ → List ℕ
+status_of response = first_word (after_word response)
 
--- what is printed of a history
-abbrev pub printed : Setup → List Event → List ℕ
-printed s h = printed_after s h []
+abbrev pub is_empty_line : List ℕ → Bool
+is_empty_line [] = true
+is_empty_line (b ∷ bs) = false
+
+-- the lines of its body: those after the first empty one
+abbrev pub body_lines : List ℕ → List (List ℕ)
+body_lines response = after_first is_empty_line (lines response)
+
+-- `| `, the line and a line feed
+abbrev pub printed_line : List ℕ → List ℕ
+printed_line line = codes "| " ++ line ++ codes "\n"
+
+abbrev pub printed_lines : List (List ℕ) → List ℕ
+printed_lines [] = []
+printed_lines (line ∷ more) = printed_line line ++ printed_lines more
+
+-- `o `, the status and a line feed, then the lines of the body
+abbrev pub printed_response : List ℕ → List ℕ
+printed_response response = codes "o " ++ status_of response ++ codes "\n" ++ printed_lines (body_lines response)
+
+abbrev pub printed_out : Out → List ℕ
+printed_out (replied rs) = printed_replies rs
+printed_out (responded response) = printed_response response
+printed_out nothing = []
+
+-- all that was put out, the newest first
+abbrev pub printed : List Out → List ℕ
+printed [] = []
+printed (out ∷ outs) = printed outs ++ printed_out out

@@ -1,20 +1,32 @@
 -- What a replay did.
-use Rattle.std.specs.Prelude.{◌≡◌, ℕ, ◌+◌, ◌≤◌, ◌<◌, List, length, take, reverse, Option, Some, None, IfSome, option_map, slice_get}
+use Rattle.std.specs.Prelude.{◌≡◌, ℕ, ◌+◌, ◌≤◌, ◌<◌, List, [], length, map, take, reverse, Option, Some, None, IfSome, option_map, slice_get}
 use Rattle.std.specs.Io.KnownBytes.{Appends}
 use Rattle.std.specs.Str.Lines.{lines}
 use Rattle.wb_instrument.specs.Setup.{Setup}
-use Rattle.wb_program.specs.declared.replay.ReplayEnd.{ReplayEnd}
-use Rattle.wb_program.specs.declared.replay.ReplayEnd.TheVariants.{Done, BadLine, TooLong, ReadFault, WriteFault, Memory}
-use Rattle.wb_sics.specs.Event.{Event}
+use Rattle.wb_program.specs.declared.replaying.ReplayEnd.{ReplayEnd}
+use Rattle.wb_program.specs.declared.replaying.ReplayEnd.TheVariants.{Done, BadLine, TooLong, ReadFault, WriteFault, Memory}
 use Rattle.wb_program.specs.TraceLines.{line_events}
 use Rattle.wb_program.specs.Trace.{trace_events, trace_limit}
 use Rattle.wb_program.specs.Printed.{printed}
+use Rattle.wb_station.specs.Account.{Account, Out, opened}
+use Rattle.wb_station.specs.Happening.{Happening, unmarked}
+use Rattle.wb_station.specs.Running.{AreOuts, AreReplies}
+use Rattle.wb_station.specs.Unmade.{AllMayBeUnmade}
 
--- lines were understood, and what was written is the printed form of the replies to their events
+-- a journal without entries, and a terminal to which nothing has come
+abbrev pub at_first : Account
+at_first = opened [] []
+
+-- lines were understood, and what was written is the printed form of what a station puts out at them: its happenings, the newest
+-- first, are those of the lines, but that a request which may want memory or asks the store may count as never made
 pub record Replayed (s : Setup) (ls : List (List ℕ)) (w w' : Option (List ℕ)) : Type 0 where
-  pub events : List Event
-  pub understood : trace_events ls ≡ Some events
-  pub written : Appends w w' (printed s (reverse events))
+  pub happenings : List Happening
+  pub outs : List Out
+  pub understood : trace_events ls ≡ Some (reverse (map unmarked happenings))
+  pub may_be_unmade : AllMayBeUnmade happenings
+  pub put_out : AreOuts s at_first happenings [] outs
+  pub replies : AreReplies s happenings [] outs
+  pub written : Appends w w' (printed outs)
 
 -- line n, counted from 1, is the first that isn't understood, and those before it were replayed
 pub record StopsAt (s : Setup) (ls : List (List ℕ)) (n : ℕ) (w w' : Option (List ℕ)) : Type 0 where

@@ -1,6 +1,6 @@
--- A trace: the events of its lines.
+-- A trace: what happens at its lines.
 use Rattle.std.specs.Prelude.{ℕ, List, [], ◌∷◌, ◌++◌, Option, Some, None}
-use Rattle.wb_sics.specs.Event.{Event}
+use Rattle.wb_station.specs.Happening.{Happening}
 use Rattle.wb_program.specs.TraceLines.{line_events}
 
 -- the bytes that a trace may have
@@ -8,12 +8,12 @@ abbrev pub trace_limit : ℕ
 trace_limit = 1048576
 
 -- both lists, where both are there
-abbrev pub both : Option (List Event) → Option (List Event) → Option (List Event)
+abbrev pub both : Option (List Happening) → Option (List Happening) → Option (List Happening)
 both None more = None
 both (Some es) None = None
 both (Some es) (Some more) = Some (es ++ more)
 
--- the events of lines, the first first; none where one isn't understood
-abbrev pub trace_events : List (List ℕ) → Option (List Event)
+-- what happens at lines, the first first; none where one isn't understood
+abbrev pub trace_events : List (List ℕ) → Option (List Happening)
 trace_events [] = Some []
 trace_events (l ∷ ls) = both (line_events l) (trace_events ls)

@@ -2,33 +2,32 @@
 use Rattle.std.specs.Prelude.{ℕ, ◌==◌, List, [], ◌∷◌, ◌++◌, map, replicate, if◌then◌else◌, Option, Some, None, option_map, nat_eq, is_some}
 use Rattle.std.specs.List.{position, before_first, after_first}
 use Rattle.std.specs.Cmp.Lexicographic.{pointwise}
-use Rattle.std.specs.Result.{result_ok}
-use Rattle.hex.specs.Hex.{decode_of}
 use Rattle.wb_window.specs.Reading.{reading_of}
 use Rattle.wb_window.specs.declared.reading.Reading.{Reading}
 use Rattle.wb_window.specs.declared.reading.Reading.TheVariants.{Lost}
-use Rattle.wb_sics.specs.Event.{Event, reading, byte, hang_up}
-use Rattle.wb_program.specs.Numerals.{number, count}
+use Rattle.wb_station.specs.Happening.{Happening, reading, byte, hang_up}
+use Rattle.wb_program.specs.Numerals.{number, count, hexadecimal}
+use Rattle.wb_program.specs.RequestLines.{request_bytes_line, request_line}
 
 -- `lost`, or a number of tenths
 abbrev pub reading_word : List ℕ → Option Reading
 reading_word word = if pointwise nat_eq word (108 ∷ 111 ∷ 115 ∷ 116 ∷ []) then Some Lost else option_map reading_of (number word)
 
 -- so many times the reading, where both are there
-abbrev pub repeated : Option Reading → Option ℕ → Option (List Event)
+abbrev pub repeated : Option Reading → Option ℕ → Option (List Happening)
 repeated None n = None
 repeated (Some r) None = None
 repeated (Some r) (Some n) = Some (replicate n (reading r))
 
 -- a reading, then optionally a blank and a count
-abbrev pub reading_line : List ℕ → Option (List Event)
+abbrev pub reading_line : List ℕ → Option (List Happening)
 reading_line text =
     if is_some (position (λ b. b == 32) text)
     then repeated (reading_word (before_first (λ b. b == 32) text)) (count (after_first (λ b. b == 32) text))
     else repeated (reading_word text) (Some 1)
 
 -- the bytes of a text typed at the terminal, and the line's end
-abbrev pub typed : List ℕ → List Event
+abbrev pub typed : List ℕ → List Happening
 typed text = map byte (text ++ 13 ∷ 10 ∷ [])
 
 -- nothing, or what stands after one blank
@@ -42,21 +41,20 @@ without_blank [] = None
 without_blank (b ∷ text) = if b == 32 then Some text else None
 
 -- at least one byte in hexadecimal
-abbrev pub bytes_line : List ℕ → Option (List Event)
-bytes_line [] = None
-bytes_line (digit ∷ digits) = option_map (map byte) (result_ok (decode_of (digit ∷ digits)))
+abbrev pub bytes_line : List ℕ → Option (List Happening)
+bytes_line digits = option_map (map byte) (hexadecimal digits)
 
-abbrev pub hang_up_line : List ℕ → Option (List Event)
+abbrev pub hang_up_line : List ℕ → Option (List Happening)
 hang_up_line [] = Some (hang_up ∷ [])
 hang_up_line (b ∷ rest) = None
 
--- the events of the text, where there is one
-abbrev pub of_text : (List ℕ → Option (List Event)) → Option (List ℕ) → Option (List Event)
+-- what the text gives, where there is one
+abbrev pub of_text : (List ℕ → Option (List Happening)) → Option (List ℕ) → Option (List Happening)
 of_text events None = None
 of_text events (Some text) = events text
 
--- the events of a line, the first first; none where it isn't understood
-abbrev pub line_events : List ℕ → Option (List Event)
+-- what happens at a line, the first first; none where it isn't understood
+abbrev pub line_events : List ℕ → Option (List Happening)
 line_events [] = Some []
 line_events (kind ∷ rest) =
     if kind == 35 then Some []
@@ -64,4 +62,6 @@ line_events (kind ∷ rest) =
     else if kind == 116 then option_map typed (typed_text rest)
     else if kind == 98 then of_text bytes_line (without_blank rest)
     else if kind == 104 then hang_up_line rest
+    else if kind == 111 then of_text request_line (without_blank rest)
+    else if kind == 120 then of_text request_bytes_line (without_blank rest)
     else None

@@ -1,6 +1,7 @@
-//! The lines of a trace.
-ghost use Rattle.std.specs.Prelude.{◌≡◌, ◌<◌, ◌≤◌, ◌∷◌, [], IfSome, MatchOption, length};
+//! Lines, and the words of a line.
+ghost use Rattle.std.specs.Prelude.{◌≡◌, ◌<◌, ◌≤◌, ◌+◌, ◌∷◌, [], IfSome, MatchOption, length};
 ghost use Rattle.std.specs.Str.Lines.{lines, strip_carriage_return as strip};
+ghost use Rattle.wb_program.specs.Words.{after_word, first_word};
 
 use wb_text::split_at_first;
 
@@ -29,5 +30,17 @@ fn without_carriage_return(line: &[u8]) -> &[u8]
     match line {
         [before @ .., last] => { if *last == b'\r' { before } else { line } }
         [] => line,
+    }
+}
+
+/// The first word, and what follows the blank after it.
+pub(crate) fn split_word(text: &[u8]) -> (&[u8], &[u8])
+    ensures word { result.0.now ≡ first_word text.now }
+    ensures rest { result.1.now ≡ after_word text.now }
+    ensures within { length result.0.now + length result.1.now ≤ length text.now }
+{
+    match split_at_first(text, b' ') {
+        Some((word, rest)) => (word, rest),
+        None => (text, &[]),
     }
 }

@@ -1,7 +1,9 @@
 //! Numbers in a trace.
-ghost use Rattle.std.specs.Prelude.{◌≡◌};
-ghost use Rattle.wb_program.specs.Numerals.{count as count_of, number as number_of};
+ghost use Rattle.std.specs.Prelude.{◌≡◌, ◌≤◌, ◌+◌, ◌*◌, IfSome, length, option_map, take};
+ghost use Rattle.wb_program.specs.Numerals.{count as count_of, hexadecimal as hexadecimal_of, number as number_of};
+ghost use Rattle.wb_program.specs.RequestLines.{moment as moment_of};
 
+use wb_journal::Moment;
 use wb_text::digits;
 
 /// The digits that a number may have.
@@ -43,5 +45,38 @@ pub(crate) fn count(text: &[u8]) -> Option<u32>
                 None
             }
         }
+    }
+}
+
+/// The seconds of a moment, with no leading zero.
+pub(crate) fn moment(text: &[u8]) -> Option<Moment>
+    ensures { result ≡ moment_of text.now }
+{
+    match text {
+        [] => None,
+        [_] => Moment::new(digits(text, MOST_DIGITS)?),
+        [first, _, ..] => {
+            if *first == b'0' {
+                return None;
+            }
+            Moment::new(digits(text, MOST_DIGITS)?)
+        }
+    }
+}
+
+/// At least one byte in hexadecimal, decoded into the room: how many bytes they are.
+pub(crate) fn hexadecimal(digits: &[u8], room: &mut [u8]) -> Option<usize>
+    requires { length digits.now ≤ 2 * length room.old + 1 }
+    ensures bytes { option_map (λ n. take n room.new) result ≡ hexadecimal_of digits.now }
+    ensures within { IfSome result (λ n. n ≤ length room.new) }
+    ensures room { length room.new ≡ length room.old }
+{
+    if digits.is_empty() {
+        return None;
+    }
+    let count = digits.len() / 2;
+    match hex::decode_to_slice(digits, &mut room[..count]) {
+        Ok(()) => Some(count),
+        Err(_) => None,
     }
 }

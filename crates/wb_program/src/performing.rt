@@ -1,134 +1,114 @@
-//! What the lines of a trace do to a terminal.
-ghost use Rattle.std.specs.Io.KnownBytes.{Appends};
-ghost use Rattle.std.specs.Prelude.{◌≡◌, ◌∷◌, [], List, OnOk, map, replicate, reverse};
+//! What the lines of a trace do to a station.
+ghost use Rattle.std.specs.Prelude.{◌∷◌, [], false, OnOk, map, replicate, reverse};
 ghost use Rattle.wb_program.specs.LineEvents.{IsRead, events_of};
 ghost use Rattle.wb_program.specs.Performed.{Performed};
-ghost use Rattle.wb_program.specs.Printed.{printed_replies, printed_reply};
 ghost use Rattle.wb_program.specs.TraceLines.{typed};
-ghost use Rattle.wb_sics.specs.Event.{byte as byte_event, reading as reading_event};
+ghost use Rattle.wb_station.specs.Happening.{IsTaken, byte as byte_happening, happening, reading as reading_happening};
 ghost use Rattle.wb_window.specs.Reading.{IsReading};
 
+use crate::printing::print_output;
 use crate::trace_line::TraceLine;
+use sqlite::Alter;
 use std::io;
 use std::io::Write;
-use wb_sics::{Replies, Reply, Terminal};
-use wb_window::{DequeWindow, Reading};
+use wb_station::{Event, Station};
+use wb_window::{Reading, Window};
 
-/// Does what a line asks for, with its bytes in the room, and writes the replies.
-pub(crate) fn perform<O: Write>(
-    terminal: &mut Terminal<DequeWindow>,
+/// Does what a line asks for, with its bytes in the room, and prints what is put out.
+pub(crate) fn perform<W: Window, D: Alter, O: Write>(
+    station: &mut Station<W, D>,
     line: TraceLine<'_>,
     room: &[u8],
-    replies: &mut Replies,
     writer: &mut O,
 ) -> io::Result<()>
     requires { IsRead room.now line }
-    ensures { OnOk result (Performed (reverse (events_of room.now line.entry))
-        terminal.old terminal.new (O.contents writer.old) (O.contents writer.new)) }
+    ensures { OnOk result (Performed D.Store (reverse (events_of room.now line.entry))
+        station.old.terminal station.old.office station.new.terminal station.new.office
+        (O.contents writer.old) (O.contents writer.new)) }
 {
     match line {
         TraceLine::Nothing => Ok(()),
-        TraceLine::Readings { reading, times } => take_readings(
-            terminal, reading, times, replies, writer,
-        ),
-        TraceLine::Text(text) => type_line(terminal, text, replies, writer),
-        TraceLine::Bytes(count) => type_text(terminal, &room[..count], replies, writer),
-        TraceLine::HangUp => {
-            terminal.hangup();
-            Ok(())
+        TraceLine::Readings { reading, times } => take_readings(station, reading, times, writer),
+        TraceLine::Text(text) => type_line(station, text, writer),
+        TraceLine::Bytes(count) => type_text(station, &room[..count], writer),
+        TraceLine::HangUp => take_event(station, &Event::Hangup, writer),
+        TraceLine::Request { moment, length } => {
+            let bytes = &room[..length];
+            take_event(station, &Event::Office { moment, bytes }, writer)
         }
     }
 }
 
-fn take_readings<O: Write>(
-    terminal: &mut Terminal<DequeWindow>,
+fn take_readings<W: Window, D: Alter, O: Write>(
+    station: &mut Station<W, D>,
     reading: Reading,
     times: u32,
-    replies: &mut Replies,
     writer: &mut O,
 ) -> io::Result<()>
     requires { IsReading reading }
-    ensures { OnOk result (Performed (replicate times (reading_event reading))
-        terminal.old terminal.new (O.contents writer.old) (O.contents writer.new)) }
-{
-    for _ in 0..times {
-        take_reading(terminal, reading, replies, writer)?;
-    }
-    Ok(())
-}
-
-fn take_reading<O: Write>(
-    terminal: &mut Terminal<DequeWindow>,
-    reading: Reading,
-    replies: &mut Replies,
-    writer: &mut O,
-) -> io::Result<()>
-    requires { IsReading reading }
-    ensures { OnOk result (Performed (reading_event reading ∷ []) terminal.old terminal.new
+    ensures { OnOk result (Performed D.Store (replicate times (reading_happening reading))
+        station.old.terminal station.old.office station.new.terminal station.new.office
         (O.contents writer.old) (O.contents writer.new)) }
 {
-    terminal.reading_into(reading, replies);
-    print_replies(replies, writer)
+    for _ in 0..times {
+        take_event(station, &Event::Reading(reading), writer)?;
+    }
+    Ok(())
 }
 
 /// Types a text and a line end.
-fn type_line<O: Write>(
-    terminal: &mut Terminal<DequeWindow>,
+fn type_line<W: Window, D: Alter, O: Write>(
+    station: &mut Station<W, D>,
     text: &[u8],
-    replies: &mut Replies,
     writer: &mut O,
 ) -> io::Result<()>
-    ensures { OnOk result (Performed (reverse (typed text.now)) terminal.old terminal.new
+    ensures { OnOk result (Performed D.Store (reverse (typed text.now))
+        station.old.terminal station.old.office station.new.terminal station.new.office
         (O.contents writer.old) (O.contents writer.new)) }
 {
-    type_text(terminal, text, replies, writer)?;
-    type_byte(terminal, b'\r', replies, writer)?;
-    type_byte(terminal, b'\n', replies, writer)
+    type_text(station, text, writer)?;
+    type_byte(station, b'\r', writer)?;
+    type_byte(station, b'\n', writer)
 }
 
-fn type_text<O: Write>(
-    terminal: &mut Terminal<DequeWindow>,
+fn type_text<W: Window, D: Alter, O: Write>(
+    station: &mut Station<W, D>,
     text: &[u8],
-    replies: &mut Replies,
     writer: &mut O,
 ) -> io::Result<()>
-    ensures { OnOk result (Performed (reverse (map byte_event text.now)) terminal.old terminal.new
+    ensures { OnOk result (Performed D.Store (reverse (map byte_happening text.now))
+        station.old.terminal station.old.office station.new.terminal station.new.office
         (O.contents writer.old) (O.contents writer.new)) }
 {
     for byte in text {
-        type_byte(terminal, *byte, replies, writer)?;
+        type_byte(station, *byte, writer)?;
     }
     Ok(())
 }
 
-fn type_byte<O: Write>(
-    terminal: &mut Terminal<DequeWindow>,
+fn type_byte<W: Window, D: Alter, O: Write>(
+    station: &mut Station<W, D>,
     byte: u8,
-    replies: &mut Replies,
     writer: &mut O,
 ) -> io::Result<()>
-    ensures { OnOk result (Performed (byte_event byte ∷ []) terminal.old terminal.new
+    ensures { OnOk result (Performed D.Store (byte_happening byte ∷ [])
+        station.old.terminal station.old.office station.new.terminal station.new.office
         (O.contents writer.old) (O.contents writer.new)) }
 {
-    terminal.byte_into(byte, replies);
-    print_replies(replies, writer)
+    take_event(station, &Event::Byte(byte), writer)
 }
 
-fn print_replies<O: Write>(replies: &Replies, writer: &mut O) -> io::Result<()>
-    ensures { OnOk result (Appends
-        (O.contents writer.old) (O.contents writer.new) (printed_replies replies.now.items)) }
+/// Hands an event to the station, and prints what it puts out.
+fn take_event<W: Window, D: Alter, O: Write>(
+    station: &mut Station<W, D>,
+    event: &Event<'_>,
+    writer: &mut O,
+) -> io::Result<()>
+    requires { IsTaken event.now }
+    ensures { OnOk result (Performed D.Store (happening false event.now ∷ [])
+        station.old.terminal station.old.office station.new.terminal station.new.office
+        (O.contents writer.old) (O.contents writer.new)) }
 {
-    for reply in replies.as_slice() {
-        print_reply(reply, writer)?;
-    }
-    Ok(())
-}
-
-fn print_reply<O: Write>(reply: &Reply, writer: &mut O) -> io::Result<()>
-    ensures { OnOk result (Appends
-        (O.contents writer.old) (O.contents writer.new) (printed_reply reply.now)) }
-{
-    writer.write_all(b"t ")?;
-    writer.write_all(reply.text().as_str().as_bytes())?;
-    writer.write_all(b"\n")
+    let output = station.turn(event);
+    print_output(output, writer)
 }

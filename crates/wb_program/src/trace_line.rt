@@ -5,7 +5,9 @@ ghost use Rattle.wb_program.specs.LineEvents.{IsRead, events_of};
 ghost use Rattle.wb_program.specs.TraceLines.{bytes_line, hang_up_line, line_events, of_text, reading_line, reading_word as reading_of_word, typed, typed_text as typed_text_of, without_blank};
 ghost use Rattle.wb_window.specs.Reading.{IsReading};
 
-use crate::numerals::{count, number};
+use crate::numerals::{count, hexadecimal, number};
+use crate::request_line::{request_bytes_line, request_line};
+use wb_journal::Moment;
 use wb_text::split_at_first;
 use wb_window::Reading;
 
@@ -22,11 +24,13 @@ pub(crate) enum TraceLine<'a> {
     Bytes(usize),
     /// The terminal's connection ends.
     HangUp,
+    /// A request to the office at a moment: the first so many bytes of the room.
+    Request { moment: Moment, length: usize },
 }
 
 /// What a line asks for, with its bytes in the room; none if it isn't understood.
 pub(crate) fn read_line<'a>(line: &'a [u8], room: &mut [u8]) -> Option<TraceLine<'a>>
-    requires { length line.now ≤ 2 * length room.old + 1 }
+    requires { length line.now + 64 ≤ length room.old }
     ensures events { option_map (events_of room.new) result ≡ line_events line.now }
     ensures read { IfSome result (IsRead room.new) }
     ensures room { length room.new ≡ length room.old }
@@ -44,6 +48,10 @@ pub(crate) fn read_line<'a>(line: &'a [u8], room: &mut [u8]) -> Option<TraceLine
                 bytes(after_blank(rest)?, room)
             } else if *kind == b'h' {
                 hang_up(rest)
+            } else if *kind == b'o' {
+                request_line(after_blank(rest)?, room)
+            } else if *kind == b'x' {
+                request_bytes_line(after_blank(rest)?, room)
             } else {
                 None
             }
@@ -109,14 +117,7 @@ fn bytes(digits: &[u8], room: &mut [u8]) -> Option<TraceLine<'static>>
     ensures read { IfSome result (IsRead room.new) }
     ensures room { length room.new ≡ length room.old }
 {
-    if digits.is_empty() {
-        return None;
-    }
-    let count = digits.len() / 2;
-    match hex::decode_to_slice(digits, &mut room[..count]) {
-        Ok(()) => Some(TraceLine::Bytes(count)),
-        Err(_) => None,
-    }
+    Some(TraceLine::Bytes(hexadecimal(digits, room)?))
 }
 
 fn hang_up(rest: &[u8]) -> Option<TraceLine<'static>>

@@ -9,7 +9,7 @@ mod OneHistory
 mod Passing
 mod Replied
 mod RouteFacts
-mod Runs
 mod Seeking
 mod Wholeness
 pub mod Names
+pub mod Runs

@@ -3,16 +3,18 @@ use Rattle.std.proofs.Common.{◌≡◌, ◌≢◌, ℕ, ◌+◌, ◌<◌, List,
 use Rattle.std.specs.Prelude.{reverse}
 use Rattle.std.proofs.lemmas.List.{reverse-append, map-append, take_more}
 use Rattle.sqlite.specs.Store.{Ghosts}
+use Rattle.wb_instrument.specs.Setup.{Setup}
 use Rattle.wb_sics.specs.Stands.{TerminalState}
 use Rattle.wb_store.specs.Journal.{IsHonest, StoreView}
 use Rattle.wb_station.specs.declared.event.Event.{Event}
 use Rattle.wb_station.specs.declared.event.Event.TheVariants.{Reading, Byte, Hangup, Office}
-use Rattle.wb_station.specs.Account.{IsOut, Out, bytes_of}
+use Rattle.wb_station.specs.Account.{Account, IsOut, Out, bytes_of}
 use Rattle.wb_station.specs.Happening.{Happening, happening, unmarked}
-use Rattle.wb_station.specs.Running.{AreOf, Ran, Stopped, Went, WentOn, at_place, taken_of}
-use Rattle.wb_station.specs.Stands.{IsReplied, Took}
+use Rattle.wb_station.specs.Running.{AreOf, AreOuts, AreReplies, Ran, Stopped, Went, WentOn, at_place, taken_of}
+use Rattle.wb_station.specs.Stands.{Hears, IsReplied, Stands, Took}
+use Rattle.wb_station.specs.Unmade.{AllMayBeUnmade}
 
-unmarked_happening : (unmade : Bool) (e : Event) → unmarked (happening unmade e) ≡ happening false e
+pub unmarked_happening : (unmade : Bool) (e : Event) → unmarked (happening unmade e) ≡ happening false e
 unmarked_happening unmade (Reading r) = refl
 unmarked_happening unmade (Byte b) = refl
 unmarked_happening unmade Hangup = refl
@@ -48,6 +50,36 @@ module _ {D : Type 0} (g : Ghosts D) where
     honest = λ honest. ran.honest (took.honest honest);
     hears = λ h ears. took.hears (ps ++ h) (ran.hears h ears);
     replies = λ h ears. (subst (λ s. IsReplied s p (ps ++ h) out) ran.setup (took.replies (ps ++ h) (ran.hears h ears)), ran.replies h ears);
+  }
+
+-- what was put out of some happenings and then of others
+outs_append : (s : Setup) (o : Account) (ps qs h : List Happening) (outs more : List Out) → AreOuts s o ps h outs → AreOuts s o qs (ps ++ h) more → AreOuts s o (qs ++ ps) h (more ++ outs)
+outs_append s o ps [] h outs more first next = subst (λ l. AreOuts s o ps h (l ++ outs)) (sym next) first
+outs_append s o ps (q ∷ qs) h outs [] first next = absurd next
+outs_append s o ps (q ∷ qs) h outs (out ∷ more) first next = (subst (λ l. IsOut s o q l out) (sym (append_assoc qs ps h)) next.0, outs_append s o ps qs h outs more first next.1)
+
+replies_append : (s : Setup) (ps qs h : List Happening) (outs more : List Out) → AreReplies s ps h outs → AreReplies s qs (ps ++ h) more → AreReplies s (qs ++ ps) h (more ++ outs)
+replies_append s ps [] h outs more first next = subst (λ l. AreReplies s ps h (l ++ outs)) (sym next) first
+replies_append s ps (q ∷ qs) h outs [] first next = absurd next
+replies_append s ps (q ∷ qs) h outs (out ∷ more) first next = (subst (λ l. IsReplied s q l out) (sym (append_assoc qs ps h)) next.0, replies_append s ps qs h outs more first next.1)
+
+unmade_append : (ps qs : List Happening) → AllMayBeUnmade ps → AllMayBeUnmade qs → AllMayBeUnmade (qs ++ ps)
+unmade_append ps [] first next = first
+unmade_append ps (q ∷ qs) first next = (next.0, unmade_append ps qs first next.1)
+
+module _ {D : Type 0} (g : Ghosts D) (ps qs : List Happening) (outs more : List Out) (t : TerminalState) (j : StoreView D) (t' : TerminalState) (j' : StoreView D) (t'' : TerminalState) (j'' : StoreView D) where
+  -- some happenings, and then others
+  pub ran_append : Ran g ps t j t' j' outs → Ran g qs t' j' t'' j'' more → Ran g (qs ++ ps) t j t'' j'' (more ++ outs)
+  ran_append first next = record {
+    setup = next.setup ∙ first.setup;
+    may_be_unmade = unmade_append ps qs first.may_be_unmade next.may_be_unmade;
+    stands = λ o h st honest. subst (λ l. Stands g o t'' j'' l) (sym (append_assoc qs ps h)) (next.stands o (ps ++ h) (first.stands o h st (next.honest honest)) honest);
+    put_out = λ o h st honest. outs_append t.scale.setup o ps qs h outs more (first.put_out o h st (next.honest honest))
+        (subst (λ s. AreOuts s o qs (ps ++ h) more) first.setup (next.put_out o (ps ++ h) (first.stands o h st (next.honest honest)) honest));
+    honest = λ honest. first.honest (next.honest honest);
+    hears = λ h ears. subst (λ l. Hears t'' l) (sym (append_assoc qs ps h)) (next.hears (ps ++ h) (first.hears h ears));
+    replies = λ h ears. replies_append t.scale.setup ps qs h outs more (first.replies h ears)
+        (subst (λ s. AreReplies s qs (ps ++ h) more) first.setup (next.replies (ps ++ h) (first.hears h ears)));
   }
 
 -- so many events were taken

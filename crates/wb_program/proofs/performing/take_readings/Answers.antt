@@ -1,11 +1,15 @@
 use Rattle.std.proofs.Common.{[], ◌∷◌, replicate, subst}
-use Rattle.wb_sics.specs.Event.{reading}
 use Rattle.wb_program.specs.Performed.{Performed}
-use Rattle.wb_program.proofs.Replaying.{Performed-append, replicate-more}
+use Rattle.wb_program.proofs.Taken.{Performed-append, Performed-none, replicate-more}
+use Rattle.wb_station.specs.Happening.{reading}
 use Rattle.wb_program.proofs.performing.take_readings.Goals as goal
+
+pub loop-init : goal.loop-init
+loop-init g c = Performed-none g.D.Store c.args.station.now.terminal c.args.station.now.office (g.O.Write.contents c.args.writer.now)
 
 pub loop-preserved : goal.loop-preserved
 loop-preserved g c =
-    subst (λ es. Performed es c.args.terminal.now c.take_reading.new.terminal (g.O.Write.contents c.args.writer.now) (g.O.Write.contents c.take_reading.new.writer)) (replicate-more c.loop.counter (reading c.args.reading))
-    (Performed-append (replicate c.loop.counter (reading c.args.reading)) (reading c.args.reading ∷ []) c.args.terminal.now c.loop.terminal c.take_reading.new.terminal _ _ _
-    c.loop.invariant c.in_ok-take_reading.ensures)
+    subst (λ es. Performed g.D.Store es c.args.station.now.terminal c.args.station.now.office c.take_event.new.station.terminal c.take_event.new.station.office (g.O.Write.contents c.args.writer.now)
+    (g.O.Write.contents c.take_event.new.writer)) (replicate-more c.loop.counter (reading c.args.reading))
+    (Performed-append g.D.Store (replicate c.loop.counter (reading c.args.reading)) (reading c.args.reading ∷ []) _ _ c.loop.station.terminal c.loop.station.office _ _ _ _ _
+    c.loop.invariant c.in_ok-take_event.ensures)

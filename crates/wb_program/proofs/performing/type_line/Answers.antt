@@ -3,5 +3,4 @@ use Rattle.wb_program.proofs.performing.type_line.Goals as goal
 
 pub returns : goal.returns
 returns g c =
-    Typed-line c.args.text.now c.args.terminal.now c.type_text.new.terminal c.type_byte.new.terminal c.type_byte-2.new.terminal _ _ _ _ c.type_byte-2.result
-    c.in_ok-type_text.ensures c.in_ok-type_byte.ensures c.type_byte-2.ensures
+    Typed-line g.D.Store c.args.text.now _ _ _ _ _ _ _ _ _ _ _ _ c.type_byte-2.result c.in_ok-type_text.ensures c.in_ok-type_byte.ensures c.type_byte-2.ensures

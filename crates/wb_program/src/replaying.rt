@@ -1,19 +1,23 @@
 //! Replays of traces.
-ghost use Rattle.std.specs.Prelude.{◌≡◌, ◌≤◌, ◌+◌, ◌*◌, [], IfOk, length};
+ghost use Rattle.sqlite.specs.Steps.{over_memory};
+ghost use Rattle.std.specs.Prelude.{◌≡◌, ◌≤◌, ◌+◌, [], IfOk, IfSome, length};
 ghost use Rattle.std.specs.Str.Lines.{lines};
-ghost use Rattle.wb_program.specs.Replayed.{Ends, IsUntouched, ReplaysLines, WasRun};
-ghost use Rattle.wb_sics.specs.Stands.{Stands};
+ghost use Rattle.wb_program.specs.Replayed.{Ends, IsUntouched, ReplaysLines, WasRun, at_first};
+ghost use Rattle.wb_station.specs.Stands.{Hears, Stands};
+ghost use Rattle.wb_store.specs.Journal.{Stands as StoreStands};
 
 use crate::lines::first_line;
 use crate::performing::perform;
+use crate::request_line::HEAD_ROOM;
 use crate::trace::{TraceFault, read_trace};
 use crate::trace_line::read_line;
+use sqlite::{Connection, MemStore};
 use std::alloc::{AllocError, Global};
 use std::io::{Read, Write};
 use thiserror::Error;
 use wb_instrument::Instrument;
-use wb_scale::Scale;
-use wb_sics::{Replies, Terminal};
+use wb_station::Station;
+use wb_store::Store;
 use wb_window::DequeWindow;
 
 /// The status of any fault but refused words or a refused setup.
@@ -56,7 +60,7 @@ impl ReplayEnd {
     }
 }
 
-/// Reads a trace to its end, and writes the printed form of the replies to it.
+/// Reads a trace to its end, and writes the printed form of what a station over a journal in memory puts out at it.
 pub fn replay<R: Read, O: Write>(
     alloc: Global,
     instrument: Instrument,
@@ -73,15 +77,42 @@ pub fn replay<R: Read, O: Write>(
         Err(TraceFault::ReadFault) => return ReplayEnd::ReadFault,
         Err(TraceFault::Memory) => return ReplayEnd::Memory,
     };
-    let Ok(mut room) = room_for(alloc, trace.len() / 2) else {
+    let Ok(mut room) = room_for(alloc, trace.len() + HEAD_ROOM) else {
         return ReplayEnd::Memory;
     };
-    match DequeWindow::new(alloc, instrument.window() as usize, instrument.band()) {
-        Ok(window) => {
-            let mut terminal = Terminal::new(Scale::new(instrument, window));
-            replay_lines(&mut terminal, trace.as_slice(), room.as_mut_slice(), writer)
-        }
-        Err(_) => ReplayEnd::Memory,
+    let Some(mut station) = station_in_memory(alloc, instrument) else {
+        return ReplayEnd::Memory;
+    };
+    replay_lines(&mut station, trace.as_slice(), room.as_mut_slice(), writer)
+}
+
+/// A station over a journal in memory, to which nothing has come.
+fn station_in_memory(
+    alloc: Global,
+    instrument: Instrument,
+) -> Option<Station<DequeWindow, MemStore>>
+    ensures setup { IfSome result (λ s. s.terminal.scale.setup ≡ instrument) }
+    ensures stands { IfSome result (λ s. Stands over_memory at_first s.terminal s.office []) }
+    ensures hears { IfSome result (λ s. Hears s.terminal []) }
+{
+    let store = store_in_memory(alloc)?;
+    let window = DequeWindow::new(alloc, instrument.window() as usize, instrument.band()).ok()?;
+    match Station::open(alloc, instrument, window, store) {
+        Ok(station) => Some(station),
+        Err(_) => None,
+    }
+}
+
+/// A store over an empty database in memory.
+fn store_in_memory(alloc: Global) -> Option<Store<MemStore>>
+    ensures { IfSome result (λ s. StoreStands over_memory s [] []) }
+{
+    match Connection::open_in_memory(alloc) {
+        Ok(conn) => match Store::open(conn) {
+            Ok(store) => Some(store),
+            Err(_) => None,
+        },
+        Err(_) => None,
     }
 }
 
@@ -96,27 +127,27 @@ fn room_for(alloc: Global, size: usize) -> Result<Vec<u8>, AllocError>
 
 /// Replays the lines of a trace, up to the first that isn't understood.
 fn replay_lines<O: Write>(
-    terminal: &mut Terminal<DequeWindow>,
+    station: &mut Station<DequeWindow, MemStore>,
     trace: &[u8],
     room: &mut [u8],
     writer: &mut O,
 ) -> ReplayEnd
     requires short { length trace.now ≤ 1_048_576 }
-    requires room { length trace.now ≤ 2 * length room.old + 1 }
-    ensures lines { Stands terminal.old []
-        → ReplaysLines result terminal.old.scale.setup (lines trace.now)
+    requires room { length trace.now + 64 ≤ length room.old }
+    ensures lines { Stands over_memory at_first station.old.terminal station.old.office []
+        → Hears station.old.terminal []
+        → ReplaysLines result station.old.terminal.scale.setup (lines trace.now)
         (O.contents writer.old) (O.contents writer.new) }
     ensures run { WasRun result }
 {
     let mut rest = trace;
     let mut number = 0u64;
-    let mut replies = Replies::new();
     while let Some((line, after)) = first_line(rest) {
         number += 1;
         let Some(asked) = read_line(line, room) else {
             return ReplayEnd::BadLine(number);
         };
-        match perform(terminal, asked, room, &mut replies, writer) {
+        match perform(station, asked, room, writer) {
             Ok(()) => rest = after,
             Err(_) => return ReplayEnd::WriteFault,
         }

@@ -1,25 +1,15 @@
-//! The program `weighbridge`.
-//!
-//! `replay` reads a trace of converter readings and terminal lines on standard input, and prints the terminal's
-//! replies. A trace is replayed over any reader and writer; the command line and the process's own streams stand
-//! around that.
+//! The program `weighbridge`: its command line, and the process's own streams around what `wb_program` does.
 #![tactic(auto)]
 
-mod lines;
-mod numerals;
-mod performing;
-mod replay;
 #[cfg(test)]
 mod tests;
-mod trace;
-mod trace_line;
 mod words;
 
-use crate::replay::ReplayEnd;
 use crate::words::{Asked, REFUSED, read_words};
 use std::io;
 use std::process::ExitCode;
 use wb_instrument::Instrument;
+use wb_program::{ReplayEnd, replay};
 
 fn main(rt: HostRuntime) -> io::Result<ExitCode> {
     let mut words = Vec::new(rt.alloc());
@@ -42,7 +32,7 @@ fn main(rt: HostRuntime) -> io::Result<ExitCode> {
 
 /// Replays the trace on standard input, and reports how it ended, unless it was done.
 fn run_replay(rt: &HostRuntime, instrument: Instrument) -> io::Result<ExitCode> {
-    let end = replay::replay(
+    let end = replay(
         rt.alloc(),
         instrument,
         &mut rt.reader(),

@@ -1,0 +1,7 @@
+use Rattle.std.proofs.Common.{refl}
+use Rattle.sqlite.specs.View.{doubt}
+use Rattle.wb_program.proofs.replaying.store_in_memory.Goals as goal
+
+pub returns-in-Ok-open : goal.returns-in-Ok-open
+unfolding doubt
+returns-in-Ok-open c = ((c.in-Ok-open.ensures.empty c.in-Ok.ensures.empty.2).stands refl).0

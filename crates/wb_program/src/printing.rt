@@ -1,0 +1,97 @@
+//! The printed form of what is put out.
+ghost use Rattle.std.specs.Io.KnownBytes.{Appends};
+ghost use Rattle.std.specs.Prelude.{◌≡◌, OnOk};
+ghost use Rattle.std.specs.Str.Lines.{lines};
+ghost use Rattle.wb_program.specs.Printed.{body_lines, printed_line as printed_line_of, printed_lines, printed_out, printed_replies, printed_reply, printed_response, status_of};
+ghost use Rattle.wb_station.specs.Shown.{shown};
+
+use crate::lines::{first_line, split_word};
+use std::io;
+use std::io::Write;
+use wb_sics::{Replies, Reply};
+use wb_station::Output;
+
+/// Prints what a station put out.
+pub(crate) fn print_output<O: Write>(output: Output<'_>, writer: &mut O) -> io::Result<()>
+    ensures { OnOk result (Appends
+        (O.contents writer.old) (O.contents writer.new) (printed_out (shown output.entry))) }
+{
+    match output {
+        Output::Replies(replies) => print_replies(replies, writer),
+        Output::Response(response) => print_response(response, writer),
+        Output::Nothing => Ok(()),
+    }
+}
+
+fn print_replies<O: Write>(replies: &Replies, writer: &mut O) -> io::Result<()>
+    ensures { OnOk result (Appends
+        (O.contents writer.old) (O.contents writer.new) (printed_replies replies.now.items)) }
+{
+    for reply in replies.as_slice() {
+        print_reply(reply, writer)?;
+    }
+    Ok(())
+}
+
+fn print_reply<O: Write>(reply: &Reply, writer: &mut O) -> io::Result<()>
+    ensures { OnOk result (Appends
+        (O.contents writer.old) (O.contents writer.new) (printed_reply reply.now)) }
+{
+    writer.write_all(b"t ")?;
+    writer.write_all(reply.text().as_str().as_bytes())?;
+    writer.write_all(b"\n")
+}
+
+/// Prints the status of a response, and the lines of its body.
+fn print_response<O: Write>(response: &[u8], writer: &mut O) -> io::Result<()>
+    ensures { OnOk result (Appends
+        (O.contents writer.old) (O.contents writer.new) (printed_response response.now)) }
+{
+    writer.write_all(b"o ")?;
+    writer.write_all(status(response))?;
+    writer.write_all(b"\n")?;
+    print_lines(body(response), writer)
+}
+
+/// The second word of a response.
+fn status(response: &[u8]) -> &[u8]
+    ensures { result.now ≡ status_of response.now }
+{
+    split_word(split_word(response).1).0
+}
+
+/// What stands after the first empty line.
+fn body(response: &[u8]) -> &[u8]
+    ensures { lines result.now ≡ body_lines response.now }
+{
+    let mut rest = response;
+    while let Some((line, after)) = first_line(rest) {
+        rest = after;
+        if line.is_empty() {
+            break;
+        }
+    }
+    rest
+}
+
+/// Prints each line after `| `.
+fn print_lines<O: Write>(text: &[u8], writer: &mut O) -> io::Result<()>
+    ensures { OnOk result (Appends
+        (O.contents writer.old) (O.contents writer.new) (printed_lines (lines text.now))) }
+{
+    let mut rest = text;
+    while let Some((line, after)) = first_line(rest) {
+        print_line(line, writer)?;
+        rest = after;
+    }
+    Ok(())
+}
+
+fn print_line<O: Write>(line: &[u8], writer: &mut O) -> io::Result<()>
+    ensures { OnOk result (Appends
+        (O.contents writer.old) (O.contents writer.new) (printed_line_of line.now)) }
+{
+    writer.write_all(b"| ")?;
+    writer.write_all(line)?;
+    writer.write_all(b"\n")
+}
