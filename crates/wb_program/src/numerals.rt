@@ -55,8 +55,8 @@ pub(crate) fn moment(text: &[u8]) -> Option<Moment>
     match text {
         [] => None,
         [_] => Moment::new(digits(text, MOST_DIGITS)?),
-        [first, _, ..] => {
-            if *first == b'0' {
+        [leading, _, ..] => {
+            if *leading == b'0' {
                 return None;
             }
             Moment::new(digits(text, MOST_DIGITS)?)

@@ -1,6 +1,6 @@
 //! The printed form of what is put out.
 ghost use Rattle.std.specs.Io.KnownBytes.{Appends};
-ghost use Rattle.std.specs.Prelude.{◌≡◌, OnOk};
+ghost use Rattle.std.specs.Prelude.{◌≡◌, OnOk, codes};
 ghost use Rattle.std.specs.Str.Lines.{lines};
 ghost use Rattle.wb_program.specs.Printed.{body_lines, printed_line as printed_line_of, printed_lines, printed_out, printed_replies, printed_reply, printed_response, status_of};
 ghost use Rattle.wb_station.specs.Shown.{shown};
@@ -39,7 +39,7 @@ fn print_reply<O: Write>(reply: &Reply, writer: &mut O) -> io::Result<()>
 {
     writer.write_all(b"t ")?;
     writer.write_all(reply.text().as_str().as_bytes())?;
-    writer.write_all(b"\n")
+    end_line(writer)
 }
 
 /// Prints the status of a response, and the lines of its body.
@@ -49,7 +49,7 @@ fn print_response<O: Write>(response: &[u8], writer: &mut O) -> io::Result<()>
 {
     writer.write_all(b"o ")?;
     writer.write_all(status(response))?;
-    writer.write_all(b"\n")?;
+    end_line(writer)?;
     print_lines(body(response), writer)
 }
 
@@ -93,5 +93,11 @@ fn print_line<O: Write>(line: &[u8], writer: &mut O) -> io::Result<()>
 {
     writer.write_all(b"| ")?;
     writer.write_all(line)?;
+    end_line(writer)
+}
+
+fn end_line<O: Write>(writer: &mut O) -> io::Result<()>
+    ensures { OnOk result (Appends (O.contents writer.old) (O.contents writer.new) (codes "\n")) }
+{
     writer.write_all(b"\n")
 }

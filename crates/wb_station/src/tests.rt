@@ -9,6 +9,7 @@ mod responses;
 mod runs;
 mod station;
 mod targets;
+mod terminal;
 mod whole;
 
 use crate::{HttpFault, Routes, request_of};

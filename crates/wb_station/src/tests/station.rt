@@ -10,6 +10,9 @@ const LATER: u64 = 1_741_599_000;
 /// The first day on which entries of that morning are of age.
 const OF_AGE: u64 = 1_749_427_200;
 
+/// The first day on which what came on that day is of age.
+const LONG_AFTER: u64 = 1_757_289_600;
+
 const FIRST: &str =
     "POST /weighings HTTP/1.1\r\nContent-Length: 29\r\n\r\nkey=K1&kind=first&plate=AB-12";
 
@@ -18,6 +21,11 @@ const SECOND: &str =
 
 const SINGLE: &str =
     "POST /weighings HTTP/1.1\r\nContent-Length: 30\r\n\r\nkey=K3&kind=single&plate=CD-34";
+
+const OTHER_FIRST: &str =
+    "POST /weighings HTTP/1.1\r\nContent-Length: 29\r\n\r\nkey=K7&kind=first&plate=CD-34";
+
+const OTHER_VOID: &str = "POST /voids HTTP/1.1\r\nContent-Length: 18\r\n\r\nkey=K8&plate=CD-34";
 
 const VOID: &str = "POST /voids HTTP/1.1\r\nContent-Length: 18\r\n\r\nkey=K9&plate=AB-12";
 
@@ -151,6 +159,33 @@ fn faults_of_http_change_nothing(rt: HostRuntime) -> Result<(), Fail> {
             ),
             Step::Ask(MORNING, "GET /check HTTP/1.1\r\n\r\n", "200 SOUND 0\n"),
             Step::Ask(MORNING, PURGE, "200 PURGED 0\n"),
+        ],
+    )
+}
+
+#[test]
+fn an_open_first_holds_the_pair_before_it_back(rt: HostRuntime) -> Result<(), Fail> {
+    day(
+        &rt,
+        rt.alloc(),
+        1_000,
+        &[
+            Step::Load(0, 1, ""),
+            Step::Load(9_170, 4, ""),
+            Step::Ask(MORNING, FIRST, "201 WEIGHING SLIP 1\n"),
+            Step::Load(0, 1, ""),
+            Step::Load(9_170, 4, ""),
+            Step::Ask(MORNING, OTHER_FIRST, "201 WEIGHING SLIP 2\n"),
+            Step::Load(0, 1, ""),
+            Step::Load(4_070, 4, ""),
+            Step::Ask(MORNING, SECOND, "201 WEIGHING TICKET 3\n"),
+            Step::Ask(OF_AGE, PURGE, "200 PURGED 0\n"),
+            Step::Ask(OF_AGE, OTHER_VOID, "201 WEIGHING SLIP 4\n"),
+            Step::Ask(OF_AGE, PURGE, "200 PURGED 0\n"),
+            Step::Ask(LONG_AFTER, CUT_OFF, "400 fault 400 malformed\n"),
+            Step::Ask(LONG_AFTER, SECOND, "201 WEIGHING TICKET 3\n"),
+            Step::Ask(LONG_AFTER, PURGE, "200 PURGED 4\n"),
+            Step::Ask(LONG_AFTER, SECOND, "410 refused 2 gone\n"),
         ],
     )
 }
