@@ -1,23 +1,20 @@
 -- A weighing or void that a stop broke off.
-use Rattle.std.proofs.Common.{◌≡◌, ◌⊎◌, inl, inr, ap, subst, sym, ◌∙◌, ℕ, true, false, Option, Some, None, Result, Ok, Err, refl}
+use Rattle.std.proofs.Common.{◌≡◌, ◌⊎◌, inl, inr, ap, subst, sym, ◌∙◌, ℕ, Result, refl}
 use Rattle.sqlite.specs.Effect.{Database, IsDatabase}
-use Rattle.sqlite.specs.Held.{state}
 use Rattle.sqlite.specs.Store.{Ghosts}
-use Rattle.sqlite.specs.Tree.{Trees}
-use Rattle.wb_store.specs.Journal.{Reopens, StoreView}
+use Rattle.wb_store.specs.Journal.{Reopens}
 use Rattle.wb_store.specs.Laws.{HoldsAgain}
 use Rattle.wb_store.specs.Lists.{AreLists}
 use Rattle.wb_office.specs.declared.refusal.Refusal.{Refusal}
 use Rattle.wb_office.specs.declared.request.Request.{Request}
-use Rattle.wb_office.specs.declared.request.Request.TheVariants.{Weigh, VoidOpen}
 use Rattle.wb_office.specs.Answer.{Told, answer, answer_of}
 use Rattle.wb_office.specs.Asking.{Asking}
 use Rattle.wb_office.specs.Course.{Journal, Turn, left, situation}
 use Rattle.wb_office.specs.Judged.{IsOnLists}
 use Rattle.wb_office.specs.Laws.{IsByKey, KeyDecides}
-use Rattle.wb_office.specs.Stops.{AnsweredAfterStops, Asks, IsAnsweredByKey, IsFoundAgain, WasAsked}
+use Rattle.wb_office.specs.Stops.{AnsweredAfterStops, Asks, IsAnsweredByKey, IsFoundAgain}
 use Rattle.wb_office.specs.Verdict.{verdict}
-use Rattle.wb_office.specs.Wanting.{IsWanted, wanted}
+use Rattle.wb_office.specs.Wanting.{wanted}
 
 -- the answer is that of the verdict
 of_verdict : (a : Asking) (bound : ℕ) (request : Request) → Asks request a → answer a.now bound request ≡ answer_of a.now.entries (verdict a)
