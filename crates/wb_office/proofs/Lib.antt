@@ -10,6 +10,7 @@ mod Purges
 mod Records
 mod Repeating
 mod Serving
+mod Stops
 mod StoredEntry
 mod StoredLoads
 mod TakenKeys

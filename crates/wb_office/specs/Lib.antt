@@ -13,6 +13,7 @@ pub mod Purging
 pub mod RefusalText
 pub mod Serves
 pub mod Shows
+pub mod Stops
 pub mod Verdict
 pub mod Wanting
 pub mod Weighing

@@ -6,9 +6,12 @@
 //! lists as they were (`kept`), or its disk failed; then, and at any stop, an opening finds the lists before it or those after it
 //! (`leaves`). In a course it was made or it wasn't.
 ghost use Rattle.wb_office.specs.Laws.{AllWeighed, AnsweredAgain, FullAtLastNumber, KeepsPartners, KeyDecides, NumbersRun, OneEntryPerKey, WithinCapacity};
+ghost use Rattle.wb_office.specs.Stops.{AnsweredAfterStops};
 
+use sqlite::Alter;
 use wb_journal::law_of_closing;
 use wb_scale::law_of_steady_indication;
+use wb_store::law_of_reopening;
 
 /// A key is accepted at most once, whatever is asked and wherever it is stopped: its entry is stored, or the key is spent for good.
 pub fn law_of_keys()
@@ -28,6 +31,16 @@ pub fn law_of_repeated_requests()
 pub fn law_of_known_keys()
     ensures { KeyDecides }
 {}
+
+/// A request may be broken off by a stop, or be followed by one. An opening finds the journal before it or the one after it, and the same
+/// weighing or void, asked again at whatever load and moment, is answered with the kept text if its entry is stored, refused as damaged
+/// if that isn't sound, refused as gone if it was purged, and else judged anew.
+pub fn law_of_stops<D: Alter>()
+    ensures { AnsweredAfterStops D.Store }
+{
+    law_of_known_keys();
+    law_of_reopening();
+}
 
 /// An accepted entry has the next number, and no request but an accepted one takes a number.
 pub fn law_of_numbers()

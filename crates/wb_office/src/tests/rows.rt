@@ -81,6 +81,30 @@ fn exports_the_journal_with_absent_weights(rt: HostRuntime) -> Result<(), Fail> 
 }
 
 #[test]
+fn exports_a_damaged_journal_as_it_is(rt: HostRuntime) -> Result<(), Fail> {
+    day(
+        &rt,
+        rt.alloc(),
+        1_000,
+        &[
+            Step::Load(0),
+            Step::Load(9_170),
+            Step::Weigh(MORNING, "K1", Kind::First, "AB-12", SLIP),
+            Step::Load(0),
+            Step::Load(4_070),
+            Step::Weigh(LATER, "K2", Kind::Second, "AB-12", TICKET),
+            Step::Change("UPDATE journal SET gross_kg = 18360 WHERE kind = 1"),
+            Step::Ask(
+                LATER,
+                Asks::Journal,
+                "number,key,kind,plate,moment,gross_kg,preset_kg,interval_kg,max_kg,serial,digest\n1,K1,first,AB-12,2025-03-10 08:00:00,18360,,20,60000,WB01,1ff0f144d39a8d0890cc2c886fab380c93a9dd98d1d16ca37031b262a56fd3b3\n2,K2,second,AB-12,2025-03-10 09:30:00,8140,,20,60000,WB01,0cc09cd58f03a59c03e87a55f97d3a8262963dcfe6244de45c39d2f4c9e62d56\n",
+            ),
+            Step::Ask(LATER, Asks::Tickets, "damaged"),
+        ],
+    )
+}
+
+#[test]
 fn refuses_loads_by_name(rt: HostRuntime) -> Result<(), Fail> {
     day(
         &rt,
