@@ -6,10 +6,9 @@ ghost use Rattle.wb_program.specs.TraceLines.{typed};
 ghost use Rattle.wb_station.specs.Happening.{IsTaken, byte as byte_happening, happening, reading as reading_happening};
 ghost use Rattle.wb_window.specs.Reading.{IsReading};
 
-use crate::printing::print_output;
+use crate::printing::{WriteFault, print_output};
 use crate::trace_line::TraceLine;
 use sqlite::Alter;
-use std::io;
 use std::io::Write;
 use wb_station::{Event, Station};
 use wb_window::{Reading, Window};
@@ -20,7 +19,7 @@ pub(crate) fn perform<W: Window, D: Alter, O: Write>(
     line: TraceLine<'_>,
     room: &[u8],
     writer: &mut O,
-) -> io::Result<()>
+) -> Result<(), WriteFault>
     requires { IsRead room.now line }
     ensures { OnOk result (Performed D.Store (reverse (events_of room.now line.entry))
         station.old.terminal station.old.office station.new.terminal station.new.office
@@ -44,7 +43,7 @@ fn take_readings<W: Window, D: Alter, O: Write>(
     reading: Reading,
     times: u32,
     writer: &mut O,
-) -> io::Result<()>
+) -> Result<(), WriteFault>
     requires { IsReading reading }
     ensures { OnOk result (Performed D.Store (replicate times (reading_happening reading))
         station.old.terminal station.old.office station.new.terminal station.new.office
@@ -61,7 +60,7 @@ fn type_line<W: Window, D: Alter, O: Write>(
     station: &mut Station<W, D>,
     text: &[u8],
     writer: &mut O,
-) -> io::Result<()>
+) -> Result<(), WriteFault>
     ensures { OnOk result (Performed D.Store (reverse (typed text.now))
         station.old.terminal station.old.office station.new.terminal station.new.office
         (O.contents writer.old) (O.contents writer.new)) }
@@ -75,7 +74,7 @@ fn type_text<W: Window, D: Alter, O: Write>(
     station: &mut Station<W, D>,
     text: &[u8],
     writer: &mut O,
-) -> io::Result<()>
+) -> Result<(), WriteFault>
     ensures { OnOk result (Performed D.Store (reverse (map byte_happening text.now))
         station.old.terminal station.old.office station.new.terminal station.new.office
         (O.contents writer.old) (O.contents writer.new)) }
@@ -90,7 +89,7 @@ fn type_byte<W: Window, D: Alter, O: Write>(
     station: &mut Station<W, D>,
     byte: u8,
     writer: &mut O,
-) -> io::Result<()>
+) -> Result<(), WriteFault>
     ensures { OnOk result (Performed D.Store (byte_happening byte ∷ [])
         station.old.terminal station.old.office station.new.terminal station.new.office
         (O.contents writer.old) (O.contents writer.new)) }
@@ -103,7 +102,7 @@ fn take_event<W: Window, D: Alter, O: Write>(
     station: &mut Station<W, D>,
     event: &Event<'_>,
     writer: &mut O,
-) -> io::Result<()>
+) -> Result<(), WriteFault>
     requires { IsTaken event.now }
     ensures { OnOk result (Performed D.Store (happening false event.now ∷ [])
         station.old.terminal station.old.office station.new.terminal station.new.office

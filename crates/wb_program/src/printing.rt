@@ -6,13 +6,18 @@ ghost use Rattle.wb_program.specs.Printed.{body_lines, printed_line as printed_l
 ghost use Rattle.wb_station.specs.Shown.{shown};
 
 use crate::lines::{first_line, split_word};
-use std::io;
 use std::io::Write;
+use thiserror::Error;
 use wb_sics::{Replies, Reply};
 use wb_station::Output;
 
+/// The writer failed. A reading at which nothing waits hands on this result, so it is small.
+#[derive(Clone, Copy, Debug, PartialEq, Eq, Error)]
+#[error("write fault")]
+pub(crate) struct WriteFault;
+
 /// Prints what a station put out.
-pub(crate) fn print_output<O: Write>(output: Output<'_>, writer: &mut O) -> io::Result<()>
+pub(crate) fn print_output<O: Write>(output: Output<'_>, writer: &mut O) -> Result<(), WriteFault>
     ensures { OnOk result (Appends
         (O.contents writer.old) (O.contents writer.new) (printed_out (shown output.entry))) }
 {
@@ -23,7 +28,7 @@ pub(crate) fn print_output<O: Write>(output: Output<'_>, writer: &mut O) -> io::
     }
 }
 
-fn print_replies<O: Write>(replies: &Replies, writer: &mut O) -> io::Result<()>
+fn print_replies<O: Write>(replies: &Replies, writer: &mut O) -> Result<(), WriteFault>
     ensures { OnOk result (Appends
         (O.contents writer.old) (O.contents writer.new) (printed_replies replies.now.items)) }
 {
@@ -33,22 +38,22 @@ fn print_replies<O: Write>(replies: &Replies, writer: &mut O) -> io::Result<()>
     Ok(())
 }
 
-fn print_reply<O: Write>(reply: &Reply, writer: &mut O) -> io::Result<()>
+fn print_reply<O: Write>(reply: &Reply, writer: &mut O) -> Result<(), WriteFault>
     ensures { OnOk result (Appends
         (O.contents writer.old) (O.contents writer.new) (printed_reply reply.now)) }
 {
-    writer.write_all(b"t ")?;
-    writer.write_all(reply.text().as_str().as_bytes())?;
+    write_bytes(b"t ", writer)?;
+    write_bytes(reply.text().as_str().as_bytes(), writer)?;
     end_line(writer)
 }
 
 /// Prints the status of a response, and the lines of its body.
-fn print_response<O: Write>(response: &[u8], writer: &mut O) -> io::Result<()>
+fn print_response<O: Write>(response: &[u8], writer: &mut O) -> Result<(), WriteFault>
     ensures { OnOk result (Appends
         (O.contents writer.old) (O.contents writer.new) (printed_response response.now)) }
 {
-    writer.write_all(b"o ")?;
-    writer.write_all(status(response))?;
+    write_bytes(b"o ", writer)?;
+    write_bytes(status(response), writer)?;
     end_line(writer)?;
     print_lines(body(response), writer)
 }
@@ -75,7 +80,7 @@ fn body(response: &[u8]) -> &[u8]
 }
 
 /// Prints each line after `| `.
-fn print_lines<O: Write>(text: &[u8], writer: &mut O) -> io::Result<()>
+fn print_lines<O: Write>(text: &[u8], writer: &mut O) -> Result<(), WriteFault>
     ensures { OnOk result (Appends
         (O.contents writer.old) (O.contents writer.new) (printed_lines (lines text.now))) }
 {
@@ -87,17 +92,27 @@ fn print_lines<O: Write>(text: &[u8], writer: &mut O) -> io::Result<()>
     Ok(())
 }
 
-fn print_line<O: Write>(line: &[u8], writer: &mut O) -> io::Result<()>
+fn print_line<O: Write>(line: &[u8], writer: &mut O) -> Result<(), WriteFault>
     ensures { OnOk result (Appends
         (O.contents writer.old) (O.contents writer.new) (printed_line_of line.now)) }
 {
-    writer.write_all(b"| ")?;
-    writer.write_all(line)?;
+    write_bytes(b"| ", writer)?;
+    write_bytes(line, writer)?;
     end_line(writer)
 }
 
-fn end_line<O: Write>(writer: &mut O) -> io::Result<()>
+fn end_line<O: Write>(writer: &mut O) -> Result<(), WriteFault>
     ensures { OnOk result (Appends (O.contents writer.old) (O.contents writer.new) (codes "\n")) }
 {
-    writer.write_all(b"\n")
+    write_bytes(b"\n", writer)
+}
+
+fn write_bytes<O: Write>(bytes: &[u8], writer: &mut O) -> Result<(), WriteFault>
+    ensures { OnOk result (Appends
+        (O.contents writer.old) (O.contents writer.new) bytes.now) }
+{
+    match writer.write_all(bytes) {
+        Ok(()) => Ok(()),
+        Err(_) => Err(WriteFault),
+    }
 }
