@@ -1,6 +1,6 @@
 -- The step of zero tracking at a load.
-use Rattle.std.proofs.Common.{◌≡◌, Bool, true, false, ◌&&◌, ◌≢◌, Some, refl, ℤ, pos, ◌+ℤ◌, ◌-ℤ◌, ◌≤ℤ◌, neg_ℤ, cond, arith}
-use Rattle.std.specs.Prelude.{int_le}
+use Rattle.std.proofs.Common.{◌≡◌, Bool, true, false, ◌&&◌, ◌≢◌, Some, refl, ℤ, pos, ◌+ℤ◌, ◌-ℤ◌, ◌≤ℤ◌, neg_ℤ, arith}
+use Rattle.std.specs.Prelude.{int_le, if◌then◌else◌}
 use Rattle.std.specs.Ordering.{int_eq}
 use Rattle.std.proofs.lemmas.Bool.Decides.{Decides-int_eq}
 use Rattle.std.proofs.lemmas.Int.{ints}
@@ -21,17 +21,10 @@ int_eq-other x n = go (int_eq x (pos 0)) refl
 pub step_to-gross : (limit zero load : ℤ) → round (load -ℤ zero) ≢ pos 0 → step_to limit zero (Some load) ≡ pos 0
 step_to-gross limit zero load n = rw (int_eq-other (round (load -ℤ zero)) n) refl
 
--- the moved zero isn't within the limit
-pub step_to-outside : (limit zero load : ℤ) → is_within limit (zero +ℤ towards zero load) ≡ false → step_to limit zero (Some load) ≡ pos 0
-step_to-outside limit zero load e = neither (int_eq (round (load -ℤ zero)) (pos 0)) (is_within limit (zero +ℤ towards zero load)) (towards zero load) e
-  where
-    neither : (a b : Bool) (x : ℤ) → b ≡ false → cond (a && b) x (pos 0) ≡ pos 0
-    neither true b x e = rw e refl
-    neither false b x e = refl
-
--- the zero moves
-pub step_to-moved : (limit zero load : ℤ) → round (load -ℤ zero) ≡ pos 0 → is_within limit (zero +ℤ towards zero load) ≡ true → step_to limit zero (Some load) ≡ towards zero load
-step_to-moved limit zero load e w = rw (int_eq-nought (round (load -ℤ zero)) e, w) refl
+-- a gross of 0
+pub step_to-nought : (limit zero load : ℤ) → round (load -ℤ zero) ≡ pos 0
+    → step_to limit zero (Some load) ≡ (if is_within limit (zero +ℤ towards zero load) then towards zero load else pos 0)
+step_to-nought limit zero load e = rw (int_eq-nought (round (load -ℤ zero)) e) refl
 
 pub within-true : (limit zero : ℤ) → is_within limit zero ≡ true → (neg_ℤ limit ≤ℤ zero) × (zero ≤ℤ limit)
 within-true limit zero e = go (int_le (neg_ℤ limit) zero) (int_le zero limit) refl refl e

@@ -1,5 +1,5 @@
 -- Stored weighings change nothing that a scale answers, but whether the bridge is cleared.
-use Rattle.std.proofs.Common.{◌≡◌, ℕ, true, List, [], ◌∷◌, Option, Some, None, refl, sym, ◌∙◌, ap, subst, ℤ, pos, ◌+ℤ◌, arith}
+use Rattle.std.proofs.Common.{◌≡◌, true, List, [], ◌∷◌, Option, Some, None, refl, sym, ◌∙◌, ap, subst, ℤ, ◌+ℤ◌, arith}
 use Rattle.std.proofs.lemmas.Int.{ints}
 use Rattle.wb_instrument.specs.Setup.{Setup}
 use Rattle.wb_window.specs.declared.reading.Reading.{Reading}
@@ -8,9 +8,9 @@ use Rattle.wb_scale.specs.Call.{Call, read, read_for_zero, set_zero, tare, prese
 use Rattle.wb_scale.specs.History.{moment, moments}
 use Rattle.wb_scale.specs.Indication.{indicated}
 use Rattle.wb_scale.specs.Moment.{Moment, nothing, readings}
-use Rattle.wb_scale.specs.Tare.{preset_answer, tare_answer, tare_now}
+use Rattle.wb_scale.specs.Tare.{tare_answer, tare_now}
 use Rattle.wb_scale.specs.Tracking.{steps}
-use Rattle.wb_scale.specs.Unmarked.{AllSameUnmarked, SameUnmarked, unmarked}
+use Rattle.wb_scale.specs.Unmarked.{AllSameUnmarked, unmarked}
 use Rattle.wb_scale.specs.Zero.{above_zero, zero_now}
 use Rattle.wb_scale.proofs.Moments.{readings-none, readings-taken, steps-none, steps-taken, tare_now-new, tare_now-same, zero_now-set, zero_now-step}
 

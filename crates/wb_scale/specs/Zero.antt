@@ -1,5 +1,5 @@
 -- The zero, and semi-automatic zero setting (OIML R 76-1:2006, 4.5).
-use Rattle.std.specs.Prelude.{List, Bool, true, false, not, if◌then◌else◌, map, Option, Some, None, is_some, unwrap_or, option_and_then, option_map, slice_get, ℤ, pos, ◌+ℤ◌, ◌-ℤ◌, neg_ℤ, int_lt}
+use Rattle.std.specs.Prelude.{List, Bool, true, false, not, if◌then◌else◌, map, Option, Some, None, is_some, unwrap_or, option_and_then, option_map, slice_get, ℤ, pos, ◌+ℤ◌, ◌-ℤ◌, ◌≤ℤ◌, neg_ℤ, int_lt}
 use Rattle.std.specs.List.{before_first}
 use Rattle.wb_instrument.specs.Limits.{zero_limit}
 use Rattle.wb_instrument.specs.Setup.{Setup}
@@ -48,3 +48,7 @@ is_done Done = true
 is_done NotStable = false
 is_done Above = false
 is_done Below = false
+
+-- a zero is in its range: within n/5 on either side of the calibration zero
+abbrev pub IsInRange : Setup → ℤ → Type 0
+IsInRange s zero = (neg_ℤ (pos (zero_limit s)) ≤ℤ zero) × (zero ≤ℤ pos (zero_limit s))

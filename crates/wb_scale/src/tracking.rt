@@ -1,14 +1,16 @@
 //! Zero tracking.
-ghost use Rattle.std.specs.Prelude.{◌≡◌, ◌≤◌, ◌+ℤ◌, ◌≤ℤ◌, IfSome, neg_ℤ, pos, Some, true};
+ghost use Rattle.std.specs.Prelude.{◌≡◌, ◌≤◌, ◌+ℤ◌, ◌≤ℤ◌, if◌then◌else◌, IfSome, neg_ℤ, pos, Some, true};
+ghost use Rattle.wb_instrument.specs.Limits.{zero_limit};
 ghost use Rattle.wb_window.specs.Stability.{is_stable};
 ghost use Rattle.wb_scale.specs.After.{pause_from, step_of, tracked};
 ghost use Rattle.wb_scale.specs.Load.{IsLoad};
 ghost use Rattle.wb_scale.specs.Tracking.{is_within as is_within_limit, step_to, towards};
+ghost use Rattle.wb_scale.specs.Zero.{IsInRange};
 
 use crate::Scale;
 use crate::cleared::cleared_by;
 use crate::load::load_above;
-use wb_instrument::round_tenths;
+use wb_instrument::{Instrument, round_tenths};
 use wb_window::Window;
 
 impl<W: Window> Scale<W> {
@@ -17,9 +19,8 @@ impl<W: Window> Scale<W> {
         ensures { self.new ≡ tracked self.old }
     {
         let load = self.load();
-        let limit = self.instrument.zero_limit();
         let gap = self.instrument.tracking_gap();
-        let step = tracking_step(&self.window, self.pause, load, self.zero, limit);
+        let step = tracking_step(&self.window, &self.instrument, self.pause, load, self.zero);
         let zero = self.zero + step;
         self.zero = zero;
         self.pause = pause_after(step, self.pause, gap);
@@ -28,48 +29,67 @@ impl<W: Window> Scale<W> {
 }
 
 /// The step of zero tracking at a load, in tenths of e. Only where one is due is the window asked whether it is stable.
-fn tracking_step<W: Window>(window: &W, pause: u32, load: Option<i32>, zero: i32, limit: i32) -> i32
+fn tracking_step<W: Window>(
+    window: &W,
+    instrument: &Instrument,
+    pause: u32,
+    load: Option<i32>,
+    zero: i32,
+) -> i32
     requires load { IfSome load IsLoad }
-    requires zero { (neg_ℤ limit ≤ℤ zero) × (zero ≤ℤ limit) }
-    requires limit { limit ≤ℤ pos 2_000 }
+    requires zero { IsInRange instrument.now zero }
+    requires limit { zero_limit instrument.now ≤ 2_000 }
     ensures value { let held = W.held window.now in
-        result ≡ step_of (is_stable held.size held.band held.readings) pause limit zero load }
-    ensures within { (neg_ℤ limit ≤ℤ (zero +ℤ result)) × ((zero +ℤ result) ≤ℤ limit) }
+        result ≡ step_of (is_stable held.size held.band held.readings) pause
+        (pos (zero_limit instrument.now)) zero load }
+    ensures within { IsInRange instrument.now (zero +ℤ result) }
 {
-    let due = step_due(pause, load, zero, limit);
+    let due = step_due(instrument, pause, load, zero);
     if due != 0 && !window.stable() { 0 } else { due }
 }
 
 /// The step of zero tracking at a load, in tenths of e, if the scale is stable: none in a pause.
-fn step_due(pause: u32, load: Option<i32>, zero: i32, limit: i32) -> i32
+fn step_due(instrument: &Instrument, pause: u32, load: Option<i32>, zero: i32) -> i32
     requires load { IfSome load IsLoad }
-    requires zero { (neg_ℤ limit ≤ℤ zero) × (zero ≤ℤ limit) }
-    requires limit { limit ≤ℤ pos 2_000 }
-    ensures value { result ≡ step_of true pause limit zero load }
-    ensures within { (neg_ℤ limit ≤ℤ (zero +ℤ result)) × ((zero +ℤ result) ≤ℤ limit) }
+    requires zero { IsInRange instrument.now zero }
+    requires limit { zero_limit instrument.now ≤ 2_000 }
+    ensures value { result ≡ step_of true pause (pos (zero_limit instrument.now)) zero load }
+    ensures within { IsInRange instrument.now (zero +ℤ result) }
 {
     if pause > 0 {
         return 0;
     }
     match load {
-        Some(tenths) => step_to_load(tenths, zero, limit),
+        Some(tenths) => step_to_load(instrument, tenths, zero),
         None => 0,
     }
 }
 
-/// The step at a load: a tenth towards it, where gross is 0 and the moved zero stays within the limit.
-fn step_to_load(load: i32, zero: i32, limit: i32) -> i32
+/// The step at a load: a tenth towards it, where gross is 0 and the moved zero stays within the limit. The limit costs a division,
+/// so it is asked for only where gross is 0.
+fn step_to_load(instrument: &Instrument, load: i32, zero: i32) -> i32
     requires load { IsLoad load }
-    requires zero { (neg_ℤ limit ≤ℤ zero) × (zero ≤ℤ limit) }
-    requires limit { limit ≤ℤ pos 2_000 }
-    ensures value { result ≡ step_to limit zero (Some load) }
-    ensures within { (neg_ℤ limit ≤ℤ (zero +ℤ result)) × ((zero +ℤ result) ≤ℤ limit) }
+    requires zero { IsInRange instrument.now zero }
+    requires limit { zero_limit instrument.now ≤ 2_000 }
+    ensures value { result ≡ step_to (pos (zero_limit instrument.now)) zero (Some load) }
+    ensures within { IsInRange instrument.now (zero +ℤ result) }
 {
     let gross = round_tenths(load - zero);
     if gross != 0 {
         return 0;
     }
     let step = tenth_towards(zero, load);
+    step_within(instrument.zero_limit(), zero, step)
+}
+
+/// The step, if the moved zero stays within the limit.
+fn step_within(limit: i32, zero: i32, step: i32) -> i32
+    requires tenth { (neg_ℤ (pos 1) ≤ℤ step) × (step ≤ℤ pos 1) }
+    requires zero { (neg_ℤ limit ≤ℤ zero) × (zero ≤ℤ limit) }
+    requires limit { limit ≤ℤ pos 2_000 }
+    ensures value { result ≡ (if is_within_limit limit (zero +ℤ step) then step else pos 0) }
+    ensures within { (neg_ℤ limit ≤ℤ (zero +ℤ result)) × ((zero +ℤ result) ≤ℤ limit) }
+{
     if is_within(limit, zero + step) {
         step
     } else {

@@ -26,8 +26,7 @@ step : (g : Over) (c : goal.After-self-3-1 g) → let s = before g c in
     c.tracking_step-step.result ≡ step_of (is_stable s.held.size s.held.band s.held.readings) s.pause (pos (zero_limit s.setup)) s.zero (last_load s.held.readings)
 step g c =
     let zero : to_z w32 (of_z w32 c.self.inside.zero) ≡ c.self.inside.zero = omega (arith, ints) in
-    let limit : to_z w32 (of_z w32 c.zero_limit-limit.result) ≡ pos (zero_limit c.self.inside.instrument) = omega (arith, ints, c.zero_limit-limit.ensures.value) in
-    rw (limit, zero, load g c) at c.tracking_step-step.ensures.value
+    rw (zero, load g c) at c.tracking_step-step.ensures.value
 
 left : (g : Over) (c : goal.After-self-3-1 g) → after g c ≡ tracked (before g c)
 left g c =
@@ -40,8 +39,7 @@ left g c =
 pub invariant_of-self : goal.invariant_of-self
 invariant_of-self g c =
     let zero : to_z w32 (of_z w32 c.self.inside.zero) ≡ c.self.inside.zero = omega (arith, ints) in
-    let limit : to_z w32 (of_z w32 c.zero_limit-limit.result) ≡ pos (zero_limit c.self.inside.instrument) = omega (arith, ints, c.zero_limit-limit.ensures.value) in
-    let within = rw (limit, zero, step g c) at c.tracking_step-step.ensures.within in
+    let within = rw (zero, step g c) at c.tracking_step-step.ensures.within in
     subst IsScale (sym (left g c)) (IsScale-moved (before g c) _ c.self.invariant within)
 
 pub returns : goal.returns
