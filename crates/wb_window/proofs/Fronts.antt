@@ -1,5 +1,5 @@
 -- The first of the candidates is the greatest load, or the least.
-use Rattle.std.proofs.Common.{◌≡◌, ℕ, suc, ◌<◌, Bool, true, false, cond, List, [], ◌∷◌, ◌++◌, Some, None, inl, inr, refl, sym, subst, ℤ, ◌≤ℤ◌, arith}
+use Rattle.std.proofs.Common.{◌≡◌, ℕ, suc, ◌<◌, Bool, true, false, cond, List, [], ◌∷◌, ◌++◌, length, replicate, Some, None, inl, inr, refl, sym, subst, ap, ℤ, ◌≤ℤ◌, arith}
 use Rattle.std.proofs.lemmas.Int.{ints}
 use Rattle.std.specs.List.{filter, slice_get}
 use Rattle.wb_window.proofs.Entering.{NoneBeyond, Falling, Falling-candidates}
@@ -113,3 +113,16 @@ lost_place (Lost ∷ older) l = (0, refl)
 
 pub agree-any_lost : (band : ℕ) (readings : List Reading) → 0 < lost_of readings → agree band readings ≡ false
 agree-any_lost band readings l = let place = lost_place readings l in agree-lost band readings place.0 place.1
+
+-- between a load and itself there is that load alone
+within_one : (load : ℤ) (readings : List Reading) → Within load load readings → readings ≡ replicate (length readings) (Load load)
+within_one load [] w = refl
+within_one load (Load other ∷ older) w =
+    let same : other ≡ load = grind (arith, ints) in
+    rw same (ap (λ rest. Load load ∷ rest) (within_one load older w.2))
+within_one load (Lost ∷ older) w = absurd w
+
+-- where the greatest load is also the least, all are that load
+pub all_same : (load : ℤ) (readings : List Reading) → lost_of readings ≡ 0 → slice_get (candidates Greatest readings) 0 ≡ Some load → slice_get (candidates Least readings) 0 ≡ Some load
+    → readings ≡ replicate (length readings) (Load load)
+all_same load readings n g l = within_one load readings (Spread-fronts load load readings n l g).within

@@ -1,6 +1,8 @@
 //! The loads that can become the greatest, or the least, of the readings held.
 ghost use Rattle.circular_buffer.specs.Buffer.{last_item};
-ghost use Rattle.std.specs.Prelude.{◌≡◌, ℕ, ◌<◌, ◌∷◌, ◌++◌, [], List, IfOk, length, slice_get};
+ghost use Rattle.std.specs.Option.{option_eq};
+ghost use Rattle.std.specs.Ordering.{int_eq};
+ghost use Rattle.std.specs.Prelude.{◌≡◌, ℕ, ◌<◌, ◌∷◌, ◌++◌, [], List, IfOk, Some, length, slice_get};
 
 use circular_buffer::HeapCircularBuffer;
 use std::alloc::{AllocError, Global};
@@ -53,6 +55,13 @@ impl Candidates {
         self.loads.front().copied()
     }
 
+    /// Whether this is the greatest load, or the least.
+    pub(crate) fn is_first(&self, load: i32) -> bool
+        ensures { result ≡ option_eq int_eq (slice_get self.now.loads.items 0) (Some load) }
+    {
+        self.first() == Some(load)
+    }
+
     /// Takes a new load: it drops from the back those that it lies beyond, and is put last.
     pub(crate) fn enter(&mut self, load: i32)
         ensures { (extreme : Extreme) (size : ℕ) (readings : List Reading) → length readings < size
@@ -71,7 +80,7 @@ impl Candidates {
             → self.old ≡ queue_of extreme size (readings ++ Load load ∷ [])
             → self.new ≡ queue_of extreme size readings }
     {
-        if self.first() == Some(load) {
+        if self.is_first(load) {
             self.loads.pop_front();
         }
     }

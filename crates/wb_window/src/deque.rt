@@ -1,5 +1,5 @@
 //! A window with two queues.
-ghost use Rattle.std.specs.Prelude.{◌≡◌, IfOk, []};
+ghost use Rattle.std.specs.Prelude.{◌≡◌, IfOk, [], replicate, true};
 
 use crate::queues::Queues;
 use crate::{Reading, Window};
@@ -39,6 +39,14 @@ impl DequeWindow {
         let queues = Queues::new(alloc, size)?;
         Ok(DequeWindow { ring, queues, band })
     }
+
+    /// Whether it is full, and each reading held is this load. One more of it changes nothing.
+    fn stands_still_at(&self, reading: Reading) -> bool
+        ensures { let now = self.now in result ≡ true
+            → now.readings ≡ replicate now.size reading }
+    {
+        self.ring.len() >= self.ring.capacity() && self.queues.are_all(reading)
+    }
 }
 
 impl Window for DequeWindow {
@@ -53,7 +61,7 @@ impl Window for DequeWindow {
     }
 
     fn read(&mut self, reading: Reading) {
-        if self.ring.capacity() == 0 {
+        if self.ring.capacity() == 0 || self.stands_still_at(reading) {
             return;
         }
         if let Some(oldest) = self.ring.push_front(reading) {

@@ -1,5 +1,5 @@
 //! Whether readings agree, told by the greatest of them, the least, and how many are lost.
-ghost use Rattle.std.specs.Prelude.{◌≡◌, ℕ, ◌<◌, ◌∷◌, ◌++◌, [], List, IfOk, length};
+ghost use Rattle.std.specs.Prelude.{◌≡◌, ℕ, ◌<◌, ◌∷◌, ◌++◌, [], List, IfOk, length, replicate, true};
 ghost use Rattle.wb_window.specs.Stability.{agree as agree_of};
 
 use crate::Reading;
@@ -58,6 +58,19 @@ impl Queues {
                 self.least.leave(load);
             }
             Reading::Lost => self.lost -= 1,
+        }
+    }
+
+    /// Whether there are readings, and each is this load.
+    pub(crate) fn are_all(&self, reading: Reading) -> bool
+        ensures { (size : ℕ) (readings : List Reading) → self.now ≡ queues_of size readings
+            → result ≡ true → readings ≡ replicate (length readings) reading }
+    {
+        match reading {
+            Reading::Load(load) => {
+                self.lost == 0 && self.greatest.is_first(load) && self.least.is_first(load)
+            }
+            Reading::Lost => false,
         }
     }
 
