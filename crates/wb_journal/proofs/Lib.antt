@@ -6,6 +6,7 @@ pub mod CountFacts
 pub mod KindFacts
 pub mod LawFacts
 pub mod Members
+pub mod OnSiteFacts
 pub mod OpenFacts
 pub mod PairFacts
 pub mod PartnerFacts

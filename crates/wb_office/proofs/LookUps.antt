@@ -1,9 +1,9 @@
 -- Calls of the store that only read it, one after the other.
-use Rattle.std.proofs.Common.{◌≡◌, ◌∙◌, ap, sym, List, Result, Ok, Err, IfOk}
+use Rattle.std.proofs.Common.{◌≡◌, ◌∙◌, ap, sym, refl, Bool, true, false, ◌||◌, List, Result, Ok, Err, IfOk}
 use Rattle.sqlite.specs.Store.{Ghosts}
 use Rattle.wb_journal.specs.declared.entry.EntryParts.{EntryParts}
 use Rattle.wb_store.specs.declared.fault.StoreFault.{StoreFault}
-use Rattle.wb_store.specs.declared.fault.StoreFault.TheVariants.{Closed, Disk}
+use Rattle.wb_store.specs.declared.fault.StoreFault.TheVariants.{Closed, Disk, Memory}
 use Rattle.wb_store.specs.Faults.{closed_by}
 use Rattle.wb_store.specs.Journal.{IsHonest, StoreView, Stands}
 use Rattle.wb_store.specs.Keeping.{Closes, Keeps}
@@ -24,6 +24,10 @@ ok_is_no_fault x same = absurd (cc)
 if_ok_map : {Y : Type 0} (P Q : Y → Type 0) (r : Result Y StoreFault) → ((y : Y) → P y → Q y) → IfOk r P → IfOk r Q
 if_ok_map P Q (Ok y) follows p = follows y p
 if_ok_map P Q (Err f) follows p = p
+
+or_none : (b : Bool) → b || false ≡ b
+or_none true = refl
+or_none false = refl
 
 module _ {D : Type 0} (g : Ghosts D) where
   -- a call that keeps the lists, whatever it answers
@@ -54,6 +58,18 @@ module _ {D : Type 0} (g : Ghosts D) where
       closed = ((λ e. ok_is_no_fault y e), λ e. ok_is_no_fault x (l.closes.closed.1 e));
       still = l.closes.still;
       closes = l.closes.closes;
+      honest = l.closes.honest;
+    };
+  }
+
+  -- after it memory was refused
+  pub wanting : {old new : StoreView D} {X Y : Type 0} {x : X} → Reads old new {X = X} (Ok x) → Reads old new {X = Y} (Err Memory)
+  wanting {X = X} {x = x} l = record {
+    keeps = record { stands = l.keeps.stands; leaves = l.keeps.leaves; known = λ es ks s h e. absurd (cc e) };
+    closes = record {
+      closed = ((λ e. absurd (cc e)), λ e. ok_is_no_fault {X = X} x (l.closes.closed.1 e));
+      still = l.closes.still;
+      closes = l.closes.closes ∙ sym (or_none _);
       honest = l.closes.honest;
     };
   }

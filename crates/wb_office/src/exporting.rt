@@ -8,12 +8,13 @@ ghost use Rattle.wb_office.specs.declared.request.Request.TheVariants as request
 ghost use Rattle.wb_scale.specs.State.{State};
 
 use crate::answer::{Answer, CsvText};
+use crate::checking::finding_of;
 use crate::journal_export::journal_text;
 use crate::refusal::Refusal;
 use crate::tickets_export::tickets_text;
 use sqlite::Alter;
 use std::alloc::{AllocError, Global};
-use wb_journal::{Entry, Finding, check};
+use wb_journal::{Entry, Finding};
 use wb_store::{Store, StoreFault};
 
 /// Answers the export of the journal, also of one that is damaged.
@@ -51,7 +52,11 @@ fn tickets_if_sound(alloc: Global, entries: &[Entry]) -> Result<Answer, Refusal>
     ensures memory { WantsMemory result }
     ensures tells { IsRising entries.now → Tells result (tickets_answer entries.now) }
 {
-    match check(entries) {
+    let finding = match finding_of(alloc, entries) {
+        Ok(finding) => finding,
+        Err(fault) => return Err(Refusal::Store(fault)),
+    };
+    match finding {
         Finding::Sound(_) => {
             let text = tickets_text(alloc, entries);
             exported(text)

@@ -6,5 +6,5 @@ use Rattle.wb_office.proofs.exporting.tickets_if_sound.Goals as goal
 
 pub returns-in-Sound-clause-tells : goal.returns-in-Sound-clause-tells
 returns-in-Sound-clause-tells c = λ rising plain.
-    let sound : check_of c.args.entries.now ≡ Sound c.in-Sound.field-0 = sym (c.check.ensures rising) ∙ c.in-Sound.is in
+    let sound : check_of c.args.entries.now ≡ Sound c.in-Sound.field-0 = sym (c.in-Ok.ensures rising) ∙ c.in-Sound.is in
     rw sound (c.exported.ensures.tells (tickets_csv c.args.entries.now) (c.tickets_text-text.ensures rising) plain)
