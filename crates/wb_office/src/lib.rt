@@ -30,6 +30,7 @@ mod tickets_export;
 mod weighing;
 
 pub use answer::{Answer, CsvText};
+pub use journal_export::journal_text;
 pub use laws::{
     law_of_closing_places, law_of_keys, law_of_known_keys, law_of_numbers, law_of_places,
     law_of_purged_journals, law_of_repeated_requests, law_of_stops, law_of_stored_loads,
@@ -37,3 +38,4 @@ pub use laws::{
 pub use office::Office;
 pub use refusal::Refusal;
 pub use request::Request;
+pub use tickets_export::tickets_text;

@@ -9,8 +9,8 @@ use crate::export::{Export, Fields};
 use std::alloc::{AllocError, Global};
 use wb_journal::{Entry, Kind, net, partner_at, text_of_moment};
 
-/// The tickets with their columns, in the order of the entries.
-pub(crate) fn tickets_text(alloc: Global, entries: &[Entry]) -> Result<CsvText, AllocError>
+/// The tickets as CSV with their columns, in the order of the entries. Refuses for want of memory alone.
+pub fn tickets_text(alloc: Global, entries: &[Entry]) -> Result<CsvText, AllocError>
     ensures { IsRising entries.now → IfOk result (λ text. text ≡ tickets_csv entries.now) }
 {
     let mut export = Export::new(alloc).with(&columns(alloc)?)?;

@@ -1,7 +1,9 @@
+pub mod Converter
 pub mod LineEvents
 pub mod Numerals
 pub mod Performed
 pub mod Printed
+pub mod Printouts
 pub mod Reading
 pub mod Replayed
 pub mod RequestLines

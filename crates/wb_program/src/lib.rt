@@ -1,10 +1,13 @@
 //! What the program `weighbridge` does.
 //!
 //! `replay` reads a trace of converter readings, terminal lines and requests to the office, and prints the replies and responses of
-//! a station over a journal in memory, over any reader and writer. The command line and the process's own streams are in the crate
-//! `weighbridge`.
+//! a station over a journal in memory, over any reader and writer. `print_check` and `print_export` print what the check of a store
+//! finds, and its exports. `converter_line` reads a line of a load converter. The command line and the process's own streams are
+//! in the crate `weighbridge`.
 #![tactic(auto)]
 
+mod commands;
+mod converter;
 mod lines;
 mod numerals;
 mod performing;
@@ -16,4 +19,6 @@ mod tests;
 mod trace;
 mod trace_line;
 
+pub use commands::{PrintFault, What, print_check, print_export};
+pub use converter::converter_line;
 pub use replaying::{ReplayEnd, replay};

@@ -107,7 +107,7 @@ fn end_line<O: Write>(writer: &mut O) -> Result<(), WriteFault>
     write_bytes(b"\n", writer)
 }
 
-fn write_bytes<O: Write>(bytes: &[u8], writer: &mut O) -> Result<(), WriteFault>
+pub(crate) fn write_bytes<O: Write>(bytes: &[u8], writer: &mut O) -> Result<(), WriteFault>
     ensures { OnOk result (Appends
         (O.contents writer.old) (O.contents writer.new) bytes.now) }
 {
