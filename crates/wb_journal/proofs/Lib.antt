@@ -10,6 +10,7 @@ pub mod OnSiteFacts
 pub mod OpenFacts
 pub mod PairFacts
 pub mod PartnerFacts
+pub mod PassFacts
 pub mod PurgeFacts
 pub mod Rises
 pub mod ScanFacts

@@ -11,6 +11,7 @@ pub mod Laws
 pub mod LeastAbove
 pub mod Moment
 pub mod Nearest
+pub mod OnSite
 pub mod Pairs
 pub mod Plate
 pub mod Retention

@@ -1,5 +1,5 @@
 -- Calls of the store that only read it, one after the other.
-use Rattle.std.proofs.Common.{◌≡◌, ◌∙◌, ap, sym, refl, Bool, true, false, ◌||◌, List, Result, Ok, Err, IfOk}
+use Rattle.std.proofs.Common.{◌≡◌, ◌∙◌, ap, sym, refl, Bool, true, false, ◌||◌, List, Result, Ok, Err, IfOk, MatchResult}
 use Rattle.sqlite.specs.Store.{Ghosts}
 use Rattle.wb_journal.specs.declared.entry.EntryParts.{EntryParts}
 use Rattle.wb_store.specs.declared.fault.StoreFault.{StoreFault}
@@ -103,6 +103,12 @@ module _ {D : Type 0} (g : Ghosts D) where
   pub told : {old new : StoreView D} {X : Type 0} {x : X} {P : List EntryParts → List SpentKey → X → Type 0} → Reads old new {X = X} (Ok x)
       → ((es : List EntryParts) (ks : List SpentKey) → Stands g old es ks → IsHonest g new → P es ks x) → Looks g old new (Ok x) P
   told l tells = record { tells = tells; keeps = l.keeps; closes = l.closes }
+
+  -- something is made of what was found, unless memory is refused
+  pub worked_out : {old new : StoreView D} {X Y : Type 0} {x : X} {P : List EntryParts → List SpentKey → Y → Type 0} {Q : Y → Type 0} (r : Result Y StoreFault) → Reads old new {X = X} (Ok x)
+      → MatchResult r Q (λ f. f ≡ Memory) → ((y : Y) → Q y → (es : List EntryParts) (ks : List SpentKey) → Stands g old es ks → IsHonest g new → P es ks y) → Looks g old new r P
+  worked_out {x = x} (Ok y) l q tells = told (made x y l) (tells y q)
+  worked_out (Err f) l q tells = rw q (nothing_told (wanting l))
 
   -- what a later look-up tells, together with what was found before
   pub then_told : {old mid new : StoreView D} {X Y : Type 0} {x : X} {r : Result Y StoreFault} {P Q : List EntryParts → List SpentKey → Y → Type 0} → Reads old mid {X = X} (Ok x)
