@@ -7,6 +7,10 @@ pub mod Printouts
 pub mod Reading
 pub mod Replayed
 pub mod RequestLines
+pub mod Served
+pub mod Serving
+pub mod Sources
 pub mod Trace
 pub mod TraceLines
+pub mod Turns
 pub mod Words

@@ -2,8 +2,8 @@
 //!
 //! `replay` reads a trace of converter readings, terminal lines and requests to the office, and prints the replies and responses of
 //! a station over a journal in memory, over any reader and writer. `print_check` and `print_export` print what the check of a store
-//! finds, and its exports. `converter_line` reads a line of a load converter. The command line and the process's own streams are
-//! in the crate `weighbridge`.
+//! finds, and its exports. `serve` runs a station over its sources, turn by turn; `converter_line` reads a line of a load converter.
+//! The command line and the process's own streams are in the crate `weighbridge`.
 #![tactic(auto)]
 
 mod commands;
@@ -14,6 +14,8 @@ mod performing;
 mod printing;
 mod replaying;
 mod request_line;
+mod serving;
+mod sources;
 #[cfg(test)]
 mod tests;
 mod trace;
@@ -22,3 +24,5 @@ mod trace_line;
 pub use commands::{PrintFault, What, print_check, print_export};
 pub use converter::converter_line;
 pub use replaying::{ReplayEnd, replay};
+pub use serving::{ServeEnd, serve};
+pub use sources::{Converter, REQUEST_ROOM, Sources, TERMINAL_ROOM, Taken};
