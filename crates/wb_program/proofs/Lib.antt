@@ -1,7 +1,10 @@
 pub mod Ending
 pub mod FirstLine
 pub mod LineKinds
+pub mod Passing
 pub mod Progress
-pub mod Taken
+pub mod Recording
+pub mod Told
+pub mod Turns
 pub mod Typing
 pub mod Writing

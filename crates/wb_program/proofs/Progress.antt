@@ -10,7 +10,7 @@ use Rattle.wb_program.specs.Performed.{Performed}
 use Rattle.wb_program.specs.Replayed.{Replayed, StopsAt, at_first}
 use Rattle.wb_program.specs.Trace.{both, trace_events}
 use Rattle.wb_program.specs.TraceLines.{line_events}
-use Rattle.wb_program.proofs.Taken.{Performed-append, Performed-none}
+use Rattle.wb_program.proofs.Passing.{Performed-append, Performed-none}
 use Rattle.wb_sics.specs.Stands.{TerminalState}
 use Rattle.wb_station.specs.Happening.{Happening}
 use Rattle.wb_station.specs.Stands.{Hears, Stands}

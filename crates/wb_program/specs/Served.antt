@@ -7,7 +7,7 @@ use Rattle.wb_program.specs.declared.serving.ServeEnd.TheVariants as end
 use Rattle.wb_program.specs.declared.serving.Stop.{Stop}
 use Rattle.wb_program.specs.declared.serving.Stop.TheVariants as stop
 use Rattle.wb_program.specs.declared.sources.Converter.TheVariants.{End, Fault}
-use Rattle.wb_program.specs.Sources.{Answer, Tells, Told, asked, converted, timed}
+use Rattle.wb_program.specs.Telling.{Answer, Tells, Told, asked, converted, timed}
 use Rattle.wb_program.specs.Turns.{Begun, Turn, all_handed_on, answers_begun, answers_of, answers_of_turn, happenings_begun, happenings_of, happenings_of_turn}
 use Rattle.wb_sics.specs.Stands.{TerminalState}
 use Rattle.wb_station.specs.Account.{Out}

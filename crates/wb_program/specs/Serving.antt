@@ -7,7 +7,7 @@ use Rattle.wb_program.specs.declared.serving.ServeEnd.TheVariants as end
 use Rattle.wb_program.specs.declared.serving.Stop.{Stop}
 use Rattle.wb_program.specs.declared.serving.Stop.TheVariants as stop
 use Rattle.wb_program.specs.Served.{Handled}
-use Rattle.wb_program.specs.Sources.{Answer, Told, asked, timed, took}
+use Rattle.wb_program.specs.Telling.{Answer, Told, asked, timed, took}
 use Rattle.wb_program.specs.Turns.{Request, answers_of_request, happenings_of_request, stretch}
 use Rattle.wb_sics.specs.Stands.{TerminalState}
 use Rattle.wb_station.specs.Happening.{Happening}

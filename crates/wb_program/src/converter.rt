@@ -1,6 +1,6 @@
 //! Lines of a load converter.
 ghost use Rattle.std.specs.Prelude.{◌≡◌};
-ghost use Rattle.wb_program.specs.Converter.{converter_reading};
+ghost use Rattle.wb_program.specs.ConverterLines.{converter_reading};
 ghost use Rattle.wb_window.specs.Reading.{IsReading};
 
 use crate::numerals::number;

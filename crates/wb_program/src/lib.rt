@@ -9,6 +9,7 @@
 mod commands;
 mod converter;
 mod lines;
+mod list_sources;
 mod numerals;
 mod performing;
 mod printing;
@@ -23,6 +24,7 @@ mod trace_line;
 
 pub use commands::{PrintFault, What, print_check, print_export};
 pub use converter::converter_line;
+pub use list_sources::{Answered, HandedIn, ListSources, ListTurn};
 pub use replaying::{ReplayEnd, replay};
 pub use serving::{ServeEnd, serve};
 pub use sources::{Converter, REQUEST_ROOM, Sources, TERMINAL_ROOM, Taken};

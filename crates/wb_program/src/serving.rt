@@ -2,7 +2,7 @@
 ghost use Rattle.std.specs.Prelude.{◌≡◌, ◌∷◌, [], false, map, reverse};
 ghost use Rattle.wb_program.specs.Served.{Handled, Served, TurnServed};
 ghost use Rattle.wb_program.specs.Serving.{ExchangeServed, StretchServed, end_of};
-ghost use Rattle.wb_program.specs.Sources.{Tells};
+ghost use Rattle.wb_program.specs.Telling.{Tells};
 ghost use Rattle.wb_program.specs.Turns.{handed_on};
 ghost use Rattle.wb_station.specs.Happening.{IsTaken, byte as byte_happening, happening};
 ghost use Rattle.wb_station.specs.Shown.{shown};

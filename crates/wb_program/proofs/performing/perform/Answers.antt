@@ -2,7 +2,7 @@ use Rattle.std.proofs.Common.{sym, ap, subst, ◌∙◌}
 use Rattle.std.specs.Prelude.{OnOk, reverse}
 use Rattle.wb_program.specs.LineEvents.{events_of}
 use Rattle.wb_program.specs.Performed.{Performed}
-use Rattle.wb_program.proofs.Taken.{Performed-none, reverse-replicate}
+use Rattle.wb_program.proofs.Passing.{Performed-none, reverse-replicate}
 use Rattle.wb_station.specs.Happening.{reading}
 use Rattle.wb_program.proofs.performing.perform.Goals as goal
 
