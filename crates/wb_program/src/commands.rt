@@ -26,17 +26,32 @@ pub enum What {
     Tickets,
 }
 
-/// Why nothing, or not all, was printed.
-#[derive(Clone, Copy, Debug, PartialEq, Eq)]
+/// Why nothing, or not all, was printed. It is shown as the line that reports it.
+#[derive(Clone, Copy, Debug, PartialEq, Eq, Error)]
 pub enum PrintFault {
     /// The store refused; nothing was printed.
+    #[error("store {}", number_and_name(*.0))]
     Store(StoreFault),
     /// The tickets of a damaged journal are not exported; nothing was printed.
+    #[error("refused 17 damaged")]
     Damaged,
     /// The writer failed.
+    #[error("write fault")]
     Write,
     /// Memory was refused; nothing was printed.
+    #[error("want of memory")]
     Memory,
+}
+
+/// The number and the name of a store's fault.
+fn number_and_name(fault: StoreFault) -> &'static str {
+    match fault {
+        StoreFault::Memory => "1 memory",
+        StoreFault::Disk => "2 disk",
+        StoreFault::Size => "3 size",
+        StoreFault::Foreign => "4 foreign",
+        StoreFault::Closed => "5 closed",
+    }
 }
 
 /// Prints what the check of the store's journal finds: `SOUND` and how many entries there are, or `DAMAGED` and the least number at

@@ -1,15 +1,22 @@
-//! The program `weighbridge`: its command line, and the process's own streams around what `wb_program` does.
+//! The program `weighbridge`: its command line, and the process's own streams and files around what `wb_program` does.
 #![tactic(auto)]
 
+mod files;
+mod journal_words;
+mod setup_words;
 #[cfg(test)]
 mod tests;
 mod words;
 
+use crate::files::kept_store_in;
 use crate::words::{Asked, REFUSED, read_words};
 use std::io;
 use std::process::ExitCode;
 use wb_instrument::Instrument;
-use wb_program::{ReplayEnd, replay};
+use wb_program::{PrintFault, ReplayEnd, What, print_check, print_export, replay};
+
+/// The status of a damaged journal, and of any fault but refused words or a refused setup.
+const FAULT: u8 = 1;
 
 fn main(rt: HostRuntime) -> io::Result<ExitCode> {
     let mut words = Vec::new(rt.alloc());
@@ -18,6 +25,8 @@ fn main(rt: HostRuntime) -> io::Result<ExitCode> {
     }
     match read_words(rt.alloc(), words.as_slice())? {
         Asked::Replay(instrument) => run_replay(&rt, instrument),
+        Asked::Check(path) => run_check(&rt, path.as_str()),
+        Asked::Export(path, what) => run_export(&rt, path.as_str(), what),
         Asked::SetupRefused(fault) => {
             eprintln!(rt; "{fault}")?;
             Ok(ExitCode::from(fault.status()))
@@ -42,4 +51,41 @@ fn run_replay(rt: &HostRuntime, instrument: Instrument) -> io::Result<ExitCode> 
         eprintln!(rt; "{end}")?;
     }
     Ok(ExitCode::from(end.status()))
+}
+
+/// Prints what the check of the journal in the file finds.
+fn run_check(rt: &HostRuntime, path: &str) -> io::Result<ExitCode> {
+    match check_file(rt, path) {
+        Ok(true) => Ok(ExitCode::SUCCESS),
+        Ok(false) => Ok(ExitCode::from(FAULT)),
+        Err(fault) => report(rt, fault),
+    }
+}
+
+fn check_file(rt: &HostRuntime, path: &str) -> Result<bool, PrintFault> {
+    match kept_store_in(rt, path) {
+        Ok(mut store) => print_check(rt.alloc(), &mut store, &mut io::writer(rt)),
+        Err(fault) => Err(PrintFault::Store(fault)),
+    }
+}
+
+/// Prints an export of the journal in the file.
+fn run_export(rt: &HostRuntime, path: &str, what: What) -> io::Result<ExitCode> {
+    match export_file(rt, path, what) {
+        Ok(()) => Ok(ExitCode::SUCCESS),
+        Err(fault) => report(rt, fault),
+    }
+}
+
+fn export_file(rt: &HostRuntime, path: &str, what: What) -> Result<(), PrintFault> {
+    match kept_store_in(rt, path) {
+        Ok(mut store) => print_export(rt.alloc(), &mut store, what, &mut io::writer(rt)),
+        Err(fault) => Err(PrintFault::Store(fault)),
+    }
+}
+
+/// Reports a fault by its line.
+fn report(rt: &HostRuntime, fault: PrintFault) -> io::Result<ExitCode> {
+    eprintln!(rt; "{fault}")?;
+    Ok(ExitCode::from(FAULT))
 }

@@ -1,2 +1,3 @@
-//! The words of the command line.
+//! The words of the command line, and files.
 mod command_line;
+mod files;

@@ -5,7 +5,7 @@ use std::alloc::Global;
 use std::test::Fail;
 use wb_instrument::Serial;
 use wb_journal::{Digest, Entry, EntryParts, Key, Kind, Moment, Plate};
-use wb_store::Store;
+use wb_store::{Store, StoreFault};
 use wb_window::Reading;
 
 const MORNING: u64 = 1_741_593_600;
@@ -86,6 +86,24 @@ fn prints_no_tickets_of_a_damaged_journal(rt: HostRuntime) -> Result<(), Fail> {
     );
     assert_eq!(rt; answer, Err(PrintFault::Damaged));
     assert!(rt; printed.is_empty());
+    Ok(())
+}
+
+#[test]
+fn reports_each_fault_by_its_line(rt: HostRuntime) -> Result<(), Fail> {
+    for (fault, line) in [
+        (PrintFault::Store(StoreFault::Memory), "store 1 memory"),
+        (PrintFault::Store(StoreFault::Disk), "store 2 disk"),
+        (PrintFault::Store(StoreFault::Size), "store 3 size"),
+        (PrintFault::Store(StoreFault::Foreign), "store 4 foreign"),
+        (PrintFault::Store(StoreFault::Closed), "store 5 closed"),
+        (PrintFault::Damaged, "refused 17 damaged"),
+        (PrintFault::Write, "write fault"),
+        (PrintFault::Memory, "want of memory"),
+    ] {
+        let said = format!(in rt.alloc(); "{fault}")?;
+        assert_eq!(rt; said.as_str(), line);
+    }
     Ok(())
 }
 

@@ -3,6 +3,7 @@ use crate::words::{Asked, read_words};
 use std::alloc::Global;
 use std::test::Fail;
 use wb_instrument::Instrument;
+use wb_program::What;
 
 fn asked_by(alloc: Global, line: &str) -> Result<Asked, Fail> {
     let mut words = Vec::new(alloc);
@@ -69,9 +70,7 @@ fn sets_up_a_road_weighbridge_and_each_part_that_is_given(rt: HostRuntime) -> Re
                 assert_eq!(rt; instrument.serial().as_str(), serial, "{line}");
                 assert_eq!(rt; parts_of(&instrument), parts, "{line}");
             }
-            Asked::SetupRefused(_) | Asked::WordsRefused(_) | Asked::Nothing => {
-                return Err(Fail::from("refused"));
-            }
+            _ => return Err(Fail::from("refused")),
         }
     }
     Ok(())
@@ -98,50 +97,149 @@ fn refuses_a_setup_by_number_and_name(rt: HostRuntime) -> Result<(), Fail> {
                 assert_eq!(rt; said.as_str(), text);
                 assert_eq!(rt; fault.status(), 2);
             }
-            Asked::Replay(_) | Asked::WordsRefused(_) | Asked::Nothing => {
-                return Err(Fail::from("not refused for its setup"));
-            }
+            _ => return Err(Fail::from("not refused for its setup")),
         }
     }
     Ok(())
 }
 
 #[test]
-fn refuses_words_and_helps(rt: HostRuntime) -> Result<(), Fail> {
-    for (line, status, holds) in [
-        ("weighbridge", 2, "replay"),
-        ("weighbridge weigh", 2, "weigh"),
-        ("weighbridge replay --load 1", 2, "--load"),
-        ("weighbridge replay --max", 2, "--max"),
-        ("weighbridge replay --max 60t", 2, "60t"),
-        ("weighbridge replay --max -1", 2, "-1"),
-        ("weighbridge replay --max 4294967296", 2, "4294967296"),
-        ("weighbridge replay --max 1 --max 2", 2, "--max"),
-        (
-            "weighbridge --help",
-            0,
-            "terminal and office of a public weighbridge",
-        ),
-        ("weighbridge replay --help", 0, "--interval"),
-        ("weighbridge replay --help", 0, "--max"),
-        ("weighbridge replay --help", 0, "--window"),
-        ("weighbridge replay --help", 0, "--band"),
-        ("weighbridge replay --help", 0, "--pace"),
-        ("weighbridge replay --help", 0, "--wait"),
-        ("weighbridge replay --help", 0, "--serial"),
-        ("weighbridge replay --help", 0, "--retention"),
-        ("weighbridge replay --help", 0, "--capacity"),
+fn asks_for_the_check_of_a_file(rt: HostRuntime) -> Result<(), Fail> {
+    for line in [
+        "weighbridge check --file journal.db",
+        "weighbridge check --file=journal.db",
     ] {
         match asked_by(rt.alloc(), line)? {
-            Asked::WordsRefused(error) => {
-                let said = format!(in rt.alloc(); "{error}")?;
-                assert!(rt; said.as_str().contains(holds), "{line}: {said}");
-                assert_eq!(rt; error.exit_code(), status, "{line}");
-            }
-            Asked::Replay(_) | Asked::SetupRefused(_) | Asked::Nothing => {
-                return Err(Fail::from("not refused for its words"));
-            }
+            Asked::Check(file) => assert_eq!(rt; file.as_str(), "journal.db", "{line}"),
+            _ => return Err(Fail::from("no check")),
         }
+    }
+    Ok(())
+}
+
+#[test]
+fn asks_for_either_export_of_a_file(rt: HostRuntime) -> Result<(), Fail> {
+    for (line, wanted) in [
+        (
+            "weighbridge export --file journal.db --what journal",
+            What::Journal,
+        ),
+        (
+            "weighbridge export --what tickets --file journal.db",
+            What::Tickets,
+        ),
+    ] {
+        match asked_by(rt.alloc(), line)? {
+            Asked::Export(file, what) => {
+                assert_eq!(rt; file.as_str(), "journal.db", "{line}");
+                assert_eq!(rt; what, wanted, "{line}");
+            }
+            _ => return Err(Fail::from("no export")),
+        }
+    }
+    Ok(())
+}
+
+/// The text and status that these words are refused or answered with.
+fn said_to(alloc: Global, line: &str) -> Result<(String, i32), Fail> {
+    match asked_by(alloc, line)? {
+        Asked::WordsRefused(error) => Ok((format!(in alloc; "{error}")?, error.exit_code())),
+        _ => Err(Fail::from("not refused for its words")),
+    }
+}
+
+#[test]
+fn refuses_words(rt: HostRuntime) -> Result<(), Fail> {
+    for (line, holds) in [
+        ("weighbridge", "replay"),
+        ("weighbridge weigh", "weigh"),
+        ("weighbridge replay --load 1", "--load"),
+        ("weighbridge replay --max", "--max"),
+        ("weighbridge replay --max 60t", "60t"),
+        ("weighbridge replay --max -1", "-1"),
+        ("weighbridge replay --max 4294967296", "4294967296"),
+        ("weighbridge replay --max 1 --max 2", "--max"),
+        ("weighbridge replay --file journal.db", "--file"),
+        ("weighbridge check", "--file"),
+        ("weighbridge check --file", "--file"),
+        ("weighbridge check journal.db", "journal.db"),
+        ("weighbridge check --file a.db --file b.db", "--file"),
+        ("weighbridge check --file a.db --max 60000", "--max"),
+        ("weighbridge export --what journal", "--file"),
+        ("weighbridge export --file journal.db", "--what"),
+        (
+            "weighbridge export --file journal.db --what entries",
+            "entries",
+        ),
+        (
+            "weighbridge export --file journal.db --what Journal",
+            "Journal",
+        ),
+        ("weighbridge export --file journal.db --what", "tickets"),
+    ] {
+        let (said, status) = said_to(rt.alloc(), line)?;
+        assert!(rt; said.as_str().contains(holds), "{line}: {said}");
+        assert_eq!(rt; status, 2, "{line}");
+    }
+    Ok(())
+}
+
+#[test]
+fn helps_with_each_subcommand_and_its_options(rt: HostRuntime) -> Result<(), Fail> {
+    for (line, holds) in [
+        (
+            "weighbridge --help",
+            "terminal and office of a public weighbridge",
+        ),
+        ("weighbridge --help", "\n  replay "),
+        ("weighbridge --help", "\n  check "),
+        ("weighbridge --help", "\n  export "),
+        ("weighbridge replay --help", "replays a trace"),
+        ("weighbridge replay --help", "--interval"),
+        ("weighbridge replay --help", "--max"),
+        ("weighbridge replay --help", "--window"),
+        ("weighbridge replay --help", "--band"),
+        ("weighbridge replay --help", "--pace"),
+        ("weighbridge replay --help", "--wait"),
+        ("weighbridge replay --help", "--serial"),
+        ("weighbridge replay --help", "--retention"),
+        ("weighbridge replay --help", "--capacity"),
+        (
+            "weighbridge replay --help",
+            "  printf 'r 9170 4\\nt SI\\n' | weighbridge replay\n",
+        ),
+        ("weighbridge check --help", "checks the journal"),
+        ("weighbridge check --help", "--file <FILE>"),
+        (
+            "weighbridge check --help",
+            "  weighbridge check --file journal.db\n",
+        ),
+        ("weighbridge export --help", "as CSV"),
+        ("weighbridge export --help", "--file <FILE>"),
+        ("weighbridge export --help", "--what <WHAT>"),
+        ("weighbridge export --help", "journal, tickets"),
+        (
+            "weighbridge export --help",
+            "  weighbridge export --file journal.db --what tickets",
+        ),
+    ] {
+        let (said, status) = said_to(rt.alloc(), line)?;
+        assert!(rt; said.as_str().contains(holds), "{line}: {said}");
+        assert_eq!(rt; status, 0, "{line}");
+    }
+    Ok(())
+}
+
+#[test]
+fn prints_its_version_and_the_kit_that_proved_it(rt: HostRuntime) -> Result<(), Fail> {
+    for line in ["weighbridge --version", "weighbridge -V"] {
+        let (said, status) = said_to(rt.alloc(), line)?;
+        assert_eq!(rt;
+            said.as_str(),
+            "weighbridge 0.1.0\nproved by rattle-kit-13b logic dac8208d650f15bf\n",
+            "{line}"
+        );
+        assert_eq!(rt; status, 0, "{line}");
     }
     Ok(())
 }

@@ -1,0 +1,66 @@
+//! The words of what is asked of a journal's file.
+use clap::{Arg, ArgAction, ArgMatches, Command};
+use std::alloc::{AllocError, Global};
+use wb_program::What;
+
+/// What can be exported.
+static EXPORTS: [&str; 2] = ["journal", "tickets"];
+
+const CHECK_EXAMPLE: &str = "Example:
+  weighbridge check --file journal.db
+prints SOUND and how many entries there are, or DAMAGED and the least number at fault (status 1).";
+
+const EXPORT_EXAMPLE: &str = "Example:
+  weighbridge export --file journal.db --what tickets > tickets.csv
+The tickets of a damaged journal are refused (status 1).";
+
+/// The file of a journal.
+pub(crate) fn file_argument<'a>(alloc: Global, help: &'a str) -> Arg<'a> {
+    Arg::new(alloc, "file")
+        .long("file")
+        .value_name("FILE")
+        .required(true)
+        .action(ArgAction::Set)
+        .help(help)
+}
+
+/// The subcommand `check`.
+pub(crate) fn check_command<'a>(alloc: Global) -> Result<Command<'a>, AllocError> {
+    Command::new(alloc, "check")
+        .about("checks the journal in a file, and prints what it finds")
+        .after_help(CHECK_EXAMPLE)
+        .arg(file_argument(alloc, "file of the journal, which has to be there"))
+}
+
+/// The subcommand `export`.
+pub(crate) fn export_command<'a>(alloc: Global) -> Result<Command<'a>, AllocError> {
+    let what = Arg::new(alloc, "what")
+        .long("what")
+        .value_name("WHAT")
+        .required(true)
+        .action(ArgAction::Set)
+        .value_parser(EXPORTS.as_slice())
+        .help("what to print");
+    Command::new(alloc, "export")
+        .about("prints the journal in a file, or its tickets, as CSV")
+        .after_help(EXPORT_EXAMPLE)
+        .arg(file_argument(alloc, "file of the journal, which has to be there"))?
+        .arg(what)
+}
+
+/// The file that the words name. None if they name none, which `clap` doesn't let through.
+pub(crate) fn file(alloc: Global, words: &ArgMatches<'_>) -> Result<Option<String>, AllocError> {
+    match words.get_str("file") {
+        Some(file) => Ok(Some(String::from_str(alloc, file)?)),
+        None => Ok(None),
+    }
+}
+
+/// What the words ask to export. None if they name neither, which `clap` doesn't let through.
+pub(crate) fn what(words: &ArgMatches<'_>) -> Option<What> {
+    match words.get_str("what")? {
+        "journal" => Some(What::Journal),
+        "tickets" => Some(What::Tickets),
+        _ => None,
+    }
+}

@@ -1,0 +1,31 @@
+//! Files that hold no store.
+use crate::files::{kept_store_in, store_in};
+use std::fs;
+use std::test::Fail;
+use wb_store::StoreFault;
+
+const FOLDER: &str = "weighbridge_test";
+
+/// What refuses the file, if anything does.
+fn refusal(rt: &HostRuntime, path: &str) -> Option<StoreFault> {
+    kept_store_in(rt, path).err()
+}
+
+#[test]
+fn makes_no_file_that_is_not_there(rt: HostRuntime) -> Result<(), Fail> {
+    let _ = fs::remove_dir_all(&rt, FOLDER);
+    fs::create_dir(&rt, FOLDER)?;
+    let path = "weighbridge_test/journal.db";
+    assert_eq!(rt; refusal(&rt, path), Some(StoreFault::Disk));
+    assert!(rt; !fs::exists(&rt, path)?);
+    assert!(rt; store_in(&rt, path).is_ok());
+    assert_eq!(rt; refusal(&rt, path), None);
+    fs::write(&rt, "weighbridge_test/note", "r 9170 4\n")?;
+    assert_eq!(rt;
+        refusal(&rt, "weighbridge_test/note"),
+        Some(StoreFault::Disk)
+    );
+    assert_eq!(rt; refusal(&rt, FOLDER), Some(StoreFault::Disk));
+    fs::remove_dir_all(&rt, FOLDER)?;
+    Ok(())
+}
