@@ -22,8 +22,6 @@ mod office;
 mod purging;
 mod refusal;
 mod request;
-#[cfg(test)]
-mod tests;
 mod texts;
 mod tickets;
 mod tickets_export;

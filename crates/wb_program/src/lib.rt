@@ -17,8 +17,6 @@ mod replaying;
 mod request_line;
 mod serving;
 mod sources;
-#[cfg(test)]
-mod tests;
 mod trace;
 mod trace_line;
 

@@ -26,8 +26,6 @@ mod room;
 mod routes;
 mod run;
 mod station;
-#[cfg(test)]
-mod tests;
 mod whole;
 
 pub use event::{Event, Output};

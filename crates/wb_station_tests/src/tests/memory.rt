@@ -1,5 +1,5 @@
 //! Want of memory.
-use crate::{HttpFault, Routes, request_of};
+use wb_station::{HttpFault, Routes, request_of};
 use linked_list_allocator::LocalHeap;
 use std::test::Fail;
 

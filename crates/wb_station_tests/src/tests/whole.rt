@@ -1,6 +1,6 @@
 //! Whole requests.
 use super::{PURGE, stretched};
-use crate::{Routes, is_whole};
+use wb_station::{Routes, is_whole};
 use std::test::Fail;
 
 /// How many of the first bytes make a whole request; one more than there are if none do.

@@ -1,6 +1,6 @@
 //! Turns of the service over sources in memory.
 use super::road;
-use crate::{Answered, Converter, HandedIn, ListSources, ListTurn, ServeEnd, serve};
+use wb_program::{Answered, Converter, HandedIn, ListSources, ListTurn, ServeEnd, serve};
 use sqlite::{Connection, MemStore};
 use std::alloc::Global;
 use std::test::Fail;

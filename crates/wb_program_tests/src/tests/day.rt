@@ -1,6 +1,6 @@
 //! A day at a weighbridge, as `docs/day.md` has it.
 use super::replayed;
-use crate::ReplayEnd;
+use wb_program::ReplayEnd;
 use std::test::Fail;
 
 /// The lines of the day, and what each prints.

@@ -1,6 +1,6 @@
 //! How a replay ends: its limits, faults of its reader and writer, texts and statuses.
 use super::road;
-use crate::{ReplayEnd, replay};
+use wb_program::{ReplayEnd, replay};
 use std::io;
 use std::io::{ErrorKind, Read, Write};
 use std::test::Fail;

@@ -12,7 +12,7 @@ mod targets;
 mod terminal;
 mod whole;
 
-use crate::{HttpFault, Routes, request_of};
+use wb_station::{HttpFault, Routes, request_of};
 use std::test::Fail;
 use wb_office::Request;
 

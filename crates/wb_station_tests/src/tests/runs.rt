@@ -2,7 +2,7 @@
 ghost use Rattle.wb_station.specs.Kept.{kept_of};
 
 use super::days::{instrument, store};
-use crate::{Event, OutputList, Outputs, Placed, Refused, RunStopped, Station};
+use wb_station::{Event, OutputList, Outputs, Placed, Refused, RunStopped, Station};
 use sqlite::Connection;
 use std::alloc::Global;
 use std::test::Fail;

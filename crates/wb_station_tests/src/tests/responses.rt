@@ -1,5 +1,5 @@
 //! Responses, byte by byte.
-use crate::{HttpFault, Method, Outcome, ResponseRoom, response_bytes};
+use wb_station::{HttpFault, Method, Outcome, ResponseRoom, response_bytes};
 use arrayvec::ArrayString;
 use std::str;
 use std::test::Fail;

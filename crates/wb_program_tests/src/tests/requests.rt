@@ -1,6 +1,6 @@
 //! Rows with requests to the office: what a station over a journal in memory puts out, printed.
 use super::{replayed, replayed_with};
-use crate::ReplayEnd;
+use wb_program::ReplayEnd;
 use std::test::Fail;
 
 #[test]

@@ -1,5 +1,5 @@
 //! What is printed of a store's journal, and lines of a load converter.
-use crate::{PrintFault, What, converter_line, print_check, print_export};
+use wb_program::{PrintFault, What, converter_line, print_check, print_export};
 use sqlite::{Connection, MemStore};
 use std::alloc::Global;
 use std::test::Fail;
