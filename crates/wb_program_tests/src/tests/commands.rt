@@ -1,10 +1,10 @@
 //! What is printed of a store's journal, and lines of a load converter.
-use wb_program::{PrintFault, What, converter_line, print_check, print_export};
 use sqlite::{Connection, MemStore};
 use std::alloc::Global;
 use std::test::Fail;
 use wb_instrument::Serial;
 use wb_journal::{Digest, Entry, EntryParts, Key, Kind, Moment, Plate};
+use wb_program::{PrintFault, What, converter_line, print_check, print_export};
 use wb_store::{Store, StoreFault};
 use wb_window::Reading;
 

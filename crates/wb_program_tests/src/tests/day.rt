@@ -1,7 +1,7 @@
 //! A day at a weighbridge, as `docs/day.md` has it.
 use super::replayed;
-use wb_program::ReplayEnd;
 use std::test::Fail;
+use wb_program::ReplayEnd;
 
 /// The lines of the day, and what each prints.
 const LINES: [(&str, &str); 33] = [

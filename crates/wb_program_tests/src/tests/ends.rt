@@ -1,9 +1,9 @@
 //! How a replay ends: its limits, faults of its reader and writer, texts and statuses.
 use super::road;
-use wb_program::{ReplayEnd, replay};
 use std::io;
 use std::io::{ErrorKind, Read, Write};
 use std::test::Fail;
+use wb_program::{ReplayEnd, replay};
 
 #[test]
 fn runs_nothing_of_a_trace_one_byte_too_long(rt: HostRuntime) -> Result<(), Fail> {

@@ -1,7 +1,7 @@
 //! Rows with requests to the office: what a station over a journal in memory puts out, printed.
 use super::{replayed, replayed_with};
-use wb_program::ReplayEnd;
 use std::test::Fail;
+use wb_program::ReplayEnd;
 
 #[test]
 fn answers_requests(rt: HostRuntime) -> Result<(), Fail> {

@@ -1,10 +1,10 @@
 //! Turns of the service over sources in memory.
 use super::road;
-use wb_program::{Answered, Converter, HandedIn, ListSources, ListTurn, ServeEnd, serve};
 use sqlite::{Connection, MemStore};
 use std::alloc::Global;
 use std::test::Fail;
 use wb_journal::Moment;
+use wb_program::{Answered, Converter, HandedIn, ListSources, ListTurn, ServeEnd, serve};
 use wb_station::Station;
 use wb_store::Store;
 use wb_window::{DequeWindow, Reading};
