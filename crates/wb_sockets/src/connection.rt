@@ -38,8 +38,8 @@ pub(crate) enum Why {
     Stayed,
     /// No byte came of a request.
     NoRequest,
-    /// The service ended before its request was judged.
-    NotJudged,
+    /// The service ended before.
+    ServiceEnds,
     /// It took nothing of its response for too long.
     TookNothing,
     Broken,
@@ -52,7 +52,7 @@ impl Display for Why {
             Why::Done => "done",
             Why::Stayed => "it stayed after its response",
             Why::NoRequest => "no request came",
-            Why::NotJudged => "the service ends",
+            Why::ServiceEnds => "the service ends",
             Why::TookNothing => "it took nothing of its response",
             Why::Broken => "it is broken",
             Why::Memory => "want of memory",

@@ -15,6 +15,8 @@ mod report;
 mod sockets;
 mod source;
 mod terminal;
+#[cfg(test)]
+mod tests;
 
 pub use address::{AddressFault, listen, loopback};
 pub use converter::{Converter, ConverterFault};

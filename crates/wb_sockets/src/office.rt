@@ -104,12 +104,12 @@ where
         None
     }
 
-    /// Closes what has no response: it is not judged any more.
+    /// Closes what has no response: it isn't judged any more.
     pub(crate) fn refuse<R: Eprint>(&mut self, report: &Report<'_, R>) {
         for connection in self.connections.iter_mut() {
             match &connection.stage {
                 Stage::Asks | Stage::Waits(_) | Stage::Asked => {
-                    connection.stage = Stage::Closed(Why::NotJudged);
+                    connection.stage = Stage::Closed(Why::ServiceEnds);
                 }
                 Stage::Takes(_, _) | Stage::Leaves | Stage::Closed(_) => {}
             }
@@ -129,6 +129,14 @@ where
         }
         self.close(report);
         self.connections.is_empty()
+    }
+
+    /// Closes what is still kept.
+    pub(crate) fn close_all<R: Eprint>(&mut self, report: &Report<'_, R>) {
+        for connection in self.connections.iter_mut() {
+            connection.stage = Stage::Closed(Why::ServiceEnds);
+        }
+        self.close(report);
     }
 
     /// Accepts connections while there is a place for them.

@@ -98,11 +98,18 @@ where
         })
     }
 
-    /// Writes what still waits for clients, and reads their connections to their end, for five seconds at most. Requests that
-    /// weren't judged are closed.
+    /// Writes what still waits for clients, reads their connections to their end, and closes them, all within five seconds.
+    /// A request that wasn't judged is closed at once.
     pub fn finish(&mut self) {
-        let start = self.look_at_clock();
         self.office.refuse(&self.report);
+        self.take_leave();
+        self.office.close_all(&self.report);
+        self.terminal.hang_up(&self.report, "the service ends");
+    }
+
+    /// Waits until each client has what waits for it and is gone, or the time is over.
+    fn take_leave(&mut self) {
+        let start = self.look_at_clock();
         for _ in 0..FINISH_STEPS {
             let now = self.look_at_clock();
             let is_terminal_done = self.terminal.finish(now, &self.report);

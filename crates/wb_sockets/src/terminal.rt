@@ -112,7 +112,7 @@ where
         match read_ready(&mut connection.stream, &mut room) {
             Ready::Bytes(_) | Ready::Nothing => false,
             Ready::End | Ready::Fault => {
-                self.hang_up(report, "the service ends");
+                self.hang_up(report, "it ended");
                 true
             }
         }
@@ -189,8 +189,8 @@ where
         self.was_dropped = true;
     }
 
-    /// Closes the connection, and forgets the replies that wait for it.
-    fn hang_up<R: Eprint>(&mut self, report: &Report<'_, R>, why: &str) {
+    /// Closes the connection, if there is one, and forgets the replies that wait for it.
+    pub(crate) fn hang_up<R: Eprint>(&mut self, report: &Report<'_, R>, why: &str) {
         if let Some(connection) = &self.connection {
             report.line(format_args!("terminal {}: hung up, {why}", connection.peer));
         }
