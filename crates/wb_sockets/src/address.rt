@@ -1,0 +1,36 @@
+//! Addresses of this machine alone, and what listens on them.
+use std::net::{Net, OpenListener, SocketAddrV4, TcpListener};
+use thiserror::Error;
+
+/// An address that isn't one of this machine alone, or on which nothing can listen.
+#[derive(Clone, Copy, Debug, PartialEq, Eq, Error)]
+#[error("address fault")]
+pub struct AddressFault;
+
+/// The address of a text: an IPv4 address of 127.0.0.0/8, a colon and a port. Any other text is none.
+pub fn loopback(text: &str) -> Option<SocketAddrV4> {
+    let address = text.parse::<SocketAddrV4>().ok()?;
+    if address.ip().is_loopback() {
+        Some(address)
+    } else {
+        None
+    }
+}
+
+/// Listens on the address of a text. Accepting doesn't wait.
+///
+/// # Errors
+///
+/// A text that is no [`loopback`] address, and an address that can't be bound.
+pub fn listen<R: Net>(rt: &R, text: &str) -> Result<R::Listener, AddressFault> {
+    let Some(address) = loopback(text) else {
+        return Err(AddressFault);
+    };
+    let Ok(listener) = TcpListener::bind(rt, address) else {
+        return Err(AddressFault);
+    };
+    match listener.set_nonblocking(true) {
+        Ok(()) => Ok(listener),
+        Err(_) => Err(AddressFault),
+    }
+}

@@ -1,0 +1,54 @@
+//! The times, counts and sizes that keep a client from stopping the scale.
+
+/// How many connections of the office are kept at once; more wait in the listener. A weighbridge has a handful of programs that
+/// ask it, and sixteen requests of full size together stay below 150 kB.
+pub(crate) const CONNECTIONS: usize = 16;
+
+/// After so many seconds without a byte, a connection of the office is taken as one that sends no more. A program sends its
+/// request at once, so five seconds are for a slow machine, and sixteen silent clients keep the others waiting no longer.
+pub(crate) const SILENT_SECONDS: u64 = 5;
+
+/// So many seconds after it was accepted, a request is judged as it stands. One that sends a byte now and then is never silent,
+/// so twice that time bounds how long it keeps its place.
+pub(crate) const WHOLE_WITHIN_SECONDS: u64 = 10;
+
+/// A response is dropped if its socket takes no byte for so many seconds. The system's buffers open again in steps of some
+/// 100 kB, so a client that reads 4 kB a second or more is never dropped.
+pub(crate) const UNTAKEN_SECONDS: u64 = 30;
+
+/// After its response, a connection is read to its end for so many seconds at most. Closed over bytes that nobody read it would
+/// send a reset, and the client could lose its answer; one that never closes keeps its place no longer than a silent one.
+pub(crate) const LEAVING_SECONDS: u64 = 5;
+
+/// The terminal is hung up if its socket takes no byte for so many seconds while replies wait: replies that old are of no use
+/// to who reads them.
+pub(crate) const DEAF_SECONDS: u64 = 5;
+
+/// How many bytes of replies wait for the terminal at most: more than 2,500 replies. The room is made at the start, so that a
+/// reply never wants memory.
+pub(crate) const WAITING_REPLIES: usize = 65_536;
+
+/// For so many seconds at most, what waits for clients is still written at the end. A client that reads has it long before.
+pub(crate) const FINISH_SECONDS: u64 = 5;
+
+/// A converter that sends no whole line for so many seconds hands in a lost reading. The slowest converters send twice a second,
+/// so a second without a line is a fault, and nobody is shown an older weight.
+pub(crate) const SILENCE_SECONDS: u64 = 1;
+
+/// After an exchange that took longer than so many milliseconds, the converter's lines come first. At ten readings a second that
+/// is one reading, so shorter exchanges leave nothing behind.
+pub(crate) const LONG_EXCHANGE_MILLIS: u64 = 100;
+
+/// For so many milliseconds, a device or a client that has nothing now is left alone. At 200 looks a second a line is read at
+/// once, and the processor does next to nothing.
+pub(crate) const PAUSE_MILLIS: u64 = 5;
+
+/// The most bytes of a converter's line without its end; a longer one is a lost reading.
+pub(crate) const LINE: usize = 20;
+
+/// So many bytes of a converter without the end of a line are a fault.
+pub(crate) const ENDLESS_LINE: usize = 1_048_576;
+
+/// How often a connection is read in a turn at most: once for a request, once for the end behind it, and twice for a request in
+/// pieces. More would let one client that sends without end hold up a turn.
+pub(crate) const READS_A_TURN: usize = 4;

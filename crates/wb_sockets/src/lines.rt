@@ -1,0 +1,92 @@
+//! The lines of a converter, cut out of the bytes as they come.
+ghost use Rattle.std.specs.Prelude.{IfSome};
+ghost use Rattle.wb_window.specs.Reading.{IsReading};
+
+use crate::limits::{ENDLESS_LINE, LINE};
+use wb_program::converter_line;
+use wb_window::Reading;
+
+/// How many bytes are read at once: some fifty lines, so that what came during an exchange takes few reads.
+pub(crate) const ROOM: usize = 512;
+
+/// A line and the CR before its LF.
+const LINE_AND_CR: usize = LINE + 1;
+
+/// Bytes that came and are not used yet, and the beginning of the line that they are part of.
+#[derive(Drop)]
+pub(crate) struct Lines {
+    /// Where the next bytes are put, once all that came are used.
+    pub(crate) room: [u8; ROOM],
+    next: usize,
+    end: usize,
+    line: [u8; LINE_AND_CR],
+    /// How many bytes came since the last LF; those that have no place in `line` are only counted.
+    count: usize,
+}
+
+impl Lines {
+    pub(crate) fn new() -> Self {
+        Lines {
+            room: [0; ROOM],
+            next: 0,
+            end: 0,
+            line: [0; LINE_AND_CR],
+            count: 0,
+        }
+    }
+
+    /// Takes so many bytes that were put into the room.
+    pub(crate) fn fill(&mut self, count: usize) {
+        self.next = 0;
+        self.end = count;
+    }
+
+    /// Whether the line that has begun is too long to ever end.
+    pub(crate) fn is_endless(&self) -> bool {
+        self.count >= ENDLESS_LINE
+    }
+
+    /// The reading of the next line whose end came. None once all bytes are used.
+    pub(crate) fn next_reading(&mut self) -> Option<Reading>
+        ensures { IfSome result IsReading }
+    {
+        for _ in 0..ROOM {
+            if self.next >= self.end || self.is_endless() {
+                return None;
+            }
+            let byte = *self.room.get(self.next)?;
+            self.next = self.next.saturating_add(1);
+            if byte == b'\n' {
+                return Some(self.finished_line());
+            }
+            if let Some(place) = self.line.get_mut(self.count) {
+                *place = byte;
+            }
+            self.count = self.count.saturating_add(1);
+        }
+        None
+    }
+
+    /// The reading of the line that has ended, and a new line begins.
+    fn finished_line(&mut self) -> Reading
+        ensures { IsReading result }
+    {
+        let count = self.count;
+        self.count = 0;
+        match self.line.get(..count) {
+            Some(line) => reading_of(line.strip_suffix(b"\r").unwrap_or(line)),
+            None => Reading::Lost,
+        }
+    }
+}
+
+/// The reading of a line without its end.
+fn reading_of(line: &[u8]) -> Reading
+    ensures { IsReading result }
+{
+    if line.len() <= LINE {
+        converter_line(line)
+    } else {
+        Reading::Lost
+    }
+}

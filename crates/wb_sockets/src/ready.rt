@@ -1,0 +1,59 @@
+//! Reads and writes that don't wait, and how long ago something was.
+ghost use Rattle.std.specs.Prelude.{◌≤◌, IfSome, length};
+ghost use Rattle.wb_sockets.specs.Ready.{IsWithin};
+
+use std::io;
+use std::io::{ErrorKind, Read, Write};
+use std::time::{Duration, Instant};
+
+/// What a read found.
+#[derive(Clone, Copy, Debug, PartialEq, Eq)]
+pub(crate) enum Ready {
+    /// So many bytes.
+    Bytes(usize),
+    /// Nothing yet.
+    Nothing,
+    /// The other side sends no more.
+    End,
+    /// The connection or device is broken.
+    Fault,
+}
+
+/// A read of a stream that is set to not wait. An empty room finds an end.
+pub(crate) fn read_ready<S: Read>(stream: &mut S, room: &mut [u8]) -> Ready
+    ensures { IsWithin result (length room.new) }
+{
+    match stream.read(room) {
+        Ok(0) => Ready::End,
+        Ok(count) => Ready::Bytes(count),
+        Err(error) => not_read(&error),
+    }
+}
+
+/// What a refused read means.
+fn not_read(error: &io::Error) -> Ready
+    ensures { IsWithin result 0 }
+{
+    match error.kind() {
+        ErrorKind::WouldBlock | ErrorKind::Interrupted => Ready::Nothing,
+        _ => Ready::Fault,
+    }
+}
+
+/// A write to a stream that is set to not wait: how many bytes it took, and None if it is broken.
+pub(crate) fn write_ready<S: Write>(stream: &mut S, bytes: &[u8]) -> Option<usize>
+    ensures { IfSome result (λ count. count ≤ length bytes.now) }
+{
+    match stream.write(bytes) {
+        Ok(count) => Some(count),
+        Err(error) => match error.kind() {
+            ErrorKind::WouldBlock | ErrorKind::Interrupted => Some(0),
+            _ => None,
+        },
+    }
+}
+
+/// Whether so many seconds have passed since then.
+pub(crate) fn is_past(then: Instant, seconds: u64, now: Instant) -> bool {
+    now.duration_since(then) >= Duration::from_secs(seconds)
+}

@@ -1,0 +1,114 @@
+//! What a converter's bytes are read from.
+ghost use Rattle.wb_sockets.specs.Ready.{IsWithin};
+
+use crate::address::loopback;
+use crate::limits::PAUSE_MILLIS;
+use crate::lines::ROOM;
+use crate::ready::{Ready, read_ready};
+use std::fs::{File, Files, OpenOptions};
+use std::io::Read;
+use std::net::{Net, OpenStream, TcpStream};
+use std::os::fd::OwnedFd;
+use std::os::unix::fs::FileTypeExt;
+use std::time::{Clock, Duration};
+use std::{fs, io, thread};
+
+/// What a converter's bytes are read from.
+#[derive(Drop)]
+pub(crate) enum Source<S: Read + OpenStream + Drop> {
+    Stream(S),
+    /// A FIFO, or a device such as a serial line, which is set to not wait.
+    Device(File),
+    /// A plain file, whose bytes are all there.
+    Plain(File),
+}
+
+impl<S: Read + OpenStream + Drop> Source<S> {
+    /// Opens what a text names: `tcp:` and an address, or the path of a file. None if it can't be opened.
+    pub(crate) fn open<R: Files<File = File> + Net<Stream = S>>(
+        rt: &R,
+        text: &str,
+    ) -> Option<Self> {
+        match text.strip_prefix("tcp:") {
+            Some(address) => {
+                let address = loopback(address)?;
+                Some(Source::Stream(TcpStream::connect(rt, address).ok()?))
+            }
+            None => open_file(rt, text).ok()?,
+        }
+    }
+
+    /// Whether bytes come in their own time.
+    pub(crate) fn is_live(&self) -> bool {
+        match self {
+            Source::Stream(_) | Source::Device(_) => true,
+            Source::Plain(_) => false,
+        }
+    }
+
+    /// A read that doesn't wait.
+    pub(crate) fn read_now(&mut self, room: &mut [u8; ROOM]) -> Ready
+        ensures { IsWithin result 512 }
+    {
+        match self {
+            Source::Stream(stream) => match stream.set_nonblocking(true) {
+                Ok(()) => read_ready(stream, room),
+                Err(_) => Ready::Fault,
+            },
+            Source::Device(file) => read_ready(file, room),
+            Source::Plain(file) => read_ready(file, room),
+        }
+    }
+
+    /// A read that may wait for so long at most. It may find nothing before.
+    pub(crate) fn read_within(
+        &mut self,
+        clock: &impl Clock,
+        left: Duration,
+        room: &mut [u8; ROOM],
+    ) -> Ready
+        ensures { IsWithin result 512 }
+    {
+        match self {
+            Source::Stream(stream) => match set_to_wait(stream, left) {
+                Ok(()) => read_ready(stream, room),
+                Err(_) => Ready::Fault,
+            },
+            Source::Device(_) => {
+                thread::sleep(clock, Duration::from_millis(PAUSE_MILLIS).min(left));
+                Ready::Nothing
+            }
+            Source::Plain(_) => self.read_now(room),
+        }
+    }
+}
+
+/// Sets a stream to wait at a read, for so long at most.
+fn set_to_wait<S: OpenStream>(stream: &S, left: Duration) -> io::Result<()> {
+    stream.set_nonblocking(false)?;
+    stream.set_read_timeout(Some(left.max(Duration::from_millis(1))))
+}
+
+/// Opens a file by its path; None if it is a directory. A FIFO or a device is opened for writing too, so that opening waits for
+/// no writer.
+fn open_file<R: Files<File = File>, S: Read + OpenStream + Drop>(
+    rt: &R,
+    path: &str,
+) -> io::Result<Option<Source<S>>> {
+    let kind = fs::metadata(rt, path)?.file_type();
+    if kind.is_dir() {
+        return Ok(None);
+    }
+    if !kind.is_fifo() && !kind.is_char_device() {
+        return Ok(Some(Source::Plain(File::open(rt, path)?)));
+    }
+    let file = OpenOptions::new().read(true).write(true).open(rt, path)?;
+    stop_waiting(&file)?;
+    Ok(Some(Source::Device(file)))
+}
+
+/// Sets a file to not wait. std sets this mode on sockets alone, but it belongs to the open file, which a second descriptor shares.
+fn stop_waiting(file: &File) -> io::Result<()> {
+    let shared = TcpStream::from(OwnedFd::from(file.try_clone()?));
+    shared.set_nonblocking(true)
+}

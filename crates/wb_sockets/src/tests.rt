@@ -1,0 +1,9 @@
+//! What no clause speaks of, over streams and a clock in memory, and once over sockets of this machine.
+mod addresses;
+mod converter;
+mod lines;
+mod memory;
+mod office;
+mod service;
+mod sockets;
+mod terminal;
