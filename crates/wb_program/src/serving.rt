@@ -9,18 +9,32 @@ ghost use Rattle.wb_station.specs.Shown.{shown};
 
 use crate::sources::{Converter, REQUEST_ROOM, Sources, TERMINAL_ROOM};
 use sqlite::Alter;
+use thiserror::Error;
 use wb_station::{Event, Output, Station, reply_bytes};
 use wb_window::Window;
 
 /// How serving ended.
-#[derive(Clone, Copy, Debug, PartialEq, Eq)]
+#[derive(Clone, Copy, Debug, PartialEq, Eq, Error)]
 pub enum ServeEnd {
     /// After so many whole turns: the limit, or fewer if the converter's end came.
+    #[error("turns {0}")]
     Turns(u64),
     /// The converter couldn't be read.
+    #[error("converter fault")]
     ConverterFault,
     /// The clock's moment was none at a request, and nothing of its exchange happened.
+    #[error("clock fault")]
     ClockFault,
+}
+
+impl ServeEnd {
+    /// The exit status that stands for the end.
+    pub fn status(self) -> u8 {
+        match self {
+            ServeEnd::Turns(_) => 0,
+            ServeEnd::ConverterFault | ServeEnd::ClockFault => 1,
+        }
+    }
 }
 
 /// Why a turn isn't whole.

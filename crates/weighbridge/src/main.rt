@@ -3,17 +3,21 @@
 
 mod files;
 mod journal_words;
+mod service;
+mod service_words;
 mod setup_words;
 #[cfg(test)]
 mod tests;
 mod words;
 
 use crate::files::kept_store_in;
+use crate::service::serve_bridge;
+use crate::service_words::Service;
 use crate::words::{Asked, REFUSED, read_words};
 use std::io;
 use std::process::ExitCode;
 use wb_instrument::Instrument;
-use wb_program::{PrintFault, ReplayEnd, What, print_check, print_export, replay};
+use wb_program::{PrintFault, ReplayEnd, ServeEnd, What, print_check, print_export, replay};
 
 /// The status of a damaged journal, and of any fault but refused words or a refused setup.
 const FAULT: u8 = 1;
@@ -25,6 +29,7 @@ fn main(rt: HostRuntime) -> io::Result<ExitCode> {
     }
     match read_words(rt.alloc(), words.as_slice())? {
         Asked::Replay(instrument) => run_replay(&rt, instrument),
+        Asked::Serve(instrument, service) => run_serve(&rt, instrument, &service),
         Asked::Check(path) => run_check(&rt, path.as_str()),
         Asked::Export(path, what) => run_export(&rt, path.as_str(), what),
         Asked::SetupRefused(fault) => {
@@ -49,6 +54,25 @@ fn run_replay(rt: &HostRuntime, instrument: Instrument) -> io::Result<ExitCode> 
     );
     if end != ReplayEnd::Done {
         eprintln!(rt; "{end}")?;
+    }
+    Ok(ExitCode::from(end.status()))
+}
+
+/// Serves a bridge, and prints how many turns there were, or reports the fault that ended it.
+fn run_serve(rt: &HostRuntime, instrument: Instrument, service: &Service) -> io::Result<ExitCode> {
+    match serve_bridge(rt, instrument, service) {
+        Ok(end) => end_service(rt, end),
+        Err(fault) => {
+            eprintln!(rt; "{fault}")?;
+            Ok(ExitCode::from(FAULT))
+        }
+    }
+}
+
+fn end_service(rt: &HostRuntime, end: ServeEnd) -> io::Result<ExitCode> {
+    match end {
+        ServeEnd::Turns(_) => println!(rt; "{end}")?,
+        ServeEnd::ConverterFault | ServeEnd::ClockFault => eprintln!(rt; "{end}")?,
     }
     Ok(ExitCode::from(end.status()))
 }

@@ -1,5 +1,6 @@
 //! The words of the command line.
 use crate::journal_words::{check_command, export_command, file, what};
+use crate::service_words::{Service, serve_command, service_of};
 use crate::setup_words::{SetupFault, instrument, with_setup};
 use clap::{ArgMatches, Command};
 use std::alloc::{AllocError, Global};
@@ -10,7 +11,7 @@ use wb_program::What;
 pub(crate) const REFUSED: u8 = 2;
 
 /// The version of the program, and the line by which `rt version` names the kit that proved it.
-const VERSION: &str = "0.1.0\nproved by rattle-kit-13b logic dac8208d650f15bf";
+const VERSION: &str = "1.0.0\nproved by rattle-kit-13b logic dac8208d650f15bf";
 
 const REPLAY_EXAMPLE: &str = "Example:
   printf 'r 9170 4\\nt SI\\n' | weighbridge replay
@@ -21,6 +22,8 @@ takes four readings of 9170 tenths of e and a request for the weight, and prints
 pub(crate) enum Asked {
     /// A trace is to be replayed with this instrument.
     Replay(Instrument),
+    /// A bridge with this instrument is to be served.
+    Serve(Instrument, Service),
     /// The journal in this file is to be checked.
     Check(String),
     /// This of the journal in this file is to be exported.
@@ -49,6 +52,7 @@ pub(crate) fn read_words(alloc: Global, words: &[String]) -> Result<Asked, Alloc
 fn asked_of(alloc: Global, name: &str, words: &ArgMatches<'_>) -> Result<Asked, AllocError> {
     match name {
         "replay" => Ok(replay_of(words)),
+        "serve" => serve_of(alloc, words),
         "check" => check_of(alloc, words),
         "export" => export_of(alloc, words),
         _ => Ok(Asked::Nothing),
@@ -60,6 +64,17 @@ fn replay_of(words: &ArgMatches<'_>) -> Asked {
         Some(Ok(instrument)) => Asked::Replay(instrument),
         Some(Err(fault)) => Asked::SetupRefused(fault),
         None => Asked::Nothing,
+    }
+}
+
+fn serve_of(alloc: Global, words: &ArgMatches<'_>) -> Result<Asked, AllocError> {
+    match instrument(words) {
+        Some(Ok(instrument)) => match service_of(alloc, words)? {
+            Some(service) => Ok(Asked::Serve(instrument, service)),
+            None => Ok(Asked::Nothing),
+        },
+        Some(Err(fault)) => Ok(Asked::SetupRefused(fault)),
+        None => Ok(Asked::Nothing),
     }
 }
 
@@ -88,6 +103,7 @@ fn command<'a>(alloc: Global) -> Result<Command<'a>, AllocError> {
         .subcommand_required(true)
         .arg_required_else_help(true)
         .subcommand(with_setup(alloc, replay)?)?
+        .subcommand(serve_command(alloc)?)?
         .subcommand(check_command(alloc)?)?
         .subcommand(export_command(alloc)?)
 }

@@ -21,7 +21,7 @@ fn station(alloc: Global) -> Result<Station<DequeWindow, MemStore>, Fail> {
         Ok(store) => store,
         Err((fault, _)) => return Err(fault.into()),
     };
-    let window = DequeWindow::new(alloc, 4, 2)?;
+    let window = DequeWindow::new(alloc, instrument.window() as usize, instrument.band())?;
     match Station::open(alloc, instrument, window, store) {
         Ok(station) => Ok(station),
         Err(_) => Err("station".into()),
@@ -222,5 +222,20 @@ fn keeps_what_was_answered_in_its_order(rt: HostRuntime) -> Result<(), Fail> {
         })?;
     }
     assert_eq!(rt; kinds.as_str(), "ltome");
+    Ok(())
+}
+
+#[test]
+fn reports_how_serving_ended(rt: HostRuntime) -> Result<(), Fail> {
+    for (end, line, status) in [
+        (ServeEnd::Turns(0), "turns 0", 0),
+        (ServeEnd::Turns(1_000_000), "turns 1000000", 0),
+        (ServeEnd::ConverterFault, "converter fault", 1),
+        (ServeEnd::ClockFault, "clock fault", 1),
+    ] {
+        let said = format!(in rt.alloc(); "{end}")?;
+        assert_eq!(rt; said.as_str(), line);
+        assert_eq!(rt; end.status(), status, "{line}");
+    }
     Ok(())
 }

@@ -104,6 +104,33 @@ fn refuses_a_setup_by_number_and_name(rt: HostRuntime) -> Result<(), Fail> {
 }
 
 #[test]
+fn asks_for_a_service_over_a_file_and_addresses(rt: HostRuntime) -> Result<(), Fail> {
+    for (options, interval_kg, turns, is_verbose) in [
+        ("", 20, 1_000_000, false),
+        (" --turns 1", 20, 1, false),
+        (" --turns 1000000000 --verbose", 20, 1_000_000_000, true),
+        (" --verbose --interval 10", 10, 1_000_000, true),
+    ] {
+        let line = format!(in rt.alloc();
+            "weighbridge serve --file f.db --terminal 127.0.0.1:1 --office 127.0.0.1:2 --converter tcp:127.0.0.1:3{options}"
+        )?;
+        match asked_by(rt.alloc(), line.as_str())? {
+            Asked::Serve(instrument, service) => {
+                assert_eq!(rt; instrument.interval_kg(), interval_kg, "{options}");
+                assert_eq!(rt; service.file.as_str(), "f.db");
+                assert_eq!(rt; service.terminal.as_str(), "127.0.0.1:1");
+                assert_eq!(rt; service.office.as_str(), "127.0.0.1:2");
+                assert_eq!(rt; service.converter.as_str(), "tcp:127.0.0.1:3");
+                assert_eq!(rt; service.turns, turns, "{options}");
+                assert_eq!(rt; service.is_verbose, is_verbose, "{options}");
+            }
+            _ => return Err(Fail::from("no service")),
+        }
+    }
+    Ok(())
+}
+
+#[test]
 fn asks_for_the_check_of_a_file(rt: HostRuntime) -> Result<(), Fail> {
     for line in [
         "weighbridge check --file journal.db",
@@ -160,6 +187,39 @@ fn refuses_words(rt: HostRuntime) -> Result<(), Fail> {
         ("weighbridge replay --max 4294967296", "4294967296"),
         ("weighbridge replay --max 1 --max 2", "--max"),
         ("weighbridge replay --file journal.db", "--file"),
+        ("weighbridge serve", "--file"),
+        (
+            "weighbridge serve --file a --terminal b --office c",
+            "--converter",
+        ),
+        (
+            "weighbridge serve --file a --terminal b --converter d",
+            "--office",
+        ),
+        (
+            "weighbridge serve --file a --office c --converter d",
+            "--terminal",
+        ),
+        (
+            "weighbridge serve --terminal b --office c --converter d",
+            "--file",
+        ),
+        (
+            "weighbridge serve --file a --terminal b --office c --converter d --turns 0",
+            "--turns",
+        ),
+        (
+            "weighbridge serve --file a --terminal b --office c --converter d --turns 1000000001",
+            "1000000001",
+        ),
+        (
+            "weighbridge serve --file a --terminal b --office c --converter d --turns many",
+            "many",
+        ),
+        (
+            "weighbridge serve --file a --terminal b --office c --converter d --verbose=yes",
+            "--verbose",
+        ),
         ("weighbridge check", "--file"),
         ("weighbridge check --file", "--file"),
         ("weighbridge check journal.db", "journal.db"),
@@ -192,6 +252,7 @@ fn helps_with_each_subcommand_and_its_options(rt: HostRuntime) -> Result<(), Fai
             "terminal and office of a public weighbridge",
         ),
         ("weighbridge --help", "\n  replay "),
+        ("weighbridge --help", "\n  serve "),
         ("weighbridge --help", "\n  check "),
         ("weighbridge --help", "\n  export "),
         ("weighbridge replay --help", "replays a trace"),
@@ -207,6 +268,19 @@ fn helps_with_each_subcommand_and_its_options(rt: HostRuntime) -> Result<(), Fai
         (
             "weighbridge replay --help",
             "  printf 'r 9170 4\\nt SI\\n' | weighbridge replay\n",
+        ),
+        ("weighbridge serve --help", "serves a weighbridge"),
+        ("weighbridge serve --help", "--file <FILE>"),
+        ("weighbridge serve --help", "--terminal <ADDRESS>"),
+        ("weighbridge serve --help", "--office <ADDRESS>"),
+        ("weighbridge serve --help", "--converter <SOURCE>"),
+        ("weighbridge serve --help", "--turns"),
+        ("weighbridge serve --help", "1000000]"),
+        ("weighbridge serve --help", "--verbose"),
+        ("weighbridge serve --help", "--capacity"),
+        (
+            "weighbridge serve --help",
+            "  weighbridge serve --file journal.db --terminal 127.0.0.1:4001",
         ),
         ("weighbridge check --help", "checks the journal"),
         ("weighbridge check --help", "--file <FILE>"),
@@ -236,7 +310,7 @@ fn prints_its_version_and_the_kit_that_proved_it(rt: HostRuntime) -> Result<(), 
         let (said, status) = said_to(rt.alloc(), line)?;
         assert_eq!(rt;
             said.as_str(),
-            "weighbridge 0.1.0\nproved by rattle-kit-13b logic dac8208d650f15bf\n",
+            "weighbridge 1.0.0\nproved by rattle-kit-13b logic dac8208d650f15bf\n",
             "{line}"
         );
         assert_eq!(rt; status, 0, "{line}");

@@ -1,0 +1,159 @@
+"""A bridge to try the service with: its converter, played on a port of this machine, and clients of the terminal and the office.
+
+The checks beside this folder use it. It needs python3 alone.
+"""
+
+import os
+import signal
+import socket
+import subprocess
+import threading
+import time
+
+HOST = "127.0.0.1"
+
+
+def free_port():
+    with socket.socket() as it:
+        it.bind((HOST, 0))
+        return it.getsockname()[1]
+
+
+def sizes_of(process):
+    """The memory of the process in kB and its processor time in seconds."""
+    with open(f"/proc/{process.pid}/stat") as it:
+        fields = it.read().rpartition(")")[2].split()
+    ticks = os.sysconf("SC_CLK_TCK")
+    with open(f"/proc/{process.pid}/status") as it:
+        kept = next((line for line in it if line.startswith("VmRSS:")), "VmRSS: 0 kB")
+    return int(kept.split()[1]), (int(fields[11]) + int(fields[12])) / ticks
+
+
+class Converter(threading.Thread):
+    """Sends a line so many times a second, as long as it isn't told to be silent. The line is what `load` gives for its number."""
+
+    def __init__(self, rate=10.0, load=lambda number: 0):
+        super().__init__(daemon=True)
+        self.listener = socket.create_server((HOST, 0))
+        self.port = self.listener.getsockname()[1]
+        self.rate, self.load = rate, load
+        self.sent = []  # when each line was sent
+        self.speaks = threading.Event()
+        self.speaks.set()
+        self.ended = threading.Event()
+
+    def run(self):
+        stream, _ = self.listener.accept()
+        stream.setsockopt(socket.IPPROTO_TCP, socket.TCP_NODELAY, 1)
+        due = time.monotonic()
+        try:
+            while not self.ended.is_set():
+                self.speaks.wait()
+                number = len(self.sent)
+                line = f"{self.load(number)}\r\n".encode()
+                self.sent.append(time.monotonic())
+                stream.sendall(line)
+                due = max(due + 1 / self.rate, time.monotonic() - 1)
+                time.sleep(max(0, due - time.monotonic()))
+        except OSError:
+            pass
+        stream.close()
+
+    def close(self):
+        self.ended.set()
+        self.speaks.set()
+
+
+class Service:
+    """`weighbridge serve` over a file, with a converter that this program plays."""
+
+    def __init__(self, program, file, converter, *options, turns=1_000_000_000):
+        self.converter = converter
+        self.terminal, self.office = free_port(), free_port()
+        words = [program, "serve", "--file", file, "--terminal", f"{HOST}:{self.terminal}", "--office", f"{HOST}:{self.office}"]
+        words += ["--converter", f"tcp:{HOST}:{converter.port}", "--turns", str(turns), *options]
+        self.process = subprocess.Popen(words, stdin=subprocess.DEVNULL, stdout=subprocess.PIPE, stderr=subprocess.PIPE, text=True)
+        if not converter.is_alive():
+            converter.start()
+        self.wait_for_office()
+
+    def wait_for_office(self):
+        until = time.monotonic() + 10
+        while time.monotonic() < until:
+            try:
+                socket.create_connection((HOST, self.office), 1).close()
+                return
+            except OSError:
+                if self.process.poll() is not None:
+                    raise SystemExit(f"the service ended: {self.process.stderr.read().strip()}")
+                time.sleep(0.01)
+        raise SystemExit("the service doesn't listen")
+
+    def kill(self):
+        self.process.send_signal(signal.SIGKILL)
+        self.process.wait()
+
+    def end(self):
+        """Lets the converter end, and gives what the service printed, reported and answered."""
+        self.converter.close()
+        out, err = self.process.communicate(timeout=20)
+        return out, err, self.process.returncode
+
+
+class Terminal:
+    """A client of the terminal."""
+
+    def __init__(self, service, timeout=20):
+        self.stream = socket.create_connection((HOST, service.terminal), timeout)
+        self.stream.setsockopt(socket.IPPROTO_TCP, socket.TCP_NODELAY, 1)
+        self.rest = b""
+
+    def send(self, data):
+        self.stream.sendall(data)
+
+    def line(self):
+        while b"\r\n" not in self.rest:
+            more = self.stream.recv(4096)
+            if not more:
+                raise EOFError
+            self.rest += more
+        line, _, self.rest = self.rest.partition(b"\r\n")
+        return line.decode()
+
+    def ask(self, command):
+        self.send(command.encode() + b"\r\n")
+        return self.line()
+
+    def close(self):
+        self.stream.close()
+
+
+def request_bytes(method, target, body=None):
+    if body is None:
+        return f"{method} {target} HTTP/1.1\r\nHost: x\r\n\r\n".encode()
+    return f"{method} {target} HTTP/1.1\r\nHost: x\r\nContent-Length: {len(body)}\r\n\r\n{body}".encode()
+
+
+def exchange(service, data, timeout=60):
+    """The status and the body of a request's response; None where the connection gave none."""
+    with socket.create_connection((HOST, service.office), timeout) as stream:
+        stream.settimeout(timeout)
+        stream.sendall(data)
+        answer = b""
+        while True:
+            more = stream.recv(1 << 16)
+            if not more:
+                break
+            answer += more
+    head, parted, body = answer.partition(b"\r\n\r\n")
+    if not parted:
+        return None
+    return int(head.split()[1]), body.decode()
+
+
+def get(service, target, timeout=60):
+    return exchange(service, request_bytes("GET", target), timeout)
+
+
+def post(service, target, body="", timeout=60):
+    return exchange(service, request_bytes("POST", target, body), timeout)

@@ -1,0 +1,104 @@
+//! The service of a bridge, over files and sockets.
+use crate::files::store_in;
+use crate::service_words::Service;
+use sqlite::{File, FileStore};
+use thiserror::Error;
+use wb_instrument::Instrument;
+use wb_program::{PrintFault, ServeEnd, serve};
+use wb_sockets::{AddressFault, Converter, ConverterFault, Sockets, StartFault, listen};
+use wb_station::Station;
+use wb_store::Store;
+use wb_window::DequeWindow;
+
+/// Why a service didn't start, in the order in which it is found.
+#[derive(Clone, Copy, Debug, PartialEq, Eq, Error)]
+pub(crate) enum ServiceFault {
+    /// The journal in the file can't be opened.
+    #[error("{0}")]
+    Journal(PrintFault),
+    /// Memory was refused.
+    #[error("want of memory")]
+    Memory,
+    /// An address isn't one of this machine alone, or can't be bound.
+    #[error("address fault")]
+    Address,
+    /// The converter can't be opened.
+    #[error("converter fault")]
+    Converter,
+    /// The clock can't be read.
+    #[error("clock fault")]
+    Clock,
+}
+
+impl From<AddressFault> for ServiceFault {
+    fn from(_fault: AddressFault) -> Self {
+        ServiceFault::Address
+    }
+}
+
+impl From<ConverterFault> for ServiceFault {
+    fn from(_fault: ConverterFault) -> Self {
+        ServiceFault::Converter
+    }
+}
+
+impl From<StartFault> for ServiceFault {
+    fn from(fault: StartFault) -> Self {
+        match fault {
+            StartFault::Memory => ServiceFault::Memory,
+            StartFault::Clock => ServiceFault::Clock,
+        }
+    }
+}
+
+/// Serves the bridge, and then its clients for some seconds more, so that each has what waits for it.
+pub(crate) fn serve_bridge(
+    rt: &HostRuntime,
+    instrument: Instrument,
+    service: &Service,
+) -> Result<ServeEnd, ServiceFault> {
+    let mut station = station_in(rt, instrument, service)?;
+    serve_station(rt, service, &mut station)
+}
+
+/// Serves a station over the sockets and the converter of the service.
+fn serve_station(
+    rt: &HostRuntime,
+    service: &Service,
+    station: &mut Station<DequeWindow, FileStore<File>>,
+) -> Result<ServeEnd, ServiceFault> {
+    let terminal = listen(rt, service.terminal.as_str())?;
+    let office = listen(rt, service.office.as_str())?;
+    let converter = Converter::open(rt, service.converter.as_str())?;
+    let mut sources = Sockets::new(rt, terminal, office, converter, service.is_verbose)?;
+    let end = serve(station, &mut sources, service.turns);
+    sources.finish();
+    Ok(end)
+}
+
+/// A station over the journal in the file.
+fn station_in(
+    rt: &HostRuntime,
+    instrument: Instrument,
+    service: &Service,
+) -> Result<Station<DequeWindow, FileStore<File>>, ServiceFault> {
+    match store_in(rt, service.file.as_str()) {
+        Ok(store) => station_over(rt, instrument, store),
+        Err(fault) => Err(ServiceFault::Journal(PrintFault::Store(fault))),
+    }
+}
+
+fn station_over(
+    rt: &HostRuntime,
+    instrument: Instrument,
+    store: Store<FileStore<File>>,
+) -> Result<Station<DequeWindow, FileStore<File>>, ServiceFault> {
+    let Ok(window) = DequeWindow::new(rt.alloc(), instrument.window() as usize, instrument.band())
+    else {
+        return Err(ServiceFault::Memory);
+    };
+    match Station::open(rt.alloc(), instrument, window, store) {
+        Ok(station) => Ok(station),
+        Err(_) => Err(ServiceFault::Memory),
+    }
+}

@@ -1,0 +1,104 @@
+//! The words of a service.
+use crate::journal_words::file_argument;
+use crate::setup_words::with_setup;
+use clap::{Arg, ArgAction, ArgMatches, Command, value_parser};
+use std::alloc::{AllocError, Global};
+
+/// The most turns that a service can be told to serve.
+const MOST_TURNS: i64 = 1_000_000_000;
+
+const EXAMPLE: &str = "Example:
+  weighbridge serve --file journal.db --terminal 127.0.0.1:4001 --office 127.0.0.1:8080 --converter tcp:127.0.0.1:4000
+serves the bridge whose converter sends its lines on port 4000, until the converter ends or a million lines were read, and then
+prints how many turns there were.";
+
+/// Over what a bridge is to be served, and for how long.
+#[derive(Drop)]
+pub(crate) struct Service {
+    /// The file of the journal.
+    pub(crate) file: String,
+    /// The address of the terminal.
+    pub(crate) terminal: String,
+    /// The address of the office.
+    pub(crate) office: String,
+    /// The file of the converter, or `tcp:` and its address.
+    pub(crate) converter: String,
+    /// The most turns.
+    pub(crate) turns: u64,
+    /// Whether what happens is reported on standard error.
+    pub(crate) is_verbose: bool,
+}
+
+/// A text that has to be given.
+fn text<'a>(alloc: Global, name: &'a str, value: &'a str, help: &'a str) -> Arg<'a> {
+    Arg::new(alloc, name)
+        .long(name)
+        .value_name(value)
+        .required(true)
+        .action(ArgAction::Set)
+        .help(help)
+}
+
+/// The subcommand `serve`.
+pub(crate) fn serve_command<'a>(alloc: Global) -> Result<Command<'a>, AllocError> {
+    let turns = Arg::new(alloc, "turns")
+        .long("turns")
+        .action(ArgAction::Set)
+        .value_parser(value_parser!(u64).range(1..=MOST_TURNS))
+        .default_value("1000000")
+        .help("turns after which it ends, each with a line of the converter: 1 to 1000000000");
+    let verbose = Arg::new(alloc, "verbose")
+        .long("verbose")
+        .action(ArgAction::SetTrue)
+        .help("report connections, requests and faults on standard error");
+    let serve = Command::new(alloc, "serve")
+        .about("serves a weighbridge: its converter, its terminal and its office")
+        .after_help(EXAMPLE)
+        .arg(file_argument(alloc, "file of the journal, made if it isn't there"))?
+        .arg(text(
+            alloc,
+            "terminal",
+            "ADDRESS",
+            "address of the terminal: an IPv4 address of 127.0.0.0/8, a colon and a port",
+        ))?
+        .arg(text(
+            alloc,
+            "office",
+            "ADDRESS",
+            "address of the office, of the same form",
+        ))?
+        .arg(text(
+            alloc,
+            "converter",
+            "SOURCE",
+            "file or device of the converter, or tcp: and the address to connect to",
+        ))?
+        .arg(turns)?
+        .arg(verbose)?;
+    with_setup(alloc, serve)
+}
+
+/// The service that the words ask for. None if a word is missing, which `clap` doesn't let through.
+pub(crate) fn service_of(
+    alloc: Global,
+    words: &ArgMatches<'_>,
+) -> Result<Option<Service>, AllocError> {
+    let (Some(file), Some(terminal)) = (words.get_str("file"), words.get_str("terminal")) else {
+        return Ok(None);
+    };
+    let (Some(office), Some(converter)) = (words.get_str("office"), words.get_str("converter"))
+    else {
+        return Ok(None);
+    };
+    let Some(turns) = words.get_one::<u64>("turns") else {
+        return Ok(None);
+    };
+    Ok(Some(Service {
+        file: String::from_str(alloc, file)?,
+        terminal: String::from_str(alloc, terminal)?,
+        office: String::from_str(alloc, office)?,
+        converter: String::from_str(alloc, converter)?,
+        turns,
+        is_verbose: words.get_flag("verbose"),
+    }))
+}
