@@ -26,16 +26,10 @@ fn hear(
 #[test]
 fn hands_in_a_lost_reading_for_each_silent_second(rt: HostRuntime) -> Result<(), Fail> {
     let bench = Bench::new(rt.alloc());
-    let wire = Wire::new(
+    let wire = Wire::playing(
         &bench,
-        &[
-            (0, b"9170\n9171\n"),
-            (200, b"91"),
-            (1_100, b"7"),
-            (2_400, b"2\n"),
-            (3_399, b"0\n"),
-            (4_300, b"1"),
-        ],
+        &[0, 200, 1_100, 2_400, 3_399, 4_300],
+        b"9170\n9171\n|91|7|2\n|0\n|1",
     );
     let mut converter = Converter::over(Source::Stream(Plug(&wire)), Instant::now(&bench)?);
     hear(
@@ -60,7 +54,7 @@ fn hands_in_a_lost_reading_for_each_silent_second(rt: HostRuntime) -> Result<(),
 #[test]
 fn reads_late_what_came_meanwhile(rt: HostRuntime) -> Result<(), Fail> {
     let bench = Bench::new(rt.alloc());
-    let wire = Wire::new(&bench, &[(100, b"1\n"), (200, b"2\n"), (5_600, b"3\n")]);
+    let wire = Wire::playing(&bench, &[100, 200, 5_600], b"1\n|2\n|3\n");
     let mut converter = Converter::over(Source::Stream(Plug(&wire)), Instant::now(&bench)?);
     bench.set(3_000);
     hear(

@@ -95,8 +95,9 @@ pub(crate) fn after(start: Instant, seconds: u64) -> Instant {
 #[derive(Drop)]
 pub(crate) struct Wire<'a> {
     bench: &'a Bench,
-    /// What the client sends at which millisecond, after what it sent before.
-    script: &'a [(u64, &'static [u8])],
+    /// At which milliseconds the client sends, and what: pieces that `|` stands between.
+    times: &'a [u64],
+    script: Cell<&'static [u8]>,
     next: Cell<usize>,
     /// What the client sent, and wasn't read yet.
     sent: Cell<&'static [u8]>,
@@ -112,10 +113,16 @@ pub(crate) struct Wire<'a> {
 
 impl<'a> Wire<'a> {
     /// On which nothing is sent yet, with a socket that takes whatever comes.
-    pub(crate) fn new(bench: &'a Bench, script: &'a [(u64, &'static [u8])]) -> Self {
+    pub(crate) fn new(bench: &'a Bench) -> Self {
+        Wire::playing(bench, &[], b"")
+    }
+
+    /// On which a client sends pieces at these milliseconds.
+    pub(crate) fn playing(bench: &'a Bench, times: &'a [u64], script: &'static [u8]) -> Self {
         Wire {
             bench,
-            script,
+            times,
+            script: Cell::new(script),
             next: Cell::new(0),
             sent: Cell::new(b""),
             has_ended: Cell::new(false),
@@ -152,24 +159,36 @@ impl<'a> Wire<'a> {
         self.is_open.get()
     }
 
+    /// When the next piece of the script comes.
+    fn next_time(&self) -> Option<Duration> {
+        let at = self.times.get(self.next.get())?;
+        Some(Duration::from_millis(*at))
+    }
+
     /// Sends the next piece of the script, if its time has come and what was sent before was read.
     fn arrive(&self) {
-        if let Some((at, bytes)) = self.script.get(self.next.get()) {
-            if self.sent.get().is_empty() && Duration::from_millis(*at) <= self.bench.now.get() {
-                self.sent.set(bytes);
-                self.next.set(self.next.get().saturating_add(1));
-            }
+        let Some(at) = self.next_time() else {
+            return;
+        };
+        if self.sent.get().is_empty() && at <= self.bench.now.get() {
+            let script = self.script.get();
+            let end = script
+                .iter()
+                .position(|byte| *byte == b'|')
+                .unwrap_or(script.len());
+            self.sent.set(script.get(..end).unwrap_or(b""));
+            self.script
+                .set(script.get(end.saturating_add(1)..).unwrap_or(b""));
+            self.next.set(self.next.get().saturating_add(1));
         }
     }
 
     /// Lets the time pass for which a read waits.
     fn wait(&self) {
         let until = self.bench.now.get().saturating_add(self.patience.get());
-        let next = match self.script.get(self.next.get()) {
-            Some((at, _)) => Duration::from_millis(*at),
-            None => until,
-        };
-        self.bench.now.set(until.min(next));
+        self.bench
+            .now
+            .set(until.min(self.next_time().unwrap_or(until)));
     }
 }
 

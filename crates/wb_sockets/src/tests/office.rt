@@ -53,7 +53,7 @@ impl<'a> Desk<'a> {
 #[test]
 fn answers_a_request_that_came_in_pieces(rt: HostRuntime) -> Result<(), Fail> {
     let bench = Bench::new(rt.alloc());
-    let wires = [Wire::new(&bench, &[])];
+    let wires = [Wire::new(&bench)];
     let mut desk = Desk::new(rt.alloc(), &bench, &wires)?;
     wires[0].send(&ASKED[..9]);
     assert_eq!(rt; desk.turn(0), (0, 1));
@@ -72,11 +72,7 @@ fn answers_a_request_that_came_in_pieces(rt: HostRuntime) -> Result<(), Fail> {
 #[test]
 fn judges_in_the_order_in_which_they_became_whole(rt: HostRuntime) -> Result<(), Fail> {
     let bench = Bench::new(rt.alloc());
-    let wires = [
-        Wire::new(&bench, &[]),
-        Wire::new(&bench, &[]),
-        Wire::new(&bench, &[]),
-    ];
+    let wires = [Wire::new(&bench), Wire::new(&bench), Wire::new(&bench)];
     let mut desk = Desk::new(rt.alloc(), &bench, &wires)?;
     wires[0].send(&ASKED[..9]);
     wires[1].send(&ASKED[..8]);
@@ -97,7 +93,7 @@ fn closes_sixteen_silent_ones_for_the_next(rt: HostRuntime) -> Result<(), Fail> 
     let bench = Bench::new(rt.alloc());
     let mut wires = Vec::new(rt.alloc());
     for _ in 0..17 {
-        wires.push(Wire::new(&bench, &[]))?;
+        wires.push(Wire::new(&bench))?;
     }
     let mut desk = Desk::new(rt.alloc(), &bench, wires.as_slice())?;
     for (at, kept) in [(0, 16), (4, 16), (5, 0), (6, 1), (10, 1), (11, 0)] {
@@ -110,7 +106,7 @@ fn closes_sixteen_silent_ones_for_the_next(rt: HostRuntime) -> Result<(), Fail> 
 #[test]
 fn judges_as_it_stands_what_comes_too_slowly(rt: HostRuntime) -> Result<(), Fail> {
     let bench = Bench::new(rt.alloc());
-    let wires = [Wire::new(&bench, &[]), Wire::new(&bench, &[])];
+    let wires = [Wire::new(&bench), Wire::new(&bench)];
     let mut desk = Desk::new(rt.alloc(), &bench, &wires)?;
     wires[0].send(b"GET /");
     for at in 0..10 {
@@ -131,7 +127,7 @@ fn judges_as_it_stands_what_comes_too_slowly(rt: HostRuntime) -> Result<(), Fail
 #[test]
 fn keeps_the_rest_of_a_response(rt: HostRuntime) -> Result<(), Fail> {
     let bench = Bench::new(rt.alloc());
-    let wires = [Wire::new(&bench, &[]), Wire::new(&bench, &[])];
+    let wires = [Wire::new(&bench), Wire::new(&bench)];
     let mut desk = Desk::new(rt.alloc(), &bench, &wires)?;
     for wire in &wires {
         wire.take(4);

@@ -13,6 +13,15 @@ const ASKED: &[u8] = b"GET /check HTTP/1.1\r\n\r\n";
 
 const ANSWER: &[u8] = b"HTTP/1.1 200 OK\r\n\r\nSOUND 0\n";
 
+const TOLD: &str = "terminal 127.0.0.1:0: accepted
+office 127.0.0.1:0: accepted
+office 127.0.0.1:1: accepted
+office 127.0.0.1:0: 200 in 7 ms
+terminal 127.0.0.1:0: hung up, it ended
+office 127.0.0.1:1: closed, the service ends
+office 127.0.0.1:0: closed, the service ends
+";
+
 /// Turns: the load that is read, and for how many milliseconds a request is answered, if one is handed out.
 fn turns(
     rt: &impl Abort,
@@ -35,20 +44,8 @@ fn turns(
 #[test]
 fn reads_what_came_meanwhile_after_a_long_exchange(rt: HostRuntime) -> Result<(), Fail> {
     let bench = Bench::new(rt.alloc());
-    let converter = Wire::new(
-        &bench,
-        &[
-            (0, b"1\n2\n3\n"),
-            (250, b"4\n5\n"),
-            (350, b"6\n"),
-            (450, b"7\n"),
-        ],
-    );
-    let wires = [
-        Wire::new(&bench, &[]),
-        Wire::new(&bench, &[]),
-        Wire::new(&bench, &[]),
-    ];
+    let converter = Wire::playing(&bench, &[0, 250, 350, 450], b"1\n2\n3\n|4\n5\n|6\n|7\n");
+    let wires = [Wire::new(&bench), Wire::new(&bench), Wire::new(&bench)];
     for wire in &wires {
         wire.send(ASKED);
     }
@@ -75,16 +72,16 @@ fn reads_what_came_meanwhile_after_a_long_exchange(rt: HostRuntime) -> Result<()
 #[test]
 fn tells_what_happens_and_finishes(rt: HostRuntime) -> Result<(), Fail> {
     let bench = Bench::new(rt.alloc());
-    let converter = Wire::new(&bench, &[(0, b"1\n"), (100, b"2\n")]);
     let wires = [
-        Wire::new(&bench, &[]),
-        Wire::new(&bench, &[]),
-        Wire::new(&bench, &[]),
+        Wire::new(&bench),
+        Wire::new(&bench),
+        Wire::new(&bench),
+        Wire::playing(&bench, &[0, 100], b"1\n|2\n"),
     ];
     wires[0].send(ASKED);
     wires[0].take(10);
-    let converter = Converter::over(Source::Stream(Plug(&converter)), Instant::now(&bench)?);
-    let doors = (Door::new(&wires[2..]), Door::new(&wires[..2]));
+    let converter = Converter::over(Source::Stream(Plug(&wires[3])), Instant::now(&bench)?);
+    let doors = (Door::new(&wires[2..3]), Door::new(&wires[..2]));
     let mut sockets = Sockets::new(&bench, doors.0, doors.1, converter, true)?;
     turns(&rt, &mut sockets, &bench, &[(1, Some(7))]);
     wires[0].take(100);
@@ -93,12 +90,6 @@ fn tells_what_happens_and_finishes(rt: HostRuntime) -> Result<(), Fail> {
     turns(&rt, &mut sockets, &bench, &[(2, None)]);
     sockets.finish();
     assert_eq!(rt; wires[0].got(), (ANSWER.len(), true));
-    assert!(rt;
-        bench.was_told(
-            "terminal 127.0.0.1:0: accepted\noffice 127.0.0.1:0: accepted\noffice 127.0.0.1:1: accepted\n\
-        office 127.0.0.1:0: 200 in 7 ms\nterminal 127.0.0.1:0: hung up, it ended\n\
-        office 127.0.0.1:1: closed, the service ends\noffice 127.0.0.1:0: closed, the service ends\n"
-        )
-    );
+    assert!(rt; bench.was_told(TOLD));
     Ok(())
 }

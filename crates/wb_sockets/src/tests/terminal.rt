@@ -53,7 +53,7 @@ const HUNG_UP: Taken = Taken {
 #[test]
 fn hands_in_all_bytes_before_the_hang_up(rt: HostRuntime) -> Result<(), Fail> {
     let bench = Bench::new(rt.alloc());
-    let wires = [Wire::new(&bench, &[]), Wire::new(&bench, &[])];
+    let wires = [Wire::new(&bench), Wire::new(&bench)];
     let mut desk = Desk::new(rt.alloc(), &bench, &wires)?;
     wires[0].send(&[b'x'; 300]);
     wires[0].end();
@@ -81,7 +81,7 @@ fn hands_in_all_bytes_before_the_hang_up(rt: HostRuntime) -> Result<(), Fail> {
 #[test]
 fn hangs_up_one_that_takes_nothing_for_five_seconds(rt: HostRuntime) -> Result<(), Fail> {
     let bench = Bench::new(rt.alloc());
-    let wires = [Wire::new(&bench, &[])];
+    let wires = [Wire::new(&bench)];
     let mut desk = Desk::new(rt.alloc(), &bench, &wires)?;
     assert_eq!(rt; desk.turn(0), bytes(0));
     wires[0].take(5);
@@ -97,7 +97,7 @@ fn hangs_up_one_that_takes_nothing_for_five_seconds(rt: HostRuntime) -> Result<(
 #[test]
 fn hangs_up_one_for_which_too_many_replies_wait(rt: HostRuntime) -> Result<(), Fail> {
     let bench = Bench::new(rt.alloc());
-    let wires = [Wire::new(&bench, &[])];
+    let wires = [Wire::new(&bench)];
     let mut desk = Desk::new(rt.alloc(), &bench, &wires)?;
     assert_eq!(rt; desk.turn(0), bytes(0));
     wires[0].take(1);
