@@ -3,7 +3,6 @@ use super::memory::{Bench, Door, Plug, Wire};
 use crate::Sockets;
 use crate::converter::Converter;
 use crate::source::Source;
-use std::process::Abort;
 use std::test::Fail;
 use std::time::Instant;
 use wb_program::{Converter as Said, REQUEST_ROOM, Sources, TERMINAL_ROOM};
@@ -22,23 +21,47 @@ office 127.0.0.1:1: closed, the service ends
 office 127.0.0.1:0: closed, the service ends
 ";
 
-/// Turns: the load that is read, and for how many milliseconds a request is answered, if one is handed out.
-fn turns(
-    rt: &impl Abort,
-    sources: &mut Sockets<'_, Bench, Door<'_>>,
-    bench: &Bench,
-    turns: &[(i32, Option<u64>)],
-) {
-    for (load, took) in turns {
-        assert_eq!(rt; sources.converter(), Said::Line(Reading::Load(*load)));
-        sources.terminal(&mut [0u8; TERMINAL_ROOM]);
-        let asked = sources.office(&mut [0u8; REQUEST_ROOM]);
-        assert_eq!(rt; asked.is_some(), took.is_some(), "at {load}");
-        if let Some(took) = took {
-            bench.pass(*took);
-            sources.respond(ANSWER);
-        }
+/// Sources, and what their turns take.
+#[derive(Drop)]
+struct Desk<'a> {
+    bench: &'a Bench,
+    sockets: Sockets<'a, Bench, Door<'a>>,
+}
+
+impl<'a> Desk<'a> {
+    /// Over a converter, and wires of which so many are clients of the office, and the others terminals.
+    fn new(
+        bench: &'a Bench,
+        converter: &'a Wire<'a>,
+        wires: &'a [Wire<'a>],
+        clients: usize,
+        verbose: bool,
+    ) -> Result<Self, Fail> {
+        let converter = Converter::over(Source::Stream(Plug(converter)), Instant::now(bench)?);
+        let office = Door::new(wires.get(..clients).unwrap_or(wires));
+        let terminal = Door::new(wires.get(clients..).unwrap_or(&[]));
+        Ok(Desk {
+            bench,
+            sockets: Sockets::new(bench, terminal, office, converter, verbose)?,
+        })
     }
+
+    /// A turn: the load that is read, and whether a request was handed out, which is answered after so many milliseconds.
+    fn turn(&mut self, took: u64) -> (Said, bool) {
+        let said = self.sockets.converter();
+        self.sockets.terminal(&mut [0u8; TERMINAL_ROOM]);
+        let is_asked = self.sockets.office(&mut [0u8; REQUEST_ROOM]).is_some();
+        if is_asked {
+            self.bench.pass(took);
+            self.sockets.respond(ANSWER);
+        }
+        (said, is_asked)
+    }
+}
+
+/// The load of a converter's line.
+fn load(load: i32) -> Said {
+    Said::Line(Reading::Load(load))
 }
 
 #[test]
@@ -49,22 +72,17 @@ fn reads_what_came_meanwhile_after_a_long_exchange(rt: HostRuntime) -> Result<()
     for wire in &wires {
         wire.send(ASKED);
     }
-    let converter = Converter::over(Source::Stream(Plug(&converter)), Instant::now(&bench)?);
-    let doors = (Door::new(&[]), Door::new(&wires));
-    let mut sockets = Sockets::new(&bench, doors.0, doors.1, converter, false)?;
-    turns(
-        &rt,
-        &mut sockets,
-        &bench,
-        &[
-            (1, Some(100)),
-            (2, Some(201)),
-            (3, None),
-            (4, None),
-            (5, None),
-            (6, Some(1)),
-        ],
-    );
+    let mut desk = Desk::new(&bench, &converter, &wires, 3, false)?;
+    for (at, took, is_asked) in [
+        (1, 100, true),
+        (2, 201, true),
+        (3, 0, false),
+        (4, 0, false),
+        (5, 0, false),
+        (6, 0, true),
+    ] {
+        assert_eq!(rt; desk.turn(took), (load(at), is_asked));
+    }
     assert!(rt; bench.was_told(""));
     Ok(())
 }
@@ -72,23 +90,17 @@ fn reads_what_came_meanwhile_after_a_long_exchange(rt: HostRuntime) -> Result<()
 #[test]
 fn tells_what_happens_and_finishes(rt: HostRuntime) -> Result<(), Fail> {
     let bench = Bench::new(rt.alloc());
-    let wires = [
-        Wire::new(&bench),
-        Wire::new(&bench),
-        Wire::new(&bench),
-        Wire::playing(&bench, &[0, 100], b"1\n|2\n"),
-    ];
+    let converter = Wire::playing(&bench, &[0, 100], b"1\n|2\n");
+    let wires = [Wire::new(&bench), Wire::new(&bench), Wire::new(&bench)];
     wires[0].send(ASKED);
     wires[0].take(10);
-    let converter = Converter::over(Source::Stream(Plug(&wires[3])), Instant::now(&bench)?);
-    let doors = (Door::new(&wires[2..3]), Door::new(&wires[..2]));
-    let mut sockets = Sockets::new(&bench, doors.0, doors.1, converter, true)?;
-    turns(&rt, &mut sockets, &bench, &[(1, Some(7))]);
+    let mut desk = Desk::new(&bench, &converter, &wires, 2, true)?;
+    assert_eq!(rt; desk.turn(7), (load(1), true));
     wires[0].take(100);
     wires[1].send(b"GET");
     wires[2].end();
-    turns(&rt, &mut sockets, &bench, &[(2, None)]);
-    sockets.finish();
+    assert_eq!(rt; desk.turn(0), (load(2), false));
+    desk.sockets.finish();
     assert_eq!(rt; wires[0].got(), (ANSWER.len(), true));
     assert!(rt; bench.was_told(TOLD));
     Ok(())
