@@ -1,4 +1,9 @@
 //! Addresses of this machine alone, and what listens on them.
+ghost use Rattle.std.specs.Net.Addr.{IsLoopbackV4};
+ghost use Rattle.std.specs.Net.Grammar.{IsSocketV4Text};
+ghost use Rattle.std.specs.Net.Socket.{v4_ip};
+ghost use Rattle.std.specs.Prelude.{IfSome};
+
 use std::net::{Net, OpenListener, SocketAddrV4, TcpListener};
 use thiserror::Error;
 
@@ -8,7 +13,10 @@ use thiserror::Error;
 pub struct AddressFault;
 
 /// The address of a text: an IPv4 address of 127.0.0.0/8, a colon and a port. Any other text is none.
-pub fn loopback(text: &str) -> Option<SocketAddrV4> {
+pub fn loopback(text: &str) -> Option<SocketAddrV4>
+    ensures { IfSome result (λ address.
+        IsSocketV4Text text.now address × IsLoopbackV4 (v4_ip address)) }
+{
     let address = text.parse::<SocketAddrV4>().ok()?;
     if address.ip().is_loopback() {
         Some(address)

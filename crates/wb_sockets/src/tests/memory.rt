@@ -1,7 +1,5 @@
 //! A clock, a standard error, streams and listeners in memory.
-ghost use Rattle.std.specs.Io.{ReadsAtMost};
-
-use std::alloc::{AllocError, Global};
+use std::alloc::Global;
 use std::cell::{Cell, RefCell};
 use std::fmt::Display;
 use std::io;
@@ -40,11 +38,11 @@ impl Bench {
         self.now.get().as_millis()
     }
 
-    /// What standard error was told since the last call.
-    pub(crate) fn told(&self) -> String {
-        match self.told.try_replace(String::new(self.alloc)) {
-            Ok(told) => told,
-            Err(_) => String::new(self.alloc),
+    /// Whether standard error was told just this.
+    pub(crate) fn was_told(&self, text: &str) -> bool {
+        match self.told.try_borrow() {
+            Ok(told) => told.as_str() == text,
+            Err(_) => false,
         }
     }
 }
@@ -86,70 +84,59 @@ impl Eprint for Bench {
     }
 }
 
-/// So many seconds after the clock's start.
-pub(crate) fn second(at: u64) -> io::Result<Instant> {
-    millisecond(at.saturating_mul(1_000))
+/// So many seconds after the start.
+pub(crate) fn after(start: Instant, seconds: u64) -> Instant {
+    start
+        .checked_add(Duration::from_secs(seconds))
+        .unwrap_or(start)
 }
 
-/// So many milliseconds after the clock's start.
-pub(crate) fn millisecond(at: u64) -> io::Result<Instant> {
-    Instant::now(&Stands(at))
-}
-
-#[derive(Drop)]
-struct Stands(u64);
-
-impl Clock for Stands {
-    fn monotonic(&self) -> io::Result<Duration> {
-        Ok(Duration::from_millis(self.0))
-    }
-
-    fn since_1970(&self) -> io::Result<Duration> {
-        Ok(Duration::from_millis(self.0))
-    }
-}
-
-/// A connection: what the client sends, and what it is sent.
+/// A connection: what the client sends, and how much it is sent.
 #[derive(Drop)]
 pub(crate) struct Wire<'a> {
     bench: &'a Bench,
-    /// What the client sends at which millisecond, after what it sent already.
-    script: &'a [(u64, &'a str)],
+    /// At which milliseconds the client sends, and what: pieces that `|` stands between.
+    times: &'a [u64],
+    script: Cell<&'static [u8]>,
     next: Cell<usize>,
-    sent: RefCell<Vec<u8>>,
+    /// What the client sent, and wasn't read yet.
+    sent: Cell<&'static [u8]>,
     has_ended: Cell<bool>,
     /// How many bytes the socket still takes.
     takes: Cell<usize>,
-    got: RefCell<Vec<u8>>,
+    got: Cell<usize>,
     is_shut: Cell<bool>,
     is_open: Cell<bool>,
-    /// For how long a read waits, if it does.
+    /// For how long a read waits.
     patience: Cell<Duration>,
 }
 
 impl<'a> Wire<'a> {
     /// On which nothing is sent yet, with a socket that takes whatever comes.
-    pub(crate) fn new(bench: &'a Bench, script: &'a [(u64, &'a str)]) -> Self {
+    pub(crate) fn new(bench: &'a Bench) -> Self {
+        Wire::playing(bench, &[], b"")
+    }
+
+    /// On which a client sends pieces at these milliseconds.
+    pub(crate) fn playing(bench: &'a Bench, times: &'a [u64], script: &'static [u8]) -> Self {
         Wire {
             bench,
-            script,
+            times,
+            script: Cell::new(script),
             next: Cell::new(0),
-            sent: RefCell::new(Vec::new(bench.alloc)),
+            sent: Cell::new(b""),
             has_ended: Cell::new(false),
             takes: Cell::new(usize::MAX),
-            got: RefCell::new(Vec::new(bench.alloc)),
+            got: Cell::new(0),
             is_shut: Cell::new(false),
             is_open: Cell::new(true),
             patience: Cell::new(Duration::ZERO),
         }
     }
 
-    /// The client sends these bytes now.
-    pub(crate) fn send(&self, bytes: &[u8]) -> Result<(), AllocError> {
-        if let Ok(mut sent) = self.sent.try_borrow_mut() {
-            sent.extend_from_slice(bytes)?;
-        }
-        Ok(())
+    /// The client sends these bytes now; those that it sent before were read.
+    pub(crate) fn send(&self, bytes: &'static [u8]) {
+        self.sent.set(bytes);
     }
 
     /// The client sends nothing more.
@@ -162,12 +149,9 @@ impl<'a> Wire<'a> {
         self.takes.set(count);
     }
 
-    /// How many bytes the client was sent, and whether that is all.
+    /// How many bytes the client was sent, and whether they are all.
     pub(crate) fn got(&self) -> (usize, bool) {
-        match self.got.try_borrow() {
-            Ok(got) => (got.len(), self.is_shut.get()),
-            Err(_) => (0, false),
-        }
+        (self.got.get(), self.is_shut.get())
     }
 
     /// Whether the service hasn't closed it.
@@ -175,44 +159,36 @@ impl<'a> Wire<'a> {
         self.is_open.get()
     }
 
-    /// What the script sends until now is sent.
-    fn arrive(&self) -> Result<(), AllocError> {
-        for _ in 0..self.script.len() {
-            match self.script.get(self.next.get()) {
-                Some((at, bytes)) if Duration::from_millis(*at) <= self.bench.now.get() => {
-                    self.send(bytes.as_bytes())?;
-                    self.next.set(self.next.get().saturating_add(1));
-                }
-                _ => return Ok(()),
-            }
+    /// When the next piece of the script comes.
+    fn next_time(&self) -> Option<Duration> {
+        let at = self.times.get(self.next.get())?;
+        Some(Duration::from_millis(*at))
+    }
+
+    /// Sends the next piece of the script, if its time has come and what was sent before was read.
+    fn arrive(&self) {
+        let Some(at) = self.next_time() else {
+            return;
+        };
+        if self.sent.get().is_empty() && at <= self.bench.now.get() {
+            let script = self.script.get();
+            let end = script
+                .iter()
+                .position(|byte| *byte == b'|')
+                .unwrap_or(script.len());
+            self.sent.set(script.get(..end).unwrap_or(b""));
+            self.script
+                .set(script.get(end.saturating_add(1)..).unwrap_or(b""));
+            self.next.set(self.next.get().saturating_add(1));
         }
-        Ok(())
     }
 
     /// Lets the time pass for which a read waits.
-    fn wait(&self) -> Result<(), AllocError> {
+    fn wait(&self) {
         let until = self.bench.now.get().saturating_add(self.patience.get());
-        let next = match self.script.get(self.next.get()) {
-            Some((at, _)) => Duration::from_millis(*at),
-            None => until,
-        };
-        self.bench.now.set(until.min(next));
-        self.arrive()
-    }
-
-    fn read(&self, room: &mut [u8]) -> io::Result<usize>
-        ensures { ReadsAtMost result room.new }
-    {
-        let Ok(mut sent) = self.sent.try_borrow_mut() else {
-            return Err(io::Error::from(ErrorKind::Other));
-        };
-        let count = sent.len().min(room.len());
-        room[..count].copy_from_slice(&sent.as_slice()[..count]);
-        sent.drain(..count);
-        if count == 0 && !self.has_ended.get() {
-            return Err(io::Error::from(ErrorKind::WouldBlock));
-        }
-        Ok(count)
+        self.bench
+            .now
+            .set(until.min(self.next_time().unwrap_or(until)));
     }
 }
 
@@ -228,27 +204,29 @@ impl Drop for Plug<'_> {
 
 impl Read for Plug<'_> {
     fn read(&mut self, buf: &mut [u8]) -> io::Result<usize> {
-        self.0.arrive()?;
-        match self.0.read(buf) {
-            Err(_) => {
-                self.0.wait()?;
-                self.0.read(buf)
-            }
-            read => read,
+        self.0.arrive();
+        if self.0.sent.get().is_empty() && !self.0.has_ended.get() {
+            self.0.wait();
+            self.0.arrive();
         }
+        let sent = self.0.sent.get();
+        let count = sent.len().min(buf.len());
+        if count == 0 && !self.0.has_ended.get() {
+            return Err(io::Error::from(ErrorKind::WouldBlock));
+        }
+        buf[..count].copy_from_slice(&sent[..count]);
+        self.0.sent.set(&sent[count..]);
+        Ok(count)
     }
 }
 
 impl Write for Plug<'_> {
     fn write(&mut self, buf: &[u8]) -> io::Result<usize> {
         let count = self.0.takes.get().min(buf.len());
-        let Ok(mut got) = self.0.got.try_borrow_mut() else {
-            return Err(io::Error::from(ErrorKind::Other));
-        };
         if count == 0 {
             return Err(io::Error::from(ErrorKind::WouldBlock));
         }
-        got.extend_from_slice(&buf[..count])?;
+        self.0.got.set(self.0.got.get().saturating_add(count));
         self.0.takes.set(self.0.takes.get().saturating_sub(count));
         Ok(count)
     }
@@ -275,7 +253,7 @@ impl OpenStream for Plug<'_> {
     }
 }
 
-/// A listener on which clients connect one after the other, as many as are let in.
+/// A listener on which clients connect one after the other.
 #[derive(Drop)]
 pub(crate) struct Door<'a> {
     wires: &'a [Wire<'a>],
