@@ -12,9 +12,9 @@ mod targets;
 mod terminal;
 mod whole;
 
-use wb_station::{HttpFault, Routes, request_of};
 use std::test::Fail;
 use wb_office::Request;
+use wb_station::{HttpFault, Routes, request_of};
 
 /// A request that is whole with an empty body.
 const PURGE: &str = "POST /purge HTTP/1.1\r\nContent-Length: 0\r\n\r\n";

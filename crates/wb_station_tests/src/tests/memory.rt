@@ -1,7 +1,7 @@
 //! Want of memory.
-use wb_station::{HttpFault, Routes, request_of};
 use linked_list_allocator::LocalHeap;
 use std::test::Fail;
+use wb_station::{HttpFault, Routes, request_of};
 
 /// Whether a void with this form wants more memory than there is on a heap of 64 bytes.
 fn wants_memory(rt: &HostRuntime, form: &str) -> Result<bool, Fail> {

@@ -1,10 +1,10 @@
 //! Responses, byte by byte.
-use wb_station::{HttpFault, Method, Outcome, ResponseRoom, response_bytes};
 use arrayvec::ArrayString;
 use std::str;
 use std::test::Fail;
 use wb_journal::{Key, Kind, Moment, Plate};
 use wb_office::{Answer, CsvText, Refusal, Request};
+use wb_station::{HttpFault, Method, Outcome, ResponseRoom, response_bytes};
 use wb_store::StoreFault;
 
 /// 2025-03-10 08:00:00.

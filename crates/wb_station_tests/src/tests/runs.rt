@@ -2,10 +2,10 @@
 ghost use Rattle.wb_station.specs.Kept.{kept_of};
 
 use super::days::{instrument, store};
-use wb_station::{Event, OutputList, Outputs, Placed, Refused, RunStopped, Station};
 use sqlite::Connection;
 use std::alloc::Global;
 use std::test::Fail;
+use wb_station::{Event, OutputList, Outputs, Placed, Refused, RunStopped, Station};
 use wb_window::RingWindow;
 
 /// Takes so many outputs, and refuses every later one.

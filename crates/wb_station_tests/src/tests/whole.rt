@@ -1,7 +1,7 @@
 //! Whole requests.
 use super::{PURGE, stretched};
-use wb_station::{Routes, is_whole};
 use std::test::Fail;
+use wb_station::{Routes, is_whole};
 
 /// How many of the first bytes make a whole request; one more than there are if none do.
 fn whole_at(routes: &Routes, bytes: &[u8]) -> usize {
