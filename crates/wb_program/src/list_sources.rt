@@ -68,17 +68,23 @@ impl ListSources {
     }
 
     /// What was handed in, the oldest first.
-    pub fn handed(&self) -> &[HandedIn] {
+    pub fn handed(&self) -> &[HandedIn]
+        ensures { result.now ≡ self.now.handed.items }
+    {
         self.handed.as_slice()
     }
 
     /// What the calls answered, the oldest first.
-    pub fn answered(&self) -> &[Answered] {
+    pub fn answered(&self) -> &[Answered]
+        ensures { result.now ≡ self.now.answered.items }
+    {
         self.answered.as_slice()
     }
 
     /// Whether memory was refused for something that was to be kept.
-    pub fn has_fault(&self) -> bool {
+    pub fn has_fault(&self) -> bool
+        ensures { result ≡ self.now.has_fault }
+    {
         self.has_fault
     }
 }
