@@ -1,21 +1,12 @@
-//! The program `weighbridge`: its command line, and the process's own streams and files around what `wb_program` does.
+//! The program `weighbridge`: the process's own streams and files around what `wb_program` does, as its command line asks.
 #![tactic(auto)]
 
-mod files;
-mod journal_words;
 mod service;
-mod service_words;
-mod setup_words;
-#[cfg(test)]
-mod tests;
-mod words;
 
-use crate::files::kept_store_in;
 use crate::service::serve_bridge;
-use crate::service_words::Service;
-use crate::words::{Asked, REFUSED, read_words};
 use std::io;
 use std::process::ExitCode;
+use wb_command::{Asked, REFUSED, Service, kept_store_in, read_words};
 use wb_instrument::Instrument;
 use wb_program::{PrintFault, ReplayEnd, ServeEnd, What, print_check, print_export, replay};
 

@@ -1,8 +1,7 @@
 //! The service of a bridge, over files and sockets.
-use crate::files::store_in;
-use crate::service_words::Service;
 use sqlite::{File, FileStore};
 use thiserror::Error;
+use wb_command::{Service, store_in};
 use wb_instrument::Instrument;
 use wb_program::{PrintFault, ServeEnd, serve};
 use wb_sockets::{AddressFault, Converter, ConverterFault, Sockets, StartFault, listen};

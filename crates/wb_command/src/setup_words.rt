@@ -8,11 +8,11 @@ use wb_instrument::{Instrument, PartFault, Parts};
 /// The first part of a setup that is refused.
 #[derive(Clone, Copy, Debug, PartialEq, Eq, Error)]
 #[error("setup refused: {0}")]
-pub(crate) struct SetupFault(PartFault);
+pub struct SetupFault(PartFault);
 
 impl SetupFault {
     /// The exit status that stands for it.
-    pub(crate) fn status(self) -> u8 {
+    pub fn status(self) -> u8 {
         REFUSED
     }
 }

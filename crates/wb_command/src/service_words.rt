@@ -14,19 +14,19 @@ prints how many turns there were.";
 
 /// Over what a bridge is to be served, and for how long.
 #[derive(Drop)]
-pub(crate) struct Service {
+pub struct Service {
     /// The file of the journal.
-    pub(crate) file: String,
+    pub file: String,
     /// The address of the terminal.
-    pub(crate) terminal: String,
+    pub terminal: String,
     /// The address of the office.
-    pub(crate) office: String,
+    pub office: String,
     /// The file of the converter, or `tcp:` and its address.
-    pub(crate) converter: String,
+    pub converter: String,
     /// The most turns.
-    pub(crate) turns: u64,
+    pub turns: u64,
     /// Whether what happens is reported on standard error.
-    pub(crate) is_verbose: bool,
+    pub is_verbose: bool,
 }
 
 /// A text that has to be given.

@@ -8,7 +8,7 @@ use wb_instrument::Instrument;
 use wb_program::What;
 
 /// The status of words or a setup that are refused.
-pub(crate) const REFUSED: u8 = 2;
+pub const REFUSED: u8 = 2;
 
 /// The version of the program, and the line by which `rt version` names the kit that proved it.
 const VERSION: &str = "1.0.0\nproved by rattle-kit-13b logic dac8208d650f15bf";
@@ -19,7 +19,7 @@ takes four readings of 9170 tenths of e and a request for the weight, and prints
 
 /// What the words of the command line ask for.
 #[derive(Drop)]
-pub(crate) enum Asked {
+pub enum Asked {
     /// A trace is to be replayed with this instrument.
     Replay(Instrument),
     /// A bridge with this instrument is to be served.
@@ -37,7 +37,7 @@ pub(crate) enum Asked {
 }
 
 /// What these words ask for, the name of the program first.
-pub(crate) fn read_words(alloc: Global, words: &[String]) -> Result<Asked, AllocError> {
+pub fn read_words(alloc: Global, words: &[String]) -> Result<Asked, AllocError> {
     let matches = match command(alloc)?.try_get_matches_from(words) {
         Ok(matches) => matches,
         Err(error) => return Ok(Asked::WordsRefused(error)),
