@@ -35,12 +35,16 @@ class Converter(threading.Thread):
     def __init__(self, rate=10.0, load=lambda number: 0):
         super().__init__(daemon=True)
         self.listener = socket.create_server((HOST, 0))
-        self.port = self.listener.getsockname()[1]
+        self.source = f"tcp:{HOST}:{self.listener.getsockname()[1]}"
         self.rate, self.load = rate, load
         self.sent = []  # when each line was sent
         self.speaks = threading.Event()
         self.speaks.set()
         self.ended = threading.Event()
+
+    def begin(self):
+        if not self.is_alive():
+            self.start()
 
     def run(self):
         stream, _ = self.listener.accept()
@@ -67,14 +71,16 @@ class Converter(threading.Thread):
 class Service:
     """`weighbridge serve` over a file, with a converter that this program plays."""
 
-    def __init__(self, program, file, converter, *options, turns=1_000_000_000):
+    def __init__(self, program, file, converter, *options, turns=1_000_000_000, limit=None):
+        """`limit` is called in the new process before the program begins."""
         self.converter = converter
         self.terminal, self.office = free_port(), free_port()
         words = [program, "serve", "--file", file, "--terminal", f"{HOST}:{self.terminal}", "--office", f"{HOST}:{self.office}"]
-        words += ["--converter", f"tcp:{HOST}:{converter.port}", "--turns", str(turns), *options]
-        self.process = subprocess.Popen(words, stdin=subprocess.DEVNULL, stdout=subprocess.PIPE, stderr=subprocess.PIPE, text=True)
-        if not converter.is_alive():
-            converter.start()
+        words += ["--converter", converter.source, "--turns", str(turns), *options]
+        self.process = subprocess.Popen(
+            words, stdin=subprocess.DEVNULL, stdout=subprocess.PIPE, stderr=subprocess.PIPE, text=True, preexec_fn=limit
+        )
+        converter.begin()
         self.wait_for_office()
 
     def wait_for_office(self):

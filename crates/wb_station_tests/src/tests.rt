@@ -8,6 +8,7 @@ mod orders;
 mod responses;
 mod runs;
 mod station;
+mod stops;
 mod targets;
 mod terminal;
 mod whole;
