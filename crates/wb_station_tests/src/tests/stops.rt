@@ -152,7 +152,7 @@ fn station<D: Alter + Drop>(
 }
 
 /// How a step is answered.
-fn heard<W: Window, D: Alter>(
+fn hear<W: Window, D: Alter>(
     alloc: Global,
     station: &mut Station<W, D>,
     step: &Step,
@@ -187,7 +187,7 @@ fn are_answered<W: Window, D: Alter>(
     steps: &[Step],
 ) -> Result<bool, Fail> {
     for step in steps {
-        match heard(alloc, station, step)? {
+        match hear(alloc, station, step)? {
             Heard::Wanted => {}
             Heard::StoreRefused => return Ok(false),
             Heard::Other => return Err("another answer".into()),
