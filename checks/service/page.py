@@ -22,12 +22,12 @@ import bridge
 TOP = os.path.dirname(os.path.dirname(os.path.dirname(os.path.abspath(__file__))))
 SECONDS = 60  # for each command
 
-# takes one command after another from descriptor 3, and ends what it prints with a mark
+# takes one command after another from the descriptor that $1 names, and ends what it prints with a mark
 SHELL = r"""
 status=0
-while IFS= read -r -d '' -u 3 command; do
+while IFS= read -r -d '' -u $1 command; do
     (exit $status)
-    eval "$command" </dev/null 3<&-
+    eval "$command" </dev/null
     status=$?
     printf '\001'
 done
@@ -92,7 +92,7 @@ class Shell:
         commands, self.commands = os.pipe()
         environment = {**os.environ, "PATH": TOP + os.pathsep + os.environ["PATH"], "LC_ALL": "C", "TZ": "UTC"}
         self.process = subprocess.Popen(
-            ["bash", "-c", f"exec 3<&{commands} {commands}<&-; {SHELL}"],
+            ["bash", "-c", SHELL, "bash", str(commands)],
             cwd=folder,
             env=environment,
             pass_fds=[commands],
@@ -119,21 +119,28 @@ class Shell:
 
     def end(self):
         """Ends the shell and what it started, which is all in one session."""
-        try:
-            os.killpg(self.process.pid, signal.SIGTERM)
-        except ProcessLookupError:
-            pass
-        self.process.wait()
+        end_session(self.process)
 
 
-def check(name, page, tools, ports):
-    """Runs the page's commands. The ports that it names are replaced by free ones, in a new folder in which clients/ is there."""
+def end_session(process):
+    """Ends a process that leads a session, and what is in it."""
+    try:
+        os.killpg(process.pid, signal.SIGTERM)
+    except ProcessLookupError:
+        pass
+    process.wait()
+
+
+def check(name, page, tools, ports, names=()):
+    """Runs the page's commands in a new folder, in which clients/ is there. Free ports take the place of the ports that the page
+    names, and other texts that of the names.
+    """
     missing = [tool for tool in tools if not shutil.which(tool)]
     if missing:
         print(f"{name}: skipped, since {missing[0]} is not installed")
         return 0
     steps = steps_of(os.path.join(TOP, page))
-    names = {f"127.0.0.1{parted}{port}": f"127.0.0.1{parted}{free}" for port, free in free_ports(ports) for parted in (":", " ")}
+    names = {**dict(names), **ports_of(ports)}
     with tempfile.TemporaryDirectory() as folder:
         os.symlink(os.path.join(TOP, "clients"), os.path.join(folder, "clients"))
         shell = Shell(folder)
@@ -146,8 +153,10 @@ def check(name, page, tools, ports):
     return 0
 
 
-def free_ports(ports):
-    return [(port, bridge.free_port()) for port in ports]
+def ports_of(ports):
+    """The addresses of these ports as a page writes them, with those of free ports."""
+    free = [(port, bridge.free_port()) for port in ports]
+    return {f"127.0.0.1{parted}{port}": f"127.0.0.1{parted}{it}" for port, it in free for parted in (":", " ")}
 
 
 def check_step(name, page, step, shell, names):
