@@ -23,18 +23,20 @@ target=weighings
 answer=$(mktemp)
 trap 'rm -f "$answer"' EXIT
 trap 'exit 1' INT TERM
+end_of_head=$(printf '^\r$')
 
-# Sends the request once, and sets the status; 000 if there was no whole answer.
+# Sends the request once, and sets the status, 000 if there was no whole answer, and the text. curl takes a cut head for a whole one.
 ask() {
-    status=$(curl --silent --http1.1 --header 'Expect:' --max-time 60 --output "$answer" --write-out '%{http_code}' \
+    status=$(curl --silent --http1.1 --header 'Expect:' --max-time 60 --include --output "$answer" --write-out '%{http_code}' \
         --data-urlencode "key=$key" --data-urlencode "plate=$plate" --data-urlencode "kind=$kind" \
-        "${WEIGHBRIDGE:-http://127.0.0.1:8080}/$target") || status=000
+        "${WEIGHBRIDGE:-http://127.0.0.1:8080}/$target") && grep -q "$end_of_head" "$answer" || status=000
+    text=$(sed "1,/$end_of_head/d" "$answer")
 }
 
 # The words for the counter of what refused, or else the answer as it is.
 reason() {
-    read -r _ number _ <"$answer" || number=none
-    grep "^$number " "$(dirname "$0")/refusals.txt" || cat "$answer"
+    number=$(printf '%s\n' "$text" | sed -n '1s/^[a-z]* \([0-9]*\) .*/\1/p')
+    grep "^$number " "$(dirname "$0")/refusals.txt" || printf '%s\n' "$text"
 }
 
 echo "key $key" >&2
@@ -48,4 +50,4 @@ if [ "$status" != 201 ]; then
     reason >&2
     exit 1
 fi
-cat "$answer"
+printf '%s\n' "$text"
