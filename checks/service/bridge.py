@@ -140,18 +140,22 @@ def request_bytes(method, target, body=None):
     return f"{method} {target} HTTP/1.1\r\nHost: x\r\nContent-Length: {len(body)}\r\n\r\n{body}".encode()
 
 
-def exchange(service, data, timeout=60):
-    """The status and the body of a request's response; None where the connection gave none."""
-    with socket.create_connection((HOST, service.office), timeout) as stream:
+def exchange_bytes(port, data, timeout=60):
+    """All bytes that the office at this port answers."""
+    with socket.create_connection((HOST, port), timeout) as stream:
         stream.settimeout(timeout)
         stream.sendall(data)
         answer = b""
         while True:
             more = stream.recv(1 << 16)
             if not more:
-                break
+                return answer
             answer += more
-    head, parted, body = answer.partition(b"\r\n\r\n")
+
+
+def exchange(service, data, timeout=60):
+    """The status and the body of a request's response; None where the connection gave none."""
+    head, parted, body = exchange_bytes(service.office, data, timeout).partition(b"\r\n\r\n")
     if not parted:
         return None
     return int(head.split()[1]), body.decode()

@@ -1,0 +1,61 @@
+"""A gateway between a client and the office that cuts connections, for checks of what a client does then. It needs python3 alone."""
+
+import socket
+import threading
+
+from bridge import HOST, exchange_bytes
+
+
+class Gateway(threading.Thread):
+    """Does with one connection after another what its plan says, and hands on whole answers once the plan is at its end.
+
+    A step of the plan is a function of the request's bytes and of the gateway, which gives the bytes that the client gets.
+    """
+
+    def __init__(self, office, plan=()):
+        super().__init__(daemon=True)
+        self.listener = socket.create_server((HOST, 0))
+        self.port = self.listener.getsockname()[1]
+        self.office = office
+        self.plan = list(plan)
+        self.seen = []  # the request of each connection
+
+    def run(self):
+        while True:
+            stream, _ = self.listener.accept()
+            with stream:
+                request = whole_request(stream)
+                self.seen.append(request)
+                step = self.plan.pop(0) if self.plan else whole
+                stream.sendall(step(self, request))
+
+
+def whole_request(stream):
+    """The bytes of a POST with a length."""
+    data = b""
+    while b"\r\n\r\n" not in data:
+        data += stream.recv(4096)
+    head, _, body = data.partition(b"\r\n\r\n")
+    length = next(int(line.split(b":")[1]) for line in head.split(b"\r\n") if line.lower().startswith(b"content-length:"))
+    while len(body) < length:
+        body += stream.recv(4096)
+    return head + b"\r\n\r\n" + body
+
+
+def whole(gateway, request):
+    return exchange_bytes(gateway.office, request)
+
+
+def unheard(gateway, request):
+    """The office doesn't get the request, and the client no byte."""
+    return b""
+
+
+def cut(at):
+    """The client gets so many bytes of the office's answer, counted from its end if that is negative."""
+    return lambda gateway, request: whole(gateway, request)[:at]
+
+
+def unavailable(status):
+    """The gateway itself answers, since it has lost the office."""
+    return lambda gateway, request: f"HTTP/1.1 {status} Nothing\r\nContent-Length: 0\r\nConnection: close\r\n\r\n".encode()

@@ -1,0 +1,58 @@
+#!/usr/bin/env python3
+"""Weighs the vehicle that is on the bridge, or voids the open weighing of a plate, and prints the ticket or slip.
+
+A weighing has a key of its own, made here if none is given. The request is sent again with this key until it is answered,
+so that it is stored once, however often the connection is cut. If this program is stopped before, it is called again with the
+key that it printed on standard error. WEIGHBRIDGE is the office, http://127.0.0.1:8080 if it isn't set.
+
+Status: 0 the weighing is stored and its text was printed, 1 refused, for the reason on standard error, 2 wrong words.
+"""
+
+import argparse
+import http.client
+import os
+import secrets
+import sys
+import time
+import urllib.parse
+
+OFFICE = os.environ.get("WEIGHBRIDGE", "http://127.0.0.1:8080").removeprefix("http://")
+REFUSALS = os.path.join(os.path.dirname(os.path.abspath(__file__)), "refusals.txt")
+
+
+def ask(target, form):
+    """The status and the text of the answer; the status is 0 if it didn't come whole."""
+    connection = http.client.HTTPConnection(OFFICE, timeout=60)
+    try:
+        connection.request("POST", target, urllib.parse.urlencode(form))
+        response = connection.getresponse()
+        is_whole = response.length is not None  # a head that was cut may lack its length
+        return response.status if is_whole else 0, response.read().decode(errors="replace")
+    except (OSError, http.client.HTTPException):
+        return 0, ""
+    finally:
+        connection.close()
+
+
+def reason(text):
+    """The words for the counter of what refused, or else the answer as it is."""
+    number = (text.split() + ["", ""])[1]
+    with open(REFUSALS) as lines:
+        return next((line for line in lines if line.startswith(number + " ")), text)
+
+
+parser = argparse.ArgumentParser(description=__doc__.splitlines()[0])
+parser.add_argument("kind", choices=["first", "second", "single", "void"])
+parser.add_argument("plate")
+parser.add_argument("key", nargs="?", default=secrets.token_hex(10))
+form = vars(parser.parse_args())
+target = "/voids" if form["kind"] == "void" else "/weighings"
+print("key", form["key"], file=sys.stderr, flush=True)
+while True:
+    status, text = ask(target, form)
+    if 0 < status < 500:
+        break
+    print(f"no answer yet ({status:03}); asking again", file=sys.stderr, flush=True)
+    time.sleep(1)
+print(text if status == 201 else reason(text), end="", file=sys.stdout if status == 201 else sys.stderr)
+sys.exit(0 if status == 201 else 1)

@@ -1,0 +1,53 @@
+#!/bin/sh
+# Weighs the vehicle that is on the bridge, or voids the open weighing of a plate, and prints the ticket or slip.
+#
+# Usage: weigh.sh first|second|single|void PLATE [KEY]
+#
+# A weighing has a key of its own, made here if none is given. The request is sent again with this key until it is answered,
+# so that it is stored once, however often the connection is cut. If this program is stopped before, it is called again with the
+# key that it printed on standard error. WEIGHBRIDGE is the office, http://127.0.0.1:8080 if it isn't set. Needs curl.
+#
+# Status: 0 the weighing is stored and its text was printed, 1 refused, for the reason on standard error, 2 wrong words.
+set -eu
+case "${1-} $#" in
+    first\ [23] | second\ [23] | single\ [23] | void\ [23]) ;;
+    *)
+        echo "usage: weigh.sh first|second|single|void PLATE [KEY]" >&2
+        exit 2
+        ;;
+esac
+kind=$1 plate=$2
+key=${3:-$(od -A n -N 10 -t x1 /dev/urandom | tr -d ' \n')}
+target=weighings
+[ "$kind" != void ] || target=voids
+answer=$(mktemp)
+trap 'rm -f "$answer"' EXIT
+trap 'exit 1' INT TERM
+end_of_head=$(printf '^\r$')
+
+# Sends the request once, and sets the status, 000 if there was no whole answer, and the text. curl takes a cut head for a whole one.
+ask() {
+    status=$(curl --silent --http1.1 --header 'Expect:' --max-time 60 --include --output "$answer" --write-out '%{http_code}' \
+        --data-urlencode "key=$key" --data-urlencode "plate=$plate" --data-urlencode "kind=$kind" \
+        "${WEIGHBRIDGE:-http://127.0.0.1:8080}/$target") && grep -q "$end_of_head" "$answer" || status=000
+    text=$(sed "1,/$end_of_head/d" "$answer")
+}
+
+# The words for the counter of what refused, or else the answer as it is.
+reason() {
+    number=$(printf '%s\n' "$text" | sed -n '1s/^[a-z]* \([0-9]*\) .*/\1/p')
+    grep "^$number " "$(dirname "$0")/refusals.txt" || printf '%s\n' "$text"
+}
+
+echo "key $key" >&2
+ask
+while [ "$status" = 000 ] || [ "$status" -ge 500 ]; do
+    echo "no answer yet ($status); asking again" >&2
+    sleep 1
+    ask
+done
+if [ "$status" != 201 ]; then
+    reason >&2
+    exit 1
+fi
+printf '%s\n' "$text"
