@@ -64,6 +64,21 @@ class Converter(threading.Thread):
         self.speaks.set()
 
 
+class Played(Converter):
+    """Sends the load that is on the bridge now."""
+
+    def __init__(self, rate=10.0):
+        super().__init__(rate, load=lambda number: self.now)
+        self.now = 0
+
+    def put(self, load, lines=12):
+        """Puts a load on the bridge, and waits until so many lines of it were sent, or nobody takes them any more."""
+        self.now = load
+        wanted = len(self.sent) + lines
+        while len(self.sent) < wanted and self.is_alive():
+            time.sleep(0.002)
+
+
 class Service:
     """`weighbridge serve` over a file, with a converter that this program plays."""
 
