@@ -143,6 +143,12 @@ class Terminal:
         self.stream.close()
 
 
+def printed(program, *words):
+    """The status of a run, and what it printed and reported."""
+    it = subprocess.run([program, *words], stdin=subprocess.DEVNULL, capture_output=True, text=True)
+    return it.returncode, it.stdout, it.stderr
+
+
 def request_bytes(method, target, body=None):
     if body is None:
         return f"{method} {target} HTTP/1.1\r\nHost: x\r\n\r\n".encode()
