@@ -155,11 +155,12 @@ def request_bytes(method, target, body=None):
     return f"{method} {target} HTTP/1.1\r\nHost: x\r\nContent-Length: {len(body)}\r\n\r\n{body}".encode()
 
 
-def exchange(service, data, timeout=60):
-    """The status and the body of a request's response; None where the connection gave none."""
+def exchange(service, data, timeout=60, meanwhile=lambda: None):
+    """The status and the body of a request's response; None where the connection gave none. Something may be done once it is sent."""
     with socket.create_connection((HOST, service.office), timeout) as stream:
         stream.settimeout(timeout)
         stream.sendall(data)
+        meanwhile()
         answer = b""
         while True:
             more = stream.recv(1 << 16)
