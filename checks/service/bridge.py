@@ -68,6 +68,21 @@ class Converter(threading.Thread):
         self.speaks.set()
 
 
+class Played(Converter):
+    """Sends the load that is on the bridge now."""
+
+    def __init__(self, rate=10.0):
+        super().__init__(rate, load=lambda number: self.now)
+        self.now = 0
+
+    def put(self, load, lines=12):
+        """Puts a load on the bridge, and waits until so many lines of it were sent, or nobody takes them any more."""
+        self.now = load
+        wanted = len(self.sent) + lines
+        while len(self.sent) < wanted and self.is_alive():
+            time.sleep(0.002)
+
+
 class Service:
     """`weighbridge serve` over a file, with a converter that this program plays."""
 
@@ -134,17 +149,24 @@ class Terminal:
         self.stream.close()
 
 
+def printed(program, *words):
+    """The status of a run, and what it printed and reported."""
+    it = subprocess.run([program, *words], stdin=subprocess.DEVNULL, capture_output=True, text=True)
+    return it.returncode, it.stdout, it.stderr
+
+
 def request_bytes(method, target, body=None):
     if body is None:
         return f"{method} {target} HTTP/1.1\r\nHost: x\r\n\r\n".encode()
     return f"{method} {target} HTTP/1.1\r\nHost: x\r\nContent-Length: {len(body)}\r\n\r\n{body}".encode()
 
 
-def exchange_bytes(port, data, timeout=60):
-    """All bytes that the office at this port answers."""
+def exchange_bytes(port, data, timeout=60, meanwhile=lambda: None):
+    """All bytes that the office at this port answers. Something may be done once the request is sent."""
     with socket.create_connection((HOST, port), timeout) as stream:
         stream.settimeout(timeout)
         stream.sendall(data)
+        meanwhile()
         answer = b""
         while True:
             more = stream.recv(1 << 16)
@@ -153,9 +175,9 @@ def exchange_bytes(port, data, timeout=60):
             answer += more
 
 
-def exchange(service, data, timeout=60):
-    """The status and the body of a request's response; None where the connection gave none."""
-    head, parted, body = exchange_bytes(service.office, data, timeout).partition(b"\r\n\r\n")
+def exchange(service, data, timeout=60, meanwhile=lambda: None):
+    """The status and the body of a request's response; None where the connection gave none. Something may be done once it is sent."""
+    head, parted, body = exchange_bytes(service.office, data, timeout, meanwhile).partition(b"\r\n\r\n")
     if not parted:
         return None
     return int(head.split()[1]), body.decode()

@@ -1,0 +1,92 @@
+"""A headless Chromium, driven by chromedriver over WebDriver. It needs both, and nothing else of Python's."""
+
+import base64
+import json
+import os
+import signal
+import socket
+import subprocess
+import time
+import urllib.request
+
+ELEMENT = "element-6066-11e4-a52e-4f735466cecf"
+
+
+class Browser:
+    """One window. Parts of a page are named by CSS selectors."""
+
+    def __init__(self, port, folder, width, height):
+        self.at = f"http://127.0.0.1:{port}"
+        self.driver = subprocess.Popen(
+            ["chromedriver", f"--port={port}", f"--log-path={os.path.join(folder, 'chromedriver.log')}"],
+            stdin=subprocess.DEVNULL, stdout=subprocess.DEVNULL, stderr=subprocess.DEVNULL, start_new_session=True,
+        )
+        self.wait_for_driver(port)
+        words = ["--headless=new", "--no-sandbox", "--disable-gpu", "--disable-dev-shm-usage", f"--window-size={width},{height}"]
+        options = {"args": words + [f"--user-data-dir={os.path.join(folder, 'profile')}"]}
+        wanted = {"browserName": "chrome", "acceptInsecureCerts": True, "goog:chromeOptions": options}
+        found = self.call("POST", "/session", {"capabilities": {"alwaysMatch": wanted}})
+        self.at += f"/session/{found['sessionId']}"
+
+    def wait_for_driver(self, port):
+        until = time.monotonic() + 20
+        while time.monotonic() < until:
+            try:
+                socket.create_connection(("127.0.0.1", port), 1).close()
+                return
+            except OSError:
+                time.sleep(0.05)
+        raise SystemExit("chromedriver doesn't listen")
+
+    def call(self, method, path, body=None):
+        data = None if body is None else json.dumps(body).encode()
+        request = urllib.request.Request(self.at + path, data, {"Content-Type": "application/json"}, method=method)
+        with urllib.request.urlopen(request, timeout=60) as answer:
+            return json.load(answer)["value"]
+
+    def go(self, url):
+        self.call("POST", "/url", {"url": url})
+
+    def reload(self):
+        self.call("POST", "/refresh", {})
+
+    def element(self, selector):
+        return self.call("POST", "/element", {"using": "css selector", "value": selector})[ELEMENT]
+
+    def click(self, selector):
+        self.call("POST", f"/element/{self.element(selector)}/click", {})
+
+    def type(self, selector, text):
+        element = self.element(selector)
+        self.call("POST", f"/element/{element}/clear", {})
+        self.call("POST", f"/element/{element}/value", {"text": text})
+
+    def text(self, selector):
+        return self.call("GET", f"/element/{self.element(selector)}/text")
+
+    def run(self, script, *words):
+        return self.call("POST", "/execute/sync", {"script": script, "args": list(words)})
+
+    def accept_question(self):
+        """Agrees to the question that the page asks, and gives its text."""
+        text = self.call("GET", "/alert/text")
+        self.call("POST", "/alert/accept", {})
+        return text
+
+    def shown_as(self, medium):
+        """Shows the page as on this medium, `print` or `screen`."""
+        self.call("POST", "/goog/cdp/execute", {"cmd": "Emulation.setEmulatedMedia", "params": {"media": medium}})
+
+    def picture(self):
+        return base64.b64decode(self.call("GET", "/screenshot"))
+
+    def close(self):
+        try:
+            self.call("DELETE", "")
+        except OSError:
+            pass
+        try:
+            os.killpg(self.driver.pid, signal.SIGKILL)
+        except ProcessLookupError:
+            pass
+        self.driver.wait()

@@ -1,0 +1,37 @@
+"""How a check in Python shows what it shows: by a line for each thing, or by both texts where they differ."""
+
+import os
+import shutil
+import sys
+import time
+
+NAME = os.path.basename(sys.argv[0])
+
+
+def skip_without(*tools):
+    """Ends the check where a tool is not installed."""
+    for tool in tools:
+        if shutil.which(tool) is None:
+            print(f"{NAME}: skipped, since {tool} is not installed")
+            raise SystemExit(0)
+
+
+def fail(words):
+    raise SystemExit(f"{NAME}: {words}")
+
+
+def same(what, wanted, found):
+    """Fails where the two differ."""
+    if wanted != found:
+        fail(f"{what}\nwanted: {wanted}\nfound:  {found}")
+    print(f"{what}: ok", flush=True)
+
+
+def becomes(what, wanted, look, seconds=20):
+    """Looks again and again until it finds what is wanted."""
+    until = time.monotonic() + seconds
+    found = look()
+    while found != wanted and time.monotonic() < until:
+        time.sleep(0.05)
+        found = look()
+    same(what, wanted, found)
