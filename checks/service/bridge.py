@@ -35,7 +35,8 @@ class Converter(threading.Thread):
     def __init__(self, rate=10.0, load=lambda number: 0):
         super().__init__(daemon=True)
         self.listener = socket.create_server((HOST, 0))
-        self.source = f"tcp:{HOST}:{self.listener.getsockname()[1]}"
+        self.port = self.listener.getsockname()[1]
+        self.source = f"tcp:{HOST}:{self.port}"
         self.rate, self.load = rate, load
         self.sent = []  # when each line was sent
         self.speaks = threading.Event()
