@@ -236,10 +236,12 @@ fn prepared(alloc: Global, steps: &[Step]) -> Result<Files<Memory>, Fail> {
     };
     let conn = connected(alloc, disks, ALL_PAGES).ok().ok_or("connected")?;
     let (conn, all) = asked_over(alloc, conn, steps)?;
-    if !all {
-        return Err("refused before the stop".into());
+    let disks = conn.into_store().close();
+    if all {
+        Ok(disks)
+    } else {
+        Err("refused before the stop".into())
     }
-    Ok(conn.into_store().close())
 }
 
 /// A disk with the same bytes, synced, which fails each call after so many.
@@ -305,6 +307,16 @@ fn starts<W: Window, D: Alter>(
     }
 }
 
+/// Asks a fresh station over a connection whether the stopped request was made.
+fn asked_again<D: Alter + Drop>(
+    alloc: Global,
+    conn: Connection<D>,
+    stop: &Stop,
+) -> Result<bool, Fail> {
+    let mut station = station(alloc, store(conn)?)?;
+    is_made(alloc, &mut station, stop)
+}
+
 /// Opens the files again after a stop, and asks a fresh station.
 fn was_made(alloc: Global, disks: Fused, stop: &Stop) -> Result<bool, Fail> {
     let mut disks = disks;
@@ -313,8 +325,7 @@ fn was_made(alloc: Global, disks: Fused, stop: &Stop) -> Result<bool, Fail> {
     let conn = connected(alloc, disks, ALL_PAGES)
         .ok()
         .ok_or("connected again")?;
-    let mut station = station(alloc, store(conn)?)?;
-    is_made(alloc, &mut station, stop)
+    asked_again(alloc, conn, stop)
 }
 
 /// How many calls of one file an opening takes: fewer than 1,024.
