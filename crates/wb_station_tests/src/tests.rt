@@ -8,7 +8,6 @@ mod orders;
 mod responses;
 mod runs;
 mod station;
-mod stops;
 mod targets;
 mod terminal;
 mod whole;

@@ -154,18 +154,8 @@ fn faults_of_http_change_nothing(rt: HostRuntime) -> Result<(), Fail> {
             ),
             Step::Ask(
                 MORNING,
-                "POST /purge HTTP/1.1\r\nContent-Length: 1025\r\n\r\n",
-                "413 fault 413 too_large\n",
-            ),
-            Step::Ask(
-                MORNING,
                 "POST /weighings HTTP/1.1\r\nContent-Length: 28\r\n\r\nkey=K1&kind=void&plate=AB-12",
                 "422 fault 422 bad_field\n",
-            ),
-            Step::Ask(
-                MORNING,
-                "POST /purge HTTP/1.1\r\nContent-Length: 0005\r\n\r\n12345",
-                "200 PURGED 0\n",
             ),
             Step::Ask(MORNING, "GET /check HTTP/1.1\r\n\r\n", "200 SOUND 0\n"),
             Step::Ask(MORNING, PURGE, "200 PURGED 0\n"),
