@@ -111,6 +111,17 @@ class Service:
                 time.sleep(0.01)
         raise SystemExit("the service doesn't listen")
 
+    def put(self, load, seconds=20):
+        """Puts a load on the bridge, and waits until it is indicated as stable. The interval is 20 kg."""
+        self.converter.put(load, 1)
+        wanted = f"STABLE G {(load + 5) // 10 * 20:10} kg"
+        until = time.monotonic() + seconds
+        while time.monotonic() < until:
+            answer = get(self, "/indication")
+            if answer and answer[1].startswith(wanted):
+                return
+        raise SystemExit(f"not indicated within {seconds} s: {wanted}")
+
     def kill(self):
         self.process.send_signal(signal.SIGKILL)
         self.process.wait()
