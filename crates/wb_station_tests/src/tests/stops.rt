@@ -349,18 +349,18 @@ fn stops(alloc: Global, stop: &Stop, of_log: bool) -> Result<Count, Fail> {
     let disks = prepared(alloc, stop.before)?;
     let opened = opening_calls(alloc, &disks, of_log)?;
     let mut count = Count { anew: 0, made: 0 };
-    let mut answered = 0;
+    let mut answered = 0u32;
     for more in 0..1_000u64 {
         let calls = opened.saturating_add(more);
         let fused = both_fused(alloc, &disks, of_log, calls)?;
         let (left, all) = stopped(alloc, fused, stop.during)?;
         match (all, was_made(alloc, left, stop)?) {
             (true, false) => return Err("answered and not made".into()),
-            (_, true) => count.made += 1,
-            (false, false) => count.anew += 1,
+            (_, true) => count.made = count.made.saturating_add(1),
+            (false, false) => count.anew = count.anew.saturating_add(1),
         }
         if all {
-            answered += 1;
+            answered = answered.saturating_add(1);
         }
         if answered == CALLS_AFTER {
             return Ok(count);
