@@ -77,7 +77,7 @@ fn judges_in_the_order_in_which_they_became_whole(rt: HostRuntime) -> Result<(),
     wires[0].send(&ASKED[..9]);
     wires[1].send(&ASKED[..8]);
     assert_eq!(rt; desk.turn(0), (0, 3));
-    wires[2].send(&[b'x'; 9_300]);
+    wires[2].send(&[b'x'; 9_217]);
     wires[1].end();
     assert_eq!(rt; desk.turn(1), (8, 3), "as it stands");
     desk.answer(1);
