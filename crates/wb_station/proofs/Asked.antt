@@ -22,20 +22,18 @@ use Rattle.wb_office.specs.declared.refusal.Refusal.TheVariants.{KeyReused, Gone
 use Rattle.wb_office.specs.declared.request.Request.{Request}
 use Rattle.wb_office.specs.declared.request.Request.TheVariants.{Weigh, VoidOpen, Ticket, Indication, JournalCsv, TicketsCsv, Purge, Check}
 use Rattle.wb_office.specs.Answer.{Told as Answered, text_told, answer_of, asking, entries_after, has_ticket, if_sound, text_of, ticket_of, tickets_answer}
-use Rattle.wb_office.specs.Asking.{Situation}
-use Rattle.wb_office.specs.Outright.{Outright}
+use Rattle.wb_office.specs.Situation.{Situation}
+use Rattle.wb_office.specs.WithoutStore.{Outright}
 use Rattle.wb_office.specs.Conditions.{is_damaged}
-use Rattle.wb_office.specs.Serves.{IsNow, Leaves, Marks, Serves, Wanted, is_store_refusal, told_of}
+use Rattle.wb_office.specs.Serves.{IsNow, Leaves, Marks, Serves, is_store_refusal, told_of}
+use Rattle.wb_office.specs.Wanted.{Wanted, HasBound, IsWanted, asks_store, wanted}
 use Rattle.wb_office.specs.Verdict.{Verdict, accepted, refused, repeated, verdict}
-use Rattle.wb_office.specs.Wanting.{HasBound, IsWanted, asks_store, wanted}
 use Rattle.wb_scale.specs.State.{State}
 use Rattle.wb_sics.specs.Calls.{calls}
 use Rattle.wb_sics.specs.Event.{Event as AtTerminal, stored}
-use Rattle.wb_sics.specs.Stands.{TakesStored, TerminalState}
-use Rattle.wb_sics.specs.Stands.{Stands as TerminalStands}
+use Rattle.wb_sics.specs.Stands.{TakesStored, TerminalState, Stands as TerminalStands}
 use Rattle.wb_store.specs.declared.fault.StoreFault.TheVariants.{Closed}
-use Rattle.wb_store.specs.Journal.{IsHonest, Reopens, StoreView}
-use Rattle.wb_store.specs.Journal.{Stands as StoreStands}
+use Rattle.wb_store.specs.Journal.{IsHonest, Reopens, StoreView, Stands as StoreStands}
 use Rattle.wb_store.specs.Keeping.{LeavesOnly}
 use Rattle.wb_store.specs.Rows.{IsStorable}
 use Rattle.wb_store.specs.Lists.{AreLists, next_number}

@@ -6,11 +6,10 @@ use Rattle.wb_office.specs.declared.refusal.Refusal.{Refusal}
 use Rattle.wb_office.specs.declared.refusal.Refusal.TheVariants.{Gone}
 use Rattle.wb_office.specs.Answer.{Told}
 use Rattle.wb_office.specs.declared.request.Request.{Request}
-use Rattle.wb_office.specs.Course as course
-use Rattle.wb_office.specs.Course.{AreBounds, Journal, Turn, added, after, answer_in, left}
+use Rattle.wb_office.specs.CourseOfRequests as course
+use Rattle.wb_office.specs.CourseOfRequests.{AreBounds, Journal, Turn, added, after, answer_in, left}
 use Rattle.wb_office.specs.Laws.{AnsweredAgain, IsGone, IsKept}
-use Rattle.wb_office.specs.Serves.{Wanted}
-use Rattle.wb_office.specs.Wanting.{HasBound, IsWanted, wanted}
+use Rattle.wb_office.specs.Wanted.{Wanted, HasBound, IsWanted, wanted}
 use Rattle.wb_store.specs.Lists.{by_key, is_spent}
 use Rattle.wb_station.specs.declared.fault.HttpFault.{HttpFault}
 use Rattle.wb_station.specs.Account.{Account, ComesOf, IsAccount, Out, leaves, situation}

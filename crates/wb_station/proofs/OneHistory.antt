@@ -5,9 +5,8 @@ use Rattle.httpdate.specs.Text.{imf_fixdate}
 use Rattle.wb_instrument.specs.Setup.{Setup}
 use Rattle.wb_office.specs.declared.request.Request.{Request}
 use Rattle.wb_office.specs.declared.request.Request.TheVariants.{Weigh, VoidOpen, Ticket, Indication, JournalCsv, TicketsCsv, Purge, Check}
-use Rattle.wb_office.specs.Asking.{Situation}
-use Rattle.wb_office.specs.Serves.{Wanted}
-use Rattle.wb_office.specs.Wanting.{HasBound, IsWanted, wanted}
+use Rattle.wb_office.specs.Situation.{Situation}
+use Rattle.wb_office.specs.Wanted.{Wanted, HasBound, IsWanted, wanted}
 use Rattle.wb_sics.specs.Event as terminal
 use Rattle.wb_sics.specs.Event.{Event as AtTerminal}
 use Rattle.wb_sics.specs.Heard.{RepliesToHeard, heard}

@@ -3,10 +3,9 @@ use Rattle.std.specs.Prelude.{◌≡◌, ◌⊎◌, ℕ, Bool, true, false, List
 use Rattle.wb_instrument.specs.Setup.{Setup}
 use Rattle.wb_journal.specs.declared.entry.EntryParts.{EntryParts}
 use Rattle.wb_office.specs.declared.request.Request.{Request}
-use Rattle.wb_office.specs.Course.{AreBounds, Journal, Turn, added, after}
+use Rattle.wb_office.specs.CourseOfRequests.{AreBounds, Journal, Turn, added, after}
 use Rattle.wb_office.specs.Laws.{IsGone, IsKept}
-use Rattle.wb_office.specs.Serves.{Wanted}
-use Rattle.wb_office.specs.Wanting.{IsWanted}
+use Rattle.wb_office.specs.Wanted.{Wanted, IsWanted}
 use Rattle.wb_scale.specs.History.{moments}
 use Rattle.wb_sics.specs.Calls.{calls}
 use Rattle.wb_store.specs.Lists.{AreLists, by_key, is_spent}

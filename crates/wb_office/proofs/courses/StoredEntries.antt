@@ -16,7 +16,7 @@ use Rattle.wb_journal.proofs.Members.{Among, find-among}
 use Rattle.wb_store.specs.Lists.{by_key, has_key, is_of_key, is_spent}
 use Rattle.wb_store.specs.Rows.{SpentKey}
 use Rattle.wb_office.specs.Answer.{below, spent_by}
-use Rattle.wb_office.proofs.Found.{is_some_same}
+use Rattle.wb_office.proofs.FoundEntries.{is_some_same}
 
 -- another entry of the same key
 abbrev pub is_twin : EntryParts → EntryParts → Bool

@@ -1,32 +1,15 @@
--- Groups of conditions, in their order, as the code judges them.
-use Rattle.std.specs.Prelude.{ℕ, ◌&&◌, ◌||◌, Bool, false, not, if◌then◌else◌, List, [], ◌∷◌, Option, Some, None, pos, int_lt}
+-- What is judged and stored of a load, by what is indicated.
+use Rattle.std.specs.Prelude.{ℕ, Bool, false, not, if◌then◌else◌, Option, Some, None, pos, int_lt}
 use Rattle.wb_instrument.specs.Setup.{Setup}
 use Rattle.wb_journal.specs.declared.kind.Kind.{Kind}
 use Rattle.wb_journal.specs.declared.kind.Kind.TheVariants.{First, Second, Single, Void}
-use Rattle.wb_journal.specs.declared.entry.EntryParts.{EntryParts}
-use Rattle.wb_journal.specs.Digest.{is_sound}
-use Rattle.wb_journal.specs.Kind.{is_second}
 use Rattle.wb_scale.specs.declared.answers.Indicated.{Indicated}
 use Rattle.wb_scale.specs.declared.answers.Indicated.TheVariants.{NoLoad, Over, Under, Shown}
 use Rattle.wb_scale.specs.declared.answers.TareNow.{TareNow}
 use Rattle.wb_scale.specs.declared.answers.TareNow.TheVariants.{Empty, Weighed, Preset}
 use Rattle.wb_office.specs.declared.refusal.Refusal.{Refusal}
 use Rattle.wb_office.specs.declared.refusal.Refusal.TheVariants as refusal
-use Rattle.wb_office.specs.Conditions.{already_open, below_min, damaged_first, holds_of, journal_full, no_load, no_open, no_preset, not_cleared, overload, tare_active, underload, unstable}
-use Rattle.wb_office.specs.Verdict.{Condition, kilograms, on}
-
--- on the load
-abbrev pub of_load : List Condition
-of_load = on no_load refusal.NoLoad ∷ on overload refusal.Overload ∷ on underload refusal.Underload ∷ on unstable refusal.Unstable ∷ on below_min refusal.BelowMin ∷ []
-
--- on the tare and the bridge
-abbrev pub of_tare : List Condition
-of_tare = on tare_active refusal.TareActive ∷ on no_preset refusal.NoPreset ∷ on not_cleared refusal.NotCleared ∷ []
-
--- on the journal
-abbrev pub of_journal : List Condition
-of_journal =
-    on already_open refusal.AlreadyOpen ∷ on no_open refusal.NoOpen ∷ on damaged_first refusal.Damaged ∷ on journal_full refusal.JournalFull ∷ []
+use Rattle.wb_office.specs.Verdict.{kilograms}
 
 -- why a load that is indicated so isn't stored
 abbrev pub refusal_of_shown : Indicated → Option Refusal
@@ -59,7 +42,3 @@ gross_of_shown s First indicated = gross_shown s indicated
 gross_of_shown s Second indicated = gross_shown s indicated
 gross_of_shown s Single indicated = gross_shown s indicated
 gross_of_shown s Void indicated = None
-
--- an entry that isn't sound, or is a Second with this partner, which is missing or isn't sound
-abbrev pub is_damaged_with : EntryParts → Option EntryParts → Bool
-is_damaged_with e p = not (is_sound e) || (is_second e.kind && not (holds_of is_sound p))

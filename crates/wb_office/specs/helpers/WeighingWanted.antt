@@ -2,8 +2,8 @@
 use Rattle.std.specs.Prelude.{◌≡◌}
 use Rattle.wb_office.specs.declared.judging.Asked.{Asked}
 use Rattle.wb_office.specs.Answer.{answer_of, asking, entries_after, marks_by}
-use Rattle.wb_office.specs.Asking.{Situation}
-use Rattle.wb_office.specs.Serves.{Wanted}
+use Rattle.wb_office.specs.Situation.{Situation}
+use Rattle.wb_office.specs.Wanted.{Wanted}
 use Rattle.wb_office.specs.Verdict.{Verdict, verdict}
 
 abbrev pub wanted_by : Situation → Verdict → Wanted

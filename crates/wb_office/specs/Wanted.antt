@@ -1,10 +1,19 @@
 -- What is wanted of a request.
-use Rattle.std.specs.Prelude.{◌≡◌, ℕ, Bool, true, false, ◌==◌, not}
+use Rattle.std.specs.Prelude.{◌≡◌, ℕ, Bool, true, false, ◌==◌, not, List, Result}
 use Rattle.wb_office.specs.declared.request.Request.{Request}
 use Rattle.wb_office.specs.declared.request.Request.TheVariants.{Weigh, VoidOpen, Ticket, Indication, JournalCsv, TicketsCsv, Purge, Check}
-use Rattle.wb_office.specs.Answer.{IsBoundAt, answer, entries_left, marks, spent_left}
-use Rattle.wb_office.specs.Asking.{Situation}
-use Rattle.wb_office.specs.Serves.{Wanted}
+use Rattle.wb_office.specs.Answer.{IsBoundAt, answer, entries_left, marks, spent_left, Told}
+use Rattle.wb_office.specs.Situation.{Situation}
+use Rattle.wb_journal.specs.declared.entry.EntryParts.{EntryParts}
+use Rattle.wb_store.specs.Rows.{SpentKey}
+use Rattle.wb_office.specs.declared.refusal.Refusal.{Refusal}
+
+-- what is wanted in a situation: an answer, the lists that it leaves, and whether the scale is marked
+pub record Wanted : Type 0 where
+  pub answer : Result Told Refusal
+  pub entries : List EntryParts
+  pub spent : List SpentKey
+  pub marks : Bool
 
 -- a purge has its bound, and no other request has one
 abbrev pub HasBound : Request → Situation → ℕ → Type 0

@@ -1,8 +1,8 @@
 -- Conditions one after the other.
 use Rattle.std.proofs.Common.{◌≡◌, Bool, true, false, if◌then◌else◌, List, [], ◌∷◌, ◌++◌, Some, None, refl}
 use Rattle.wb_office.specs.declared.refusal.Refusal.{Refusal}
-use Rattle.wb_office.specs.Asking.{Asking}
-use Rattle.wb_office.specs.Judging.{of_journal, of_load, of_tare}
+use Rattle.wb_office.specs.Situation.{Asking}
+use Rattle.wb_office.specs.helpers.ConditionGroups.{of_journal, of_load, of_tare}
 use Rattle.wb_office.specs.Verdict.{Condition, first_refusal, of_new}
 
 -- where none of the first conditions holds, those after them decide

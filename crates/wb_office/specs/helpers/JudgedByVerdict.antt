@@ -8,11 +8,10 @@ use Rattle.wb_scale.specs.History.{moments}
 use Rattle.wb_scale.specs.Stands.{Stands}
 use Rattle.wb_scale.specs.State.{State}
 use Rattle.wb_store.specs.Lists.{IsNext}
-use Rattle.wb_store.specs.Rows.{SpentKey}
 use Rattle.wb_office.specs.declared.judging.Asked.{Asked}
 use Rattle.wb_office.specs.declared.judging.Judgement.{Judgement}
 use Rattle.wb_office.specs.declared.judging.Judgement.TheVariants.{Refused, Repeated, Accepted}
-use Rattle.wb_office.specs.Asking.{Asking}
+use Rattle.wb_office.specs.Situation.{Asking}
 use Rattle.wb_office.specs.Serves.{is_of_store}
 use Rattle.wb_office.specs.Verdict.{accepted, refused, repeated, verdict}
 
@@ -29,11 +28,6 @@ pub record IsOnScale (scale : State) (a : Asking) : Type 0 where
   pub calls : List Call
   pub stands : Stands scale calls
   pub history : a.now.history ≡ moments scale.setup calls
-
--- the lists are those of the journal
-pub record IsOnLists (es : List EntryParts) (ks : List SpentKey) (a : Asking) : Type 0 where
-  pub entries : a.now.entries ≡ es
-  pub spent : a.now.spent ≡ ks
 
 -- the entry that is repeated, and the partner of a Second
 pub record IsRepetition (e : EntryParts) (p : Option EntryParts) (a : Asking) : Type 0 where

@@ -4,12 +4,12 @@ use Rattle.std.proofs.lemmas.Int.{clamps}
 use Rattle.wb_journal.specs.declared.entry.EntryParts.{EntryParts}
 use Rattle.wb_store.specs.Lists.{greatest, greatest_spent, next_number}
 use Rattle.wb_store.proofs.PurgeLists.{next_stays}
-use Rattle.wb_office.specs.Asking.{Asking, Situation}
-use Rattle.wb_office.specs.Course.{added}
+use Rattle.wb_office.specs.Situation.{Asking, Situation}
+use Rattle.wb_office.specs.CourseOfRequests.{added}
 use Rattle.wb_office.specs.Laws.{IsNumbered, NumbersRun}
 use Rattle.wb_office.specs.Verdict.{accepted, verdict}
-use Rattle.wb_office.proofs.Acceptance.{Outcome, adds, is_new, outcome, purges, stays}
-use Rattle.wb_office.proofs.Found.{is_some_same}
+use Rattle.wb_office.proofs.courses.AcceptedEntries.{Outcome, adds, is_new, outcome, purges, stays}
+use Rattle.wb_office.proofs.FoundEntries.{is_some_same}
 
 greatest_more : (es : List EntryParts) (e : EntryParts) → greatest (es ++ e ∷ []) ≡ max (greatest es) e.number
 greatest_more [] e = omega (arith, clamps)

@@ -9,9 +9,9 @@ use Rattle.wb_office.specs.declared.refusal.Refusal.{Refusal}
 use Rattle.wb_office.specs.declared.request.Request.{Request}
 use Rattle.wb_office.specs.declared.request.Request.TheVariants.{Weigh, VoidOpen, Ticket, Indication, JournalCsv, TicketsCsv, Purge, Check}
 use Rattle.wb_office.specs.Answer.{Told, answer, asking, entries_left, spent_left}
-use Rattle.wb_office.specs.Asking.{Situation}
+use Rattle.wb_office.specs.Situation.{Situation}
 use Rattle.wb_office.specs.Verdict.{Verdict, accepted, refused, repeated, verdict}
-use Rattle.wb_office.specs.Wanting.{HasBound}
+use Rattle.wb_office.specs.Wanted.{HasBound}
 
 -- the entry that a verdict adds, if it is accepted
 abbrev pub added_by : Verdict → Option EntryParts

@@ -20,13 +20,13 @@ use Rattle.wb_scale.specs.Steady.{IsNear, NearAll}
 use Rattle.wb_scale.specs.Tare.{tare_now, tare_tenths}
 use Rattle.wb_scale.specs.Zero.{above_zero, zero_now}
 use Rattle.wb_window.specs.Stability.{is_stable}
-use Rattle.wb_office.specs.Asking.{Asking}
+use Rattle.wb_office.specs.Situation.{Asking}
 use Rattle.wb_office.specs.Conditions.{holds_of}
 use Rattle.wb_office.specs.Laws.{AllWeighed, IsWeighed}
 use Rattle.wb_office.specs.Verdict.{accepted, first_refusal, gross_kg, kilograms, of_new, verdict}
-use Rattle.wb_office.proofs.Acceptance.{Outcome, adds, is_new, outcome, purges, stays}
-use Rattle.wb_office.proofs.Found.{is_some_same}
-use Rattle.wb_office.proofs.InOrder.{none_holds}
+use Rattle.wb_office.proofs.courses.AcceptedEntries.{Outcome, adds, is_new, outcome, purges, stays}
+use Rattle.wb_office.proofs.FoundEntries.{is_some_same}
+use Rattle.wb_office.proofs.ConditionsInOrder.{none_holds}
 
 -- a load on which none of the conditions on it holds
 record IsFree (s : Setup) (is_still : Bool) (g : Option ℤ) : Type 0 where

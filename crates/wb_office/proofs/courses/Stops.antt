@@ -8,13 +8,12 @@ use Rattle.wb_store.specs.Lists.{AreLists}
 use Rattle.wb_office.specs.declared.refusal.Refusal.{Refusal}
 use Rattle.wb_office.specs.declared.request.Request.{Request}
 use Rattle.wb_office.specs.Answer.{Told, answer, answer_of}
-use Rattle.wb_office.specs.Asking.{Asking}
-use Rattle.wb_office.specs.Course.{Journal, Turn, left, situation}
-use Rattle.wb_office.specs.Judged.{IsOnLists}
+use Rattle.wb_office.specs.Situation.{Asking, IsOnLists}
+use Rattle.wb_office.specs.CourseOfRequests.{Journal, Turn, left, situation}
 use Rattle.wb_office.specs.Laws.{IsByKey, KeyDecides}
 use Rattle.wb_office.specs.Stops.{AnsweredAfterStops, Asks, IsAnsweredByKey, IsFoundAgain}
 use Rattle.wb_office.specs.Verdict.{verdict}
-use Rattle.wb_office.specs.Wanting.{wanted}
+use Rattle.wb_office.specs.Wanted.{wanted}
 
 -- the answer is that of the verdict
 of_verdict : (a : Asking) (bound : ℕ) (request : Request) → Asks request a → answer a.now bound request ≡ answer_of a.now.entries (verdict a)

@@ -1,5 +1,5 @@
 -- What the office answers from, and what a weighing or void is judged on.
-use Rattle.std.specs.Prelude.{ℕ, List}
+use Rattle.std.specs.Prelude.{ℕ, List, ◌≡◌}
 use Rattle.wb_instrument.specs.Setup.{Setup}
 use Rattle.wb_journal.specs.declared.entry.EntryParts.{EntryParts}
 use Rattle.wb_journal.specs.declared.kind.Kind.{Kind}
@@ -23,3 +23,8 @@ pub record Asking : Type 0 where
   pub key : List ℕ
   pub kind : Kind
   pub plate : List ℕ
+
+-- the lists are those of the journal
+pub record IsOnLists (es : List EntryParts) (ks : List SpentKey) (a : Asking) : Type 0 where
+  pub entries : a.now.entries ≡ es
+  pub spent : a.now.spent ≡ ks

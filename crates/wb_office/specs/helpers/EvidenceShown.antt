@@ -10,7 +10,7 @@ use Rattle.wb_store.specs.Rows.{SpentKey}
 use Rattle.wb_office.specs.declared.evidence.Evidence.{Evidence}
 use Rattle.wb_office.specs.declared.evidence.OfJournal.{OfJournal}
 use Rattle.wb_office.specs.declared.evidence.OfScale.{OfScale}
-use Rattle.wb_office.specs.Asking.{Asking, Situation}
+use Rattle.wb_office.specs.Situation.{Asking, Situation}
 
 -- what the scale shows
 pub record ShowsScale (s : OfScale) (w : Situation) : Type 0 where

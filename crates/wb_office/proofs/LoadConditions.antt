@@ -16,9 +16,10 @@ use Rattle.wb_office.specs.declared.refusal.Refusal.TheVariants as refusal
 use Rattle.wb_scale.specs.declared.answers.TareNow.{TareNow}
 use Rattle.wb_scale.specs.declared.answers.TareNow.TheVariants.{Empty, Weighed, Preset}
 use Rattle.wb_scale.specs.Moment.{readings}
-use Rattle.wb_office.specs.Asking.{Asking}
+use Rattle.wb_office.specs.Situation.{Asking}
 use Rattle.wb_office.specs.Conditions.{holds_of, is_preset_below, weighs}
-use Rattle.wb_office.specs.Judging.{gross_of_shown, gross_shown, is_preset_below_shown, of_load, refusal_of_shown}
+use Rattle.wb_office.specs.helpers.ConditionGroups.{of_load}
+use Rattle.wb_office.specs.helpers.IndicatedLoad.{gross_of_shown, gross_shown, is_preset_below_shown, refusal_of_shown}
 use Rattle.wb_office.specs.Verdict.{first_refusal, gross_kg, kilograms}
 
 -- the conditions on a load of a First, Second or Single, one after the other

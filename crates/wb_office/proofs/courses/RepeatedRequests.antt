@@ -26,19 +26,19 @@ use Rattle.wb_office.specs.declared.refusal.Refusal.TheVariants as refusal
 use Rattle.wb_office.specs.declared.request.Request.{Request}
 use Rattle.wb_office.specs.declared.request.Request.TheVariants.{Weigh, VoidOpen, Ticket, Indication, JournalCsv, TicketsCsv, Purge, Check}
 use Rattle.wb_office.specs.Answer.{Told, answer, answer_of, asking, below, entries_left, spent_by, spent_left, text_of, ticket_told}
-use Rattle.wb_office.specs.Asking.{Asking, Situation}
+use Rattle.wb_office.specs.Situation.{Asking, Situation}
 use Rattle.wb_office.specs.Conditions.{holds_of, is_damaged, is_other}
-use Rattle.wb_office.specs.Course.{AreBounds, Journal, Turn, added, added_by, after, answer_in, left, situation}
+use Rattle.wb_office.specs.CourseOfRequests.{AreBounds, Journal, Turn, added, added_by, after, answer_in, left, situation}
 use Rattle.wb_office.specs.Laws.{AnsweredAgain, IsGone, IsKept}
 use Rattle.wb_office.specs.Verdict.{Verdict, accepted, of_new, refused, repeated, verdict}
-use Rattle.wb_office.specs.Wanting.{HasBound}
-use Rattle.wb_office.proofs.Acceptance.{IsNew, Outcome, adds, is_new, outcome, purges, stays}
-use Rattle.wb_office.proofs.Found.{find_none, found_by_number, is_some_same}
-use Rattle.wb_office.proofs.InOrder.{none_holds}
-use Rattle.wb_office.proofs.NewEntry.{unsealed}
-use Rattle.wb_office.proofs.Numbering.{next_more, number_is_next}
-use Rattle.wb_office.proofs.Places.{above_greatest, rises}
-use Rattle.wb_office.proofs.StoredEntry.{IsPast, IsStored, is_twin, past_kept, past_more, past_stays, stored_kept, stored_more}
+use Rattle.wb_office.specs.Wanted.{HasBound}
+use Rattle.wb_office.proofs.courses.AcceptedEntries.{IsNew, Outcome, adds, is_new, outcome, purges, stays}
+use Rattle.wb_office.proofs.FoundEntries.{find_none, found_by_number, is_some_same}
+use Rattle.wb_office.proofs.ConditionsInOrder.{none_holds}
+use Rattle.wb_office.proofs.NewEntries.{unsealed}
+use Rattle.wb_office.proofs.courses.Numbers.{next_more, number_is_next}
+use Rattle.wb_office.proofs.courses.Places.{above_greatest, rises}
+use Rattle.wb_office.proofs.courses.StoredEntries.{IsPast, IsStored, is_twin, past_kept, past_more, past_stays, stored_kept, stored_more}
 use Rattle.wb_office.proofs.Verdicts.{by_repetition, by_spent}
 
 -- an entry that was added is stored or was purged

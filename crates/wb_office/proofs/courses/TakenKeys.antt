@@ -13,12 +13,12 @@ use Rattle.wb_store.specs.Lists.{has_key, is_of_key, is_spent}
 use Rattle.wb_store.specs.Rows.{SpentKey}
 use Rattle.wb_office.specs.declared.request.Request.{Request}
 use Rattle.wb_office.specs.Answer.{below, entries_left, spent_by, spent_left}
-use Rattle.wb_office.specs.Asking.{Asking, Situation}
-use Rattle.wb_office.specs.Course.{Journal, Turn, added, additions, after, left, situation, with_one}
+use Rattle.wb_office.specs.Situation.{Asking, Situation}
+use Rattle.wb_office.specs.CourseOfRequests.{Journal, Turn, added, additions, after, left, situation, with_one}
 use Rattle.wb_office.specs.Laws.{is_taken}
 use Rattle.wb_office.specs.Verdict.{accepted, verdict}
-use Rattle.wb_office.proofs.Acceptance.{Outcome, adds, is_new, outcome, purges, stays}
-use Rattle.wb_office.proofs.Found.{find_none}
+use Rattle.wb_office.proofs.courses.AcceptedEntries.{Outcome, adds, is_new, outcome, purges, stays}
+use Rattle.wb_office.proofs.FoundEntries.{find_none}
 
 abbrev pub taken_in : List EntryParts → List SpentKey → List ℕ → Bool
 taken_in es ks key = list_any (has_key key) es || is_spent ks key

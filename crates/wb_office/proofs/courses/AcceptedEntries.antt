@@ -16,9 +16,9 @@ use Rattle.wb_office.specs.declared.refusal.Refusal.TheVariants as refusal
 use Rattle.wb_office.specs.declared.request.Request.{Request}
 use Rattle.wb_office.specs.declared.request.Request.TheVariants.{Weigh, VoidOpen, Ticket, Indication, JournalCsv, TicketsCsv, Purge, Check}
 use Rattle.wb_office.specs.Answer.{answer, asking, below, entries_left, spent_by, spent_left, text_of}
-use Rattle.wb_office.specs.Asking.{Asking, Situation}
+use Rattle.wb_office.specs.Situation.{Asking, Situation}
 use Rattle.wb_office.specs.Conditions.{gone, is_damaged, is_other, journal_full, places, places_of}
-use Rattle.wb_office.specs.Course.{added}
+use Rattle.wb_office.specs.CourseOfRequests.{added}
 use Rattle.wb_office.specs.Verdict.{Condition, Verdict, accepted, first_refusal, new_entry, of_new, refused, repeated, verdict}
 use Rattle.wb_office.proofs.Verdicts.{by_condition, by_damage, by_none, by_other, by_repetition, by_spent}
 

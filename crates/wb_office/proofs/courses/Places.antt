@@ -22,13 +22,13 @@ use Rattle.wb_store.specs.Lists.{greatest, greatest_spent, next_number}
 use Rattle.wb_store.proofs.OpenCounts.{one, open_count_more}
 use Rattle.wb_office.specs.declared.request.Request.TheVariants.{Purge}
 use Rattle.wb_office.specs.Answer.{entries_left}
-use Rattle.wb_office.specs.Asking.{Asking, Situation}
+use Rattle.wb_office.specs.Situation.{Asking, Situation}
 use Rattle.wb_office.specs.Conditions.{places, places_of}
 use Rattle.wb_office.specs.Laws.{KeepsPartners, WithinCapacity}
 use Rattle.wb_office.specs.Verdict.{accepted, of_new, verdict}
-use Rattle.wb_office.proofs.Acceptance.{Outcome, adds, is_new, outcome, purges, stays}
-use Rattle.wb_office.proofs.InOrder.{none_holds}
-use Rattle.wb_office.proofs.Numbering.{number_is_next}
+use Rattle.wb_office.proofs.courses.AcceptedEntries.{Outcome, adds, is_new, outcome, purges, stays}
+use Rattle.wb_office.proofs.ConditionsInOrder.{none_holds}
+use Rattle.wb_office.proofs.courses.Numbers.{number_is_next}
 
 -- ---- one entry more
 
