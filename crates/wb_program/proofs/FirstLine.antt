@@ -1,3 +1,4 @@
+-- The first line of a text, and the lines after it.
 use Rattle.std.proofs.Common.{◌≡◌, ◌<◌, ℕ, ◌==◌, Bool, true, false, cond, List, [], ◌∷◌, length, refl, ◌∙◌, ap, arith, length-drop, ◌+◌, suc, ◌&&◌}
 use Rattle.std.specs.Prelude.{is_some, nat_lt, not, All}
 use Rattle.std.specs.List.{position, position_or_len, before_first, after_first, slice_split, onto_first, prefix_len, list_all}

@@ -18,7 +18,7 @@ use Rattle.wb_station.specs.Judgement.{IsJudged}
 use Rattle.wb_station.specs.Laws.{OneHistory, RepliesAlone}
 use Rattle.wb_station.specs.Response.{Told, response_text, told_result}
 use Rattle.wb_station.specs.Stands.{IsReplied}
-use Rattle.wb_station.specs.Whole.{OneJudgement}
+use Rattle.wb_station.specs.WholeRequests.{OneJudgement}
 
 one_response : (at : ℕ) (told : Told) (x y : Out) → IsResponse at told x → IsResponse at told y → x ≡ y
 one_response at told x y a b =

@@ -4,8 +4,8 @@ use Rattle.std.specs.Prelude.{reverse}
 use Rattle.std.proofs.lemmas.List.{map-append, reverse-append}
 use Rattle.wb_program.specs.declared.list_sources.Answered.{Answered}
 use Rattle.wb_program.specs.declared.list_sources.HandedIn.{HandedIn}
-use Rattle.wb_program.specs.Recorded.{answer_of, handed_of, told_of}
-use Rattle.wb_program.specs.Telling.{Tells}
+use Rattle.wb_program.specs.SourcesInMemory.{answer_of, handed_of, told_of}
+use Rattle.wb_program.specs.SourceAnswers.{Tells}
 
 -- the newest comes first
 newest : {A B : Type 0} (f : A → B) (xs : List A) (x : A) → reverse (map f (xs ++ x ∷ [])) ≡ f x ∷ reverse (map f xs)

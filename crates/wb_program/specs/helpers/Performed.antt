@@ -2,11 +2,11 @@
 use Rattle.std.specs.Prelude.{◌≡◌, ℕ, List, Option, map}
 use Rattle.std.specs.Io.KnownBytes.{Appends}
 use Rattle.sqlite.specs.Store.{Ghosts}
-use Rattle.wb_program.specs.Printed.{printed}
+use Rattle.wb_program.specs.PrintedOutputs.{printed}
 use Rattle.wb_sics.specs.Stands.{TerminalState}
 use Rattle.wb_station.specs.Account.{Out}
 use Rattle.wb_station.specs.Happening.{Happening, unmarked}
-use Rattle.wb_station.specs.Running.{Ran}
+use Rattle.wb_station.specs.RunOfEvents.{Ran}
 use Rattle.wb_store.specs.Journal.{StoreView}
 
 module _ {D : Type 0} (g : Ghosts D) (asked : List Happening) (t : TerminalState) (j : StoreView D) (t' : TerminalState) (j' : StoreView D) (w w' : Option (List ℕ)) where

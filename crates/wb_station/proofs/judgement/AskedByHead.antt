@@ -17,8 +17,8 @@ use Rattle.wb_station.specs.BodyLength.{are_wrong, first_number, is_encoded, is_
 use Rattle.wb_station.specs.Judgement.{Condition, allows, asked, asked_by, cut_short, first_fault, judged, malformed_length, no_length, no_route, of_body, on, too_large, unless_faulty, wrong_method}
 use Rattle.wb_station.specs.RequestBytes.{Received, fields}
 use Rattle.wb_station.specs.Routes.{method_of, route_of}
-use Rattle.wb_station.specs.Said.{said, said_values}
-use Rattle.wb_station.specs.Sought.{answered, answered_by, sought, sought_at, sought_on, with_length}
+use Rattle.wb_station.specs.helpers.LengthSaid.{said, said_values}
+use Rattle.wb_station.specs.helpers.AskedByHead.{answered, answered_by, sought, sought_at, sought_on, with_length}
 
 -- the first fault of a head, by what its conditions say
 abbrev pub first_of : Bool → Bool → Bool → Bool → Bool → Bool → Option HttpFault

@@ -12,7 +12,7 @@ use Rattle.wb_station.specs.Form.{IsPlain}
 use Rattle.wb_station.specs.Judgement.{asked_by, has_form}
 use Rattle.wb_station.specs.RequestBytes.{Received, fields}
 use Rattle.wb_station.specs.Routes.{method_of, method_text, route_of}
-use Rattle.wb_station.specs.Said.{pairs, said}
+use Rattle.wb_station.specs.helpers.LengthSaid.{pairs, said}
 
 abbrev pub with_length : Route → Result ℕ HttpFault → Result Sought HttpFault
 with_length route (Ok number) = Ok (record { route = route; length = number })

@@ -1,16 +1,14 @@
--- Runs, event by event.
-use Rattle.std.proofs.Common.{◌≡◌, ◌≢◌, ℕ, ◌+◌, ◌<◌, List, [], ◌∷◌, ◌++◌, length, map, refl, sym, ap, ◌∙◌, append_assoc, Bool, false, take, get_or, subst, arith}
-use Rattle.std.specs.Prelude.{reverse}
-use Rattle.std.proofs.lemmas.List.{reverse-append, map-append, take_more}
+-- Lemmas for the crates above: runs of happenings, one after the other.
+use Rattle.std.proofs.Common.{◌≡◌, ◌+◌, List, [], ◌∷◌, ◌++◌, refl, sym, ◌∙◌, append_assoc, Bool, false, subst}
 use Rattle.sqlite.specs.Store.{Ghosts}
 use Rattle.wb_instrument.specs.Setup.{Setup}
 use Rattle.wb_sics.specs.Stands.{TerminalState}
-use Rattle.wb_store.specs.Journal.{IsHonest, StoreView}
+use Rattle.wb_store.specs.Journal.{StoreView}
 use Rattle.wb_station.specs.declared.event.Event.{Event}
 use Rattle.wb_station.specs.declared.event.Event.TheVariants.{Reading, Byte, Hangup, Office}
-use Rattle.wb_station.specs.Account.{Account, IsOut, Out, bytes_of}
+use Rattle.wb_station.specs.Account.{Account, IsOut, Out}
 use Rattle.wb_station.specs.Happening.{Happening, happening, unmarked}
-use Rattle.wb_station.specs.Running.{AreOf, AreOuts, AreReplies, Ran, Stopped, Went, WentOn, at_place, taken_of}
+use Rattle.wb_station.specs.RunOfEvents.{AreOuts, AreReplies, Ran}
 use Rattle.wb_station.specs.Stands.{Hears, IsReplied, Stands, Took}
 use Rattle.wb_station.specs.Unmade.{AllMayBeUnmade}
 
@@ -19,11 +17,6 @@ unmarked_happening unmade (Reading r) = refl
 unmarked_happening unmade (Byte b) = refl
 unmarked_happening unmade Hangup = refl
 unmarked_happening unmade (Office moment bytes) = refl
-
-of_one_more : (ps : List Happening) (events : List Event) (unmade : Bool) (e : Event) → AreOf ps events → AreOf (happening unmade e ∷ ps) (events ++ e ∷ [])
-of_one_more ps events unmade e are =
-    ap (λ p. p ∷ map unmarked ps) (unmarked_happening unmade e) ∙ ap (λ qs. happening false e ∷ qs) are
-    ∙ sym (ap reverse (map-append (happening false) events (e ∷ [])) ∙ reverse-append (map (happening false) events) (happening false e ∷ []))
 
 module _ {D : Type 0} (g : Ghosts D) where
   pub ran_none : (t : TerminalState) (j : StoreView D) → Ran g [] t j t j []
@@ -80,46 +73,4 @@ module _ {D : Type 0} (g : Ghosts D) (ps qs : List Happening) (outs more : List 
     hears = λ h ears. subst (λ l. Hears t'' l) (sym (append_assoc qs ps h)) (next.hears (ps ++ h) (first.hears h ears));
     replies = λ h ears. replies_append t.scale.setup ps qs h outs more (first.replies h ears)
         (subst (λ s. AreReplies s qs (ps ++ h) more) first.setup (next.replies (ps ++ h) (first.hears h ears)));
-  }
-
--- so many events were taken
-pub record Running {D : Type 0} (g : Ghosts D) (events : List Event) (count : ℕ) (t : TerminalState) (j : StoreView D) (t' : TerminalState) (j' : StoreView D) (before after : List (ℕ × List ℕ)) : Type 0 where
-  pub ps : List Happening
-  pub outs : List Out
-  pub went : Went g events t j t' j' before after ps outs outs
-  pub counted : length outs ≡ count
-
-module _ {D : Type 0} (g : Ghosts D) (events : List Event) (i : ℕ) (e : Event) (is_next : e ≡ get_or events i e) (within : i < length events) (t : TerminalState) (j : StoreView D) (t' : TerminalState) (j' : StoreView D)
-    (before after : List (ℕ × List ℕ)) (so_far : Running g (take i events) i t j t' j' before after) (unmade : Bool) (out : Out) (t'' : TerminalState) (j'' : StoreView D)
-    (took : Took g (happening unmade e) out t' j' t'' j'') where
-  abbrev next : Happening
-  next = happening unmade e
-
-  of_events : AreOf (next ∷ so_far.ps) (take (i + 1) events)
-  of_events = subst (AreOf (next ∷ so_far.ps)) (sym (take_more events i e within ∙ ap (λ x. take i events ++ x ∷ []) (sym is_next))) (of_one_more so_far.ps (take i events) unmade e so_far.went.of_events)
-
-  ran : Ran g (next ∷ so_far.ps) t j t'' j'' (out ∷ so_far.outs)
-  ran = ran_more g so_far.ps so_far.outs next out t j t' j' t'' j'' so_far.went.ran took
-
-  pub running_next : (after' : List (ℕ × List ℕ)) → after' ≡ at_place (i + 1) (bytes_of out) ++ after → Running g (take (i + 1) events) (i + 1) t j t'' j'' before after'
-  running_next after' is = record {
-    ps = next ∷ so_far.ps;
-    outs = out ∷ so_far.outs;
-    went = record {
-      of_events = of_events;
-      ran = ran;
-      taken = is ∙ ap (λ n. at_place (n + 1) (bytes_of out) ++ after) (sym so_far.counted)
-          ∙ ap (λ l. at_place (length so_far.outs + 1) (bytes_of out) ++ l) so_far.went.taken
-          ∙ sym (append_assoc (at_place (length so_far.outs + 1) (bytes_of out)) (taken_of so_far.outs) before);
-    };
-    counted = omega (arith, so_far.counted);
-  }
-
-  pub stops : (after' : List (ℕ × List ℕ)) → after' ≡ after → bytes_of out ≢ [] → Stopped g (take (i + 1) events) t j t'' j'' before after'
-  stops after' is some = record {
-    happenings = next ∷ so_far.ps;
-    last = out;
-    outs = so_far.outs;
-    went = record { of_events = of_events; ran = ran; taken = is ∙ so_far.went.taken };
-    some = some;
   }

@@ -6,7 +6,7 @@ use Rattle.httparse.specs.Grammar.{ReadsRequest, RequestHead, print_request}
 use Rattle.httparse.specs.Spans.{IsRequestAt}
 use Rattle.httparse.specs.declared.spans.HeaderSpan.{HeaderSpan}
 use Rattle.httparse.specs.declared.spans.RequestSpans.{RequestSpans}
-use Rattle.wb_station.specs.Places.{IsReadAt}
+use Rattle.wb_station.specs.helpers.HeadPlaces.{IsReadAt}
 use Rattle.wb_station.specs.RequestBytes.{Reads, Received}
 
 front : (text rest more : List ℕ) → take (length text) ((text ++ rest) ++ more) ≡ text

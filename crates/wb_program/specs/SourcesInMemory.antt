@@ -4,7 +4,7 @@ use Rattle.wb_program.specs.declared.list_sources.Answered.{Answered}
 use Rattle.wb_program.specs.declared.list_sources.Answered.TheVariants as kept
 use Rattle.wb_program.specs.declared.list_sources.HandedIn.{HandedIn}
 use Rattle.wb_program.specs.declared.list_sources.HandedIn.TheVariants.{Reply, Response}
-use Rattle.wb_program.specs.Telling.{Answer, Handed, Told, asked, converted, timed, to_office, to_terminal, took}
+use Rattle.wb_program.specs.SourceAnswers.{Answer, Handed, Told, asked, converted, timed, to_office, to_terminal, took}
 
 abbrev pub answer_of : Answered → Answer
 answer_of (kept.Converter converter) = converted converter

@@ -15,9 +15,9 @@ use Rattle.wb_station.specs.Form.{IsPlain}
 use Rattle.wb_station.specs.Judgement.{MayWantMemory, allows, cut_short, first_fault, has_form, malformed_length, no_length, no_route, of_body, of_head, too_large, wrong_method}
 use Rattle.wb_station.specs.RequestBytes.{Reads, Received, fields}
 use Rattle.wb_station.specs.Routes.{method_of, route_of}
-use Rattle.wb_station.specs.Said.{said}
-use Rattle.wb_station.specs.Sought.{IsDecoded, sought, sought_on, with_length}
-use Rattle.wb_station.proofs.Judging.{first_of, last_mapped, mapped, not_below, not_both, said_with, steps, steps_at}
+use Rattle.wb_station.specs.helpers.LengthSaid.{said}
+use Rattle.wb_station.specs.helpers.AskedByHead.{IsDecoded, sought, sought_on, with_length}
+use Rattle.wb_station.proofs.judgement.AskedByHead.{first_of, last_mapped, mapped, not_below, not_both, said_with, steps, steps_at}
 
 -- the first fault, by what is known of a head
 abbrev pub known_fault : Option Route → Bool → Bool → Bool → List (List ℕ) → Option HttpFault

@@ -4,7 +4,7 @@ use Rattle.std.specs.Io.KnownBytes.{Appends}
 use Rattle.std.proofs.lemmas.List.{append-nil, take_more}
 use Rattle.wb_sics.specs.declared.reply.Reply.{Reply}
 use Rattle.wb_station.specs.Account.{Out}
-use Rattle.wb_program.specs.Printed.{printed, printed_line, printed_lines, printed_out, printed_replies, printed_reply}
+use Rattle.wb_program.specs.PrintedOutputs.{printed, printed_line, printed_lines, printed_out, printed_replies, printed_reply}
 
 pub Appends-none : (w : Option (List ℕ)) → Appends w w []
 Appends-none None = tt

@@ -12,7 +12,7 @@ use Rattle.wb_station.specs.Router.{table, ticket_pattern}
 use Rattle.wb_station.specs.Routes.{fixed_route, fixed_routes, is_segment, is_ticket_path, route_of_path}
 use Rattle.wb_station.specs.declared.routes.Route.{Route}
 use Rattle.wb_station.specs.declared.routes.Route.TheVariants.{Ticket}
-use Rattle.wb_station.proofs.Seeking.{Bytes, Hit, Simple, both, down_all, fits-param, fits-plain, not_true, seek-param, sound}
+use Rattle.wb_station.proofs.judgement.PatternRows.{Bytes, Hit, Simple, both, down_all, fits-param, fits-plain, not_true, seek-param, sound}
 
 fits_byte : (n : ℕ) → Fits w8 n → n < 256
 fits_byte n h = h.fits

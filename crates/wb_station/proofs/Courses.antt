@@ -13,7 +13,7 @@ use Rattle.wb_office.specs.Wanted.{Wanted, HasBound, IsWanted, wanted}
 use Rattle.wb_store.specs.Lists.{by_key, is_spent}
 use Rattle.wb_station.specs.declared.fault.HttpFault.{HttpFault}
 use Rattle.wb_station.specs.Account.{Account, ComesOf, IsAccount, Out, leaves, situation}
-use Rattle.wb_station.specs.Courses.{Adds, AreTurns, HasCourse, IsCourse, KeptForGood, SameAgain, journal_of, turn}
+use Rattle.wb_station.specs.CourseOfHistory.{Adds, AreTurns, HasCourse, IsCourse, KeptForGood, SameAgain, journal_of, turn}
 use Rattle.wb_station.specs.Happening.{Happening, reading, byte, hang_up, office}
 use Rattle.wb_station.specs.Judgement.{IsJudged}
 

@@ -6,11 +6,11 @@ use Rattle.std.proofs.lemmas.List.{append-nil, reverse-append, reverse-reverse, 
 use Rattle.sqlite.proofs.Callers.{memory_is_clean}
 use Rattle.sqlite.specs.Steps.{over_memory}
 use Rattle.sqlite_trees.specs.declared.memory.MemStore.{MemStore}
-use Rattle.wb_program.specs.Performed.{Performed}
+use Rattle.wb_program.specs.helpers.Performed.{Performed}
 use Rattle.wb_program.specs.Replayed.{Replayed, StopsAt, at_first}
 use Rattle.wb_program.specs.Trace.{both, trace_events}
 use Rattle.wb_program.specs.TraceLines.{line_events}
-use Rattle.wb_program.proofs.Passing.{Performed-append, Performed-none}
+use Rattle.wb_program.proofs.PerformedHappenings.{Performed-append, Performed-none}
 use Rattle.wb_sics.specs.Stands.{TerminalState}
 use Rattle.wb_station.specs.Happening.{Happening}
 use Rattle.wb_station.specs.Stands.{Hears, Stands}

@@ -5,12 +5,12 @@ use Rattle.std.specs.declared.result.Result.{Result}
 use Rattle.std.specs.Io.KnownBytes.{Appends}
 use Rattle.std.proofs.lemmas.List.{map-append, replicate_more, reverse-append, take_more}
 use Rattle.sqlite.specs.Store.{Ghosts}
-use Rattle.wb_program.specs.Performed.{Performed}
-use Rattle.wb_program.specs.Printed.{printed, printed_out}
+use Rattle.wb_program.specs.helpers.Performed.{Performed}
+use Rattle.wb_program.specs.PrintedOutputs.{printed, printed_out}
 use Rattle.wb_program.specs.TraceLines.{typed}
-use Rattle.wb_program.proofs.Writing.{Appends-append, Appends-none, printed-append}
+use Rattle.wb_program.proofs.WrittenTexts.{Appends-append, Appends-none, printed-append}
 use Rattle.wb_sics.specs.Stands.{TerminalState}
-use Rattle.wb_station.proofs.Runs.{ran_append, ran_more, ran_none, unmarked_happening}
+use Rattle.wb_station.proofs.offered.Runs.{ran_append, ran_more, ran_none, unmarked_happening}
 use Rattle.wb_station.specs.Account.{Out}
 use Rattle.wb_station.specs.declared.event.Event.{Event}
 use Rattle.wb_station.specs.Happening.{Happening, byte, happening, unmarked}

@@ -5,7 +5,8 @@ use Rattle.std.specs.Str.Lines.{lines}
 use Rattle.wb_instrument.specs.Setup.{Setup}
 use Rattle.wb_program.specs.declared.replaying.ReplayEnd.{ReplayEnd}
 use Rattle.wb_program.specs.declared.replaying.ReplayEnd.TheVariants.{Done, BadLine, TooLong, ReadFault, WriteFault, Memory}
-use Rattle.wb_program.specs.Replayed.{Ends, EndsOn, IsUntouched, ReplaysLines, WasRun}
+use Rattle.wb_program.specs.Replayed.{Ends, EndsOn, IsUntouched, ReplaysLines}
+use Rattle.wb_program.specs.helpers.RunEnds.{WasRun}
 
 ended_on : (end : ReplayEnd) (s : Setup) (w w' : Option (List ℕ)) (trace : List ℕ) → WasRun end → length trace ≤ 1048576 → ReplaysLines end s (lines trace) w w' → EndsOn end s w w' trace
 ended_on Done s w w' trace run short did = (short, did)

@@ -18,11 +18,11 @@ use Rattle.wb_station.specs.BodyLength.{are_wrong, first_number, is_encoded, is_
 use Rattle.wb_station.specs.Judgement.{IsJudged, cut_short, first_fault, headless, judged, judgement, malformed_length, no_length, no_route, of_body, of_head, too_large, wrong_method}
 use Rattle.wb_station.specs.RequestBytes.{IsRead, Reads, Received, fields}
 use Rattle.wb_station.specs.Routes.{method_of, route_of}
-use Rattle.wb_station.specs.Said.{said}
-use Rattle.wb_station.specs.Sought.{answered, answered_by, sought, sought_on, whole_by, with_length}
-use Rattle.wb_station.specs.Whole.{OneJudgement, WholeStays, is_whole}
-use Rattle.wb_station.proofs.Judging.{first_of, judged_by_steps, last_mapped, mapped, not_both, said_with, steps, steps_at}
-use Rattle.wb_station.proofs.Passing.{fault_by_steps, fault_in, fault_with, known_fault}
+use Rattle.wb_station.specs.helpers.LengthSaid.{said}
+use Rattle.wb_station.specs.helpers.AskedByHead.{answered, answered_by, sought, sought_on, whole_by, with_length}
+use Rattle.wb_station.specs.WholeRequests.{OneJudgement, WholeStays, is_whole}
+use Rattle.wb_station.proofs.judgement.AskedByHead.{first_of, judged_by_steps, last_mapped, mapped, not_both, said_with, steps, steps_at}
+use Rattle.wb_station.proofs.judgement.FirstFaults.{fault_by_steps, fault_in, fault_with, known_fault}
 
 -- ---- the fault of a head alone
 

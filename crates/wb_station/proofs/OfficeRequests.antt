@@ -42,10 +42,10 @@ use Rattle.wb_station.specs.declared.fault.HttpFault.TheVariants.{BadField, Head
 use Rattle.wb_station.specs.Account.{Account, Comes, IsAccount, IsResponse, Out, leaves, responded, situation}
 use Rattle.wb_station.specs.Happening.{Happening, office}
 use Rattle.wb_station.specs.Judgement.{IsJudged, MayWantMemory}
-use Rattle.wb_station.specs.Refused.{IsOf}
+use Rattle.wb_station.specs.UnlessMemoryRefused.{IsOf}
 use Rattle.wb_station.specs.Response.{is_export, response_text, told_fault, told_result}
 use Rattle.wb_station.specs.Stands.{Hears, IsKept, IsLedTo, LeavesSoon, MustBeUnmade, OneMore, Stands, Took}
-use Rattle.wb_station.specs.Whole.{OneJudgement}
+use Rattle.wb_station.specs.WholeRequests.{OneJudgement}
 use Rattle.wb_station.proofs.Accounts.{quiet_took}
 
 -- ---- exports change nothing
