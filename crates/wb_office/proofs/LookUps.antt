@@ -8,7 +8,7 @@ use Rattle.wb_store.specs.Faults.{closed_by}
 use Rattle.wb_store.specs.Journal.{IsHonest, StoreView, Stands}
 use Rattle.wb_store.specs.Keeping.{Closes, Keeps}
 use Rattle.wb_store.specs.Rows.{SpentKey}
-use Rattle.wb_office.specs.Looks.{Looks}
+use Rattle.wb_office.specs.helpers.LookUps.{LooksUp}
 
 the_fault : {X : Type 0} → Result X StoreFault → StoreFault
 the_fault (Ok x) = Disk
@@ -96,23 +96,23 @@ module _ {D : Type 0} (g : Ghosts D) where
   }
 
   -- a refused look-up has told nothing
-  pub nothing_told : {old new : StoreView D} {X : Type 0} {f : StoreFault} {P : List EntryParts → List SpentKey → X → Type 0} → Reads old new {X = X} (Err f) → Looks g old new (Err f) P
+  pub nothing_told : {old new : StoreView D} {X : Type 0} {f : StoreFault} {P : List EntryParts → List SpentKey → X → Type 0} → Reads old new {X = X} (Err f) → LooksUp g old new (Err f) P
   nothing_told l = record { tells = λ es ks s h. _; keeps = l.keeps; closes = l.closes }
 
   -- what a look-up tells
   pub told : {old new : StoreView D} {X : Type 0} {x : X} {P : List EntryParts → List SpentKey → X → Type 0} → Reads old new {X = X} (Ok x)
-      → ((es : List EntryParts) (ks : List SpentKey) → Stands g old es ks → IsHonest g new → P es ks x) → Looks g old new (Ok x) P
+      → ((es : List EntryParts) (ks : List SpentKey) → Stands g old es ks → IsHonest g new → P es ks x) → LooksUp g old new (Ok x) P
   told l tells = record { tells = tells; keeps = l.keeps; closes = l.closes }
 
   -- something is made of what was found, unless memory is refused
   pub worked_out : {old new : StoreView D} {X Y : Type 0} {x : X} {P : List EntryParts → List SpentKey → Y → Type 0} {Q : Y → Type 0} (r : Result Y StoreFault) → Reads old new {X = X} (Ok x)
-      → MatchResult r Q (λ f. f ≡ Memory) → ((y : Y) → Q y → (es : List EntryParts) (ks : List SpentKey) → Stands g old es ks → IsHonest g new → P es ks y) → Looks g old new r P
+      → MatchResult r Q (λ f. f ≡ Memory) → ((y : Y) → Q y → (es : List EntryParts) (ks : List SpentKey) → Stands g old es ks → IsHonest g new → P es ks y) → LooksUp g old new r P
   worked_out {x = x} (Ok y) l q tells = told (made x y l) (tells y q)
   worked_out (Err f) l q tells = rw q (nothing_told (wanting l))
 
   -- what a later look-up tells, together with what was found before
   pub then_told : {old mid new : StoreView D} {X Y : Type 0} {x : X} {r : Result Y StoreFault} {P Q : List EntryParts → List SpentKey → Y → Type 0} → Reads old mid {X = X} (Ok x)
-      → Looks g mid new r P → ((es : List EntryParts) (ks : List SpentKey) → Stands g old es ks → IsHonest g mid → (y : Y) → P es ks y → Q es ks y) → Looks g old new r Q
+      → LooksUp g mid new r P → ((es : List EntryParts) (ks : List SpentKey) → Stands g old es ks → IsHonest g mid → (y : Y) → P es ks y → Q es ks y) → LooksUp g old new r Q
   then_told {r = r} {P = P} {Q = Q} first next follows = record {
     tells = λ es ks s h. if_ok_map (P es ks) (Q es ks) r (follows es ks s (next.closes.honest h)) (next.tells es ks (stood first s (next.closes.honest h)) h);
     keeps = (also first (reads next.keeps next.closes)).keeps;

@@ -18,13 +18,13 @@ use Rattle.wb_office.specs.declared.refusal.Refusal.{Refusal}
 use Rattle.wb_office.specs.declared.refusal.Refusal.TheVariants.{Store}
 use Rattle.wb_office.specs.declared.request.Request.{Request}
 use Rattle.wb_office.specs.Answer.{Told, answer_of, asking, entries_after, marks_by, text_of}
-use Rattle.wb_office.specs.Asking.{Situation}
+use Rattle.wb_office.specs.Situation.{Situation, IsOnLists}
 use Rattle.wb_office.specs.Conditions.{holds_of}
-use Rattle.wb_office.specs.Judged.{AsksFor, IsAccepted, IsOnLists, IsOnScale}
-use Rattle.wb_office.specs.Serves.{IsNow, Marks, Serves, Wanted, closed_by, fault_of_refusal, is_of_store, is_store_refusal, told, told_of}
+use Rattle.wb_office.specs.helpers.JudgedByVerdict.{AsksFor, IsAccepted, IsOnScale}
+use Rattle.wb_office.specs.Serves.{IsNow, Marks, Serves, closed_by, fault_of_refusal, is_of_store, is_store_refusal, told, told_of}
+use Rattle.wb_office.specs.Wanted.{Wanted, HasBound, IsWanted, wanted}
 use Rattle.wb_office.specs.Verdict.{Verdict, accepted, verdict}
-use Rattle.wb_office.specs.Wanting.{HasBound, IsWanted, wanted}
-use Rattle.wb_office.specs.Weighing.{IsWeighingWanted, wanted_by}
+use Rattle.wb_office.specs.helpers.WeighingWanted.{IsWeighingWanted, wanted_by}
 use Rattle.wb_office.proofs.LookUps.{Reads, ok_is_no_fault, stood}
 
 -- ---- what is asked for in a situation

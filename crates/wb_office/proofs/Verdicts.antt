@@ -4,11 +4,11 @@ use Rattle.wb_journal.specs.declared.entry.EntryParts.{EntryParts}
 use Rattle.wb_store.specs.Lists.{by_key}
 use Rattle.wb_office.specs.declared.refusal.Refusal.{Refusal}
 use Rattle.wb_office.specs.declared.refusal.Refusal.TheVariants as refusal
-use Rattle.wb_office.specs.Asking.{Asking}
+use Rattle.wb_office.specs.Situation.{Asking}
 use Rattle.wb_office.specs.Conditions.{gone, is_damaged, is_other}
 use Rattle.wb_office.specs.Laws.{KeyDecides}
 use Rattle.wb_office.specs.Verdict.{accepted, first_refusal, new_entry, of_new, on_new, refused, repeated, verdict}
-use Rattle.wb_office.proofs.Found.{found_unspent}
+use Rattle.wb_office.proofs.FoundEntries.{found_unspent}
 
 -- the key is that of an entry
 pub by_other : (a : Asking) (e : EntryParts) → by_key a.now.entries a.key ≡ Some e → is_other a e ≡ true → verdict a ≡ refused refusal.KeyReused

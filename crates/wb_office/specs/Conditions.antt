@@ -17,7 +17,7 @@ use Rattle.wb_scale.specs.Moment.{readings}
 use Rattle.wb_scale.specs.Tare.{is_preset, is_weighed, tare_now}
 use Rattle.wb_store.specs.Lists.{by_key, is_spent, newest, next_number}
 use Rattle.wb_window.specs.Stability.{is_stable}
-use Rattle.wb_office.specs.Asking.{Asking}
+use Rattle.wb_office.specs.Situation.{Asking}
 
 -- it holds of what is there; where nothing is there it doesn't
 abbrev pub holds_of : {X : Type 0} → (X → Bool) → Option X → Bool

@@ -21,9 +21,9 @@ use Rattle.wb_office.specs.declared.refusal.Refusal.TheVariants as refusal
 use Rattle.wb_office.specs.declared.request.Request.{Request}
 use Rattle.wb_office.specs.declared.request.Request.TheVariants.{Purge}
 use Rattle.wb_office.specs.Answer.{IsBoundAt, Told, entries_left, has_ticket, spent_left, ticket_answer}
-use Rattle.wb_office.specs.Asking.{Asking, Situation}
+use Rattle.wb_office.specs.Situation.{Asking, Situation}
 use Rattle.wb_office.specs.Conditions.{is_damaged, is_other, places}
-use Rattle.wb_office.specs.Course.{AreBounds, Journal, Turn, added, additions, after, answer_in, left, situation}
+use Rattle.wb_office.specs.CourseOfRequests.{AreBounds, Journal, Turn, added, additions, after, answer_in, left, situation}
 use Rattle.wb_office.specs.Verdict.{first_refusal, kilograms, of_new, on_new, refused, repeated, verdict}
 
 -- ---- keys

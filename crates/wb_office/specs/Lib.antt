@@ -1,19 +1,17 @@
-pub mod Answer
-pub mod Asking
+-- What the office is asked on, when it refuses, and what else it answers.
+pub mod Situation
 pub mod Conditions
-pub mod Course
-pub mod Exports
-pub mod Judged
-pub mod Judging
-pub mod Laws
-pub mod Looks
-pub mod Outright
-pub mod Pairing
-pub mod Purging
-pub mod RefusalText
-pub mod Serves
-pub mod Shows
-pub mod Stops
 pub mod Verdict
-pub mod Wanting
-pub mod Weighing
+pub mod Exports
+pub mod Answer
+pub mod RefusalText
+-- What a request leaves of the store and the scale.
+pub mod Wanted
+pub mod Serves
+pub mod WithoutStore
+-- Requests one after the other, stops among them, and the laws on them.
+pub mod CourseOfRequests
+pub mod Laws
+pub mod Stops
+-- What private functions' contracts need besides.
+pub mod helpers

@@ -7,7 +7,7 @@ use Rattle.wb_scale.specs.History.{moments}
 use Rattle.wb_scale.specs.Stands.{Stands as StandsAfter, Takes}
 use Rattle.wb_scale.specs.State.{State}
 use Rattle.wb_store.specs.declared.fault.StoreFault.{StoreFault}
-use Rattle.wb_store.specs.declared.fault.StoreFault.TheVariants.{Closed, Memory}
+use Rattle.wb_store.specs.declared.fault.StoreFault.TheVariants.{Closed}
 use Rattle.wb_store.specs.Faults.{is_disk}
 use Rattle.wb_store.specs.Journal.{IsHonest, StoreView, Stands}
 use Rattle.wb_store.specs.Keeping.{LeavesEither, LeavesOnly}
@@ -17,8 +17,9 @@ use Rattle.wb_office.specs.declared.answer.Answer.TheVariants.{Slip, Ticket, Tex
 use Rattle.wb_office.specs.declared.refusal.Refusal.{Refusal}
 use Rattle.wb_office.specs.declared.refusal.Refusal.TheVariants.{Store}
 use Rattle.wb_office.specs.Answer.{Told, csv_told, damaged_told, purged_told, slip_told, sound_told, text_told, ticket_told}
-use Rattle.wb_office.specs.Asking.{Situation}
+use Rattle.wb_office.specs.Situation.{Situation}
 use Rattle.wb_office.specs.Conditions.{holds_of}
+use Rattle.wb_office.specs.Wanted.{Wanted}
 
 -- what an answer tells
 abbrev pub told : Answer → Told
@@ -46,14 +47,6 @@ abbrev pub is_store_refusal : Result Answer Refusal → Bool
 is_store_refusal (Ok answer) = false
 is_store_refusal (Err why) = is_of_store why
 
--- it is answered so, unless the store refuses
-abbrev pub Tells : Result Answer Refusal → Result Told Refusal → Type 0
-Tells result want = is_store_refusal result ≡ false → told_of result ≡ want
-
--- if the store refuses, it is for want of memory
-abbrev pub WantsMemory : Result Answer Refusal → Type 0
-WantsMemory result = is_store_refusal result ≡ true → result ≡ Err (Store Memory)
-
 -- a fault of the disk is the one that closes the store
 abbrev pub closes_store : Refusal → Bool
 closes_store why = holds_of is_disk (fault_of_refusal why)
@@ -74,13 +67,6 @@ pub record IsNow (scale : State) (at : ℕ) (w : Situation) : Type 0 where
 abbrev pub Marks : State → State → Bool → Type 0
 Marks before after true = Takes before after stored
 Marks before after false = after ≡ before
-
--- what is wanted in a situation: an answer, the lists that it leaves, and whether the scale is marked
-pub record Wanted : Type 0 where
-  pub answer : Result Told Refusal
-  pub entries : List EntryParts
-  pub spent : List SpentKey
-  pub marks : Bool
 
 module _ {D : Type 0} (g : Ghosts D) (old new : StoreView D) (before after : State) (at : ℕ) (result : Result Answer Refusal) where
   -- it is answered as is wanted, and what is wanted is left

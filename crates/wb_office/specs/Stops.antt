@@ -15,13 +15,12 @@ use Rattle.wb_office.specs.declared.refusal.Refusal.TheVariants as refusal
 use Rattle.wb_office.specs.declared.request.Request.{Request}
 use Rattle.wb_office.specs.declared.request.Request.TheVariants.{Weigh, VoidOpen}
 use Rattle.wb_office.specs.Answer.{Told, answer, answer_of, text_of}
-use Rattle.wb_office.specs.Asking.{Asking}
+use Rattle.wb_office.specs.Situation.{Asking, IsOnLists}
 use Rattle.wb_office.specs.Conditions.{is_damaged, is_other}
-use Rattle.wb_office.specs.Course.{Journal, Turn, left, situation}
-use Rattle.wb_office.specs.Judged.{IsOnLists}
+use Rattle.wb_office.specs.CourseOfRequests.{Journal, Turn, left, situation}
 use Rattle.wb_office.specs.Serves.{IsNow, Serves}
 use Rattle.wb_office.specs.Verdict.{first_refusal, of_new, on_new}
-use Rattle.wb_office.specs.Wanting.{HasBound, IsWanted}
+use Rattle.wb_office.specs.Wanted.{HasBound, IsWanted}
 
 -- the request asks for this entry
 abbrev pub Asks : Request → Asking → Type 0

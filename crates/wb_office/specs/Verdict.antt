@@ -12,7 +12,7 @@ use Rattle.wb_scale.specs.Tare.{tare_now}
 use Rattle.wb_store.specs.Lists.{by_key, next_number}
 use Rattle.wb_office.specs.declared.refusal.Refusal.{Refusal}
 use Rattle.wb_office.specs.declared.refusal.Refusal.TheVariants.{KeyReused, Gone, ClockBack, NoLoad, Overload, Underload, Unstable, BelowMin, TareActive, NoPreset, NotCleared, AlreadyOpen, NoOpen, JournalFull, Damaged}
-use Rattle.wb_office.specs.Asking.{Asking}
+use Rattle.wb_office.specs.Situation.{Asking}
 use Rattle.wb_office.specs.Conditions.{already_open, below_min, clock_back, damaged_first, damaged_repetition, gone, journal_full, key_reused, no_load, no_open, no_preset, not_cleared, overload, tare_active, underload, unstable}
 
 -- a refusal, with the condition on which it comes

@@ -2,8 +2,9 @@
 ghost use Rattle.std.specs.Prelude.{◌≡◌, ℕ, IfOk, List, Ok};
 ghost use Rattle.wb_journal.specs.Rising.{IsRising};
 ghost use Rattle.wb_office.specs.Answer.{csv_told, tickets_answer};
-ghost use Rattle.wb_office.specs.Serves.{Serves, Tells, WantsMemory};
-ghost use Rattle.wb_office.specs.Wanting.{IsWanted};
+ghost use Rattle.wb_office.specs.Serves.{Serves};
+ghost use Rattle.wb_office.specs.helpers.WantOfMemory.{Tells, WantsMemory};
+ghost use Rattle.wb_office.specs.Wanted.{IsWanted};
 ghost use Rattle.wb_office.specs.declared.request.Request.TheVariants as request;
 ghost use Rattle.wb_scale.specs.State.{State};
 

@@ -1,11 +1,12 @@
 //! The conditions on which a weighing or void whose key is new is refused, in their order.
 ghost use Rattle.std.specs.Prelude.{◌≡◌, ◌+◌, ◌&&◌, IfSome, None, false, nat_lt, not};
 ghost use Rattle.wb_journal.specs.Kind.{is_second as is_second_kind, is_void};
-ghost use Rattle.wb_office.specs.Asking.{Asking};
+ghost use Rattle.wb_office.specs.Situation.{Asking};
 ghost use Rattle.wb_office.specs.Conditions.{already_open, clock_back, damaged_first, journal_full, no_open, no_preset, not_cleared, places_of as places_needed, tare_active};
-ghost use Rattle.wb_office.specs.Judging.{is_preset_below_shown, of_journal, of_load, of_tare, refusal_of_shown};
+ghost use Rattle.wb_office.specs.helpers.ConditionGroups.{of_journal, of_load, of_tare};
+ghost use Rattle.wb_office.specs.helpers.IndicatedLoad.{is_preset_below_shown, refusal_of_shown};
 ghost use Rattle.wb_office.specs.Serves.{is_of_store};
-ghost use Rattle.wb_office.specs.Shows.{Shows};
+ghost use Rattle.wb_office.specs.helpers.EvidenceShown.{Shows};
 ghost use Rattle.wb_office.specs.Verdict.{first_refusal, of_new};
 
 use crate::evidence::{Evidence, OfJournal};

@@ -4,12 +4,12 @@ ghost use Rattle.std.specs.Option.{option_copied};
 ghost use Rattle.wb_journal.specs.Digest.{is_sound as is_sound_entry};
 ghost use Rattle.wb_journal.specs.Kind.{same_kind};
 ghost use Rattle.wb_journal.specs.Pairs.{partner_of};
-ghost use Rattle.wb_office.specs.Asking.{Asking};
+ghost use Rattle.wb_office.specs.Situation.{Asking, IsOnLists};
 ghost use Rattle.wb_office.specs.Conditions.{gone, holds_of, is_other};
-ghost use Rattle.wb_office.specs.Judging.{is_damaged_with};
-ghost use Rattle.wb_office.specs.Judged.{AsksFor, IsJudged, IsOnLists, IsOnScale, is_plain};
-ghost use Rattle.wb_office.specs.Looks.{Looks};
-ghost use Rattle.wb_office.specs.Shows.{Shows, ShowsScale};
+ghost use Rattle.wb_office.specs.helpers.Partners.{is_damaged_with};
+ghost use Rattle.wb_office.specs.helpers.JudgedByVerdict.{AsksFor, IsJudged, IsOnScale, is_plain};
+ghost use Rattle.wb_office.specs.helpers.LookUps.{LooksUp};
+ghost use Rattle.wb_office.specs.helpers.EvidenceShown.{Shows, ShowsScale};
 ghost use Rattle.wb_scale.specs.Indication.{IsInRange};
 ghost use Rattle.wb_scale.specs.Tare.{IsTare};
 ghost use Rattle.wb_store.specs.Lists.{AreLists, by_key};
@@ -102,7 +102,7 @@ pub(crate) fn judge<W: Window, D: Alter>(
     scale: &Scale<W>,
     asked: Asked,
 ) -> Result<Judgement, StoreFault>
-    ensures looks { Looks D.Store store.old store.new result (λ es ks judgement. (a : Asking)
+    ensures looks { LooksUp D.Store store.old store.new result (λ es ks judgement. (a : Asking)
         → AsksFor asked a → IsOnScale scale.now a → IsOnLists es ks a → IsJudged judgement a) }
     ensures plain { IfOk result (λ judgement. is_plain judgement ≡ true) }
 {
@@ -121,7 +121,7 @@ fn judge_new<W: Window, D: Alter>(
     scale: &Scale<W>,
     asked: Asked,
 ) -> Result<Judgement, StoreFault>
-    ensures looks { Looks D.Store store.old store.new result (λ es ks judgement. (a : Asking)
+    ensures looks { LooksUp D.Store store.old store.new result (λ es ks judgement. (a : Asking)
         → AsksFor asked a → IsOnScale scale.now a → IsOnLists es ks a
         → by_key a.now.entries a.key ≡ None → IsJudged judgement a) }
     ensures plain { IfOk result (λ judgement. is_plain judgement ≡ true) }

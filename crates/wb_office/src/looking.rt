@@ -1,6 +1,6 @@
 //! What the store shows of a journal.
-ghost use Rattle.wb_office.specs.Looks.{Looks};
-ghost use Rattle.wb_office.specs.Shows.{ShowsJournal};
+ghost use Rattle.wb_office.specs.helpers.LookUps.{LooksUp};
+ghost use Rattle.wb_office.specs.helpers.EvidenceShown.{ShowsJournal};
 
 use crate::evidence::OfJournal;
 use sqlite::Alter;
@@ -12,7 +12,7 @@ pub(crate) fn look_at_journal<D: Alter>(
     store: &mut Store<D>,
     plate: &Plate,
 ) -> Result<OfJournal, StoreFault>
-    ensures { Looks D.Store store.old store.new result (λ entries spent journal.
+    ensures { LooksUp D.Store store.old store.new result (λ entries spent journal.
         ShowsJournal journal plate.now entries spent) }
 {
     let newest = store.newest()?;

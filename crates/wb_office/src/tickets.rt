@@ -5,10 +5,10 @@ ghost use Rattle.wb_journal.specs.Kind.{is_second as is_second_kind, is_single a
 ghost use Rattle.wb_journal.specs.Pairs.{partner as partner_in};
 ghost use Rattle.wb_journal.specs.declared.entry.EntryParts.{EntryParts};
 ghost use Rattle.wb_office.specs.Answer.{ticket_of};
-ghost use Rattle.wb_office.specs.Looks.{Looks};
-ghost use Rattle.wb_office.specs.Pairing.{IsPairOf, IsPaired};
+ghost use Rattle.wb_office.specs.helpers.LookUps.{LooksUp};
+ghost use Rattle.wb_office.specs.helpers.Partners.{IsPairOf, IsPaired};
 ghost use Rattle.wb_office.specs.Serves.{Serves, is_store_refusal, told_of};
-ghost use Rattle.wb_office.specs.Wanting.{IsWanted};
+ghost use Rattle.wb_office.specs.Wanted.{IsWanted};
 ghost use Rattle.wb_office.specs.declared.request.Request.TheVariants as request;
 ghost use Rattle.wb_scale.specs.State.{State};
 
@@ -39,7 +39,7 @@ pub(crate) fn answer_ticket<D: Alter>(store: &mut Store<D>, number: u32) -> Resu
 
 /// The entry of a number, with its partner.
 fn find_pair<D: Alter>(store: &mut Store<D>, number: u32) -> Result<Option<Pair>, StoreFault>
-    ensures { Looks D.Store store.old store.new result (λ es ks found. IsPairOf es number found) }
+    ensures { LooksUp D.Store store.old store.new result (λ es ks found. IsPairOf es number found) }
 {
     match store.by_number(number)? {
         Some(entry) => {

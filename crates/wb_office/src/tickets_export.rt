@@ -2,7 +2,8 @@
 ghost use Rattle.std.specs.Option.{option_copied};
 ghost use Rattle.std.specs.Prelude.{◌≡◌, ◌++◌, IfOk, max, min};
 ghost use Rattle.wb_journal.specs.Rising.{IsRising};
-ghost use Rattle.wb_office.specs.Exports.{of_both, pair_record, preset_record, record_text, record_with, ticket_columns, tickets_csv};
+ghost use Rattle.wb_office.specs.Exports.{of_both, pair_record, preset_record, record_with, ticket_columns, tickets_csv};
+ghost use Rattle.wb_office.specs.helpers.ExportRecord.{record_text};
 
 use crate::answer::CsvText;
 use crate::export::{Export, Fields};

@@ -1,4 +1,5 @@
-use Rattle.std.proofs.Common.{◌≡◌, ◌<◌, ℕ, ◌==◌, Bool, true, false, cond, List, [], ◌∷◌, length, refl, ◌∙◌, ap, arith}
+-- The first line of a text, and the lines after it.
+use Rattle.std.proofs.Common.{◌≡◌, ◌<◌, ℕ, ◌==◌, Bool, true, false, cond, List, [], ◌∷◌, length, refl, ◌∙◌, ap, arith, length-drop, ◌+◌, suc, ◌&&◌}
 use Rattle.std.specs.Prelude.{is_some, nat_lt, not, All}
 use Rattle.std.specs.List.{position, position_or_len, before_first, after_first, slice_split, onto_first, prefix_len, list_all}
 use Rattle.std.specs.Str.Lines.{lines, lines_of_parts, strip_carriage_return}
@@ -6,7 +7,6 @@ use Rattle.std.proofs.lemmas.List.Splits.{slice_split_first, slice_split_none}
 use Rattle.std.proofs.lemmas.Bool.Decides.{nat_tests}
 use Rattle.std.proofs.lemmas.List.Elements.{All-weaker}
 use Rattle.std.proofs.lemmas.List.Sums.{AllPass-from_list_all}
-use Rattle.std.proofs.Common.{length-drop, ◌+◌, suc, ◌&&◌}
 
 abbrev line_feed : ℕ → Bool
 line_feed b = b == 10

@@ -1,10 +1,10 @@
-pub mod Ending
-pub mod FirstLine
-pub mod LineKinds
-pub mod Passing
-pub mod Progress
-pub mod Recording
-pub mod Told
-pub mod Turns
-pub mod Typing
-pub mod Writing
+mod FirstLine
+mod LineKinds
+mod PerformedHappenings
+mod ReplayedLines
+mod SourceAnswers
+mod SourcesInMemory
+mod TraceEnds
+mod Turns
+mod TypedTexts
+mod WrittenTexts

@@ -7,10 +7,10 @@ use Rattle.wb_program.specs.declared.replaying.ReplayEnd.{ReplayEnd}
 use Rattle.wb_program.specs.declared.replaying.ReplayEnd.TheVariants.{Done, BadLine, TooLong, ReadFault, WriteFault, Memory}
 use Rattle.wb_program.specs.TraceLines.{line_events}
 use Rattle.wb_program.specs.Trace.{trace_events, trace_limit}
-use Rattle.wb_program.specs.Printed.{printed}
+use Rattle.wb_program.specs.PrintedOutputs.{printed}
 use Rattle.wb_station.specs.Account.{Account, Out, opened}
 use Rattle.wb_station.specs.Happening.{Happening, unmarked}
-use Rattle.wb_station.specs.Running.{AreOuts, AreReplies}
+use Rattle.wb_station.specs.RunOfEvents.{AreOuts, AreReplies}
 use Rattle.wb_station.specs.Unmade.{AllMayBeUnmade}
 
 -- a journal without entries, and a terminal to which nothing has come
@@ -43,15 +43,6 @@ ReplaysLines TooLong s ls w w' = Unit {0}
 ReplaysLines ReadFault s ls w w' = Unit {0}
 ReplaysLines WriteFault s ls w w' = Unit {0}
 ReplaysLines Memory s ls w w' = Unit {0}
-
--- the lines of a trace were run
-abbrev pub WasRun : ReplayEnd → Type 0
-WasRun Done = Unit {0}
-WasRun (BadLine n) = Unit {0}
-WasRun TooLong = ⊥
-WasRun ReadFault = ⊥
-WasRun WriteFault = Unit {0}
-WasRun Memory = ⊥
 
 -- nothing is written where no line is run
 abbrev pub IsUntouched : ReplayEnd → Option (List ℕ) → Option (List ℕ) → Type 0

@@ -1,18 +1,15 @@
 -- What serving did.
-use Rattle.std.specs.Prelude.{◌≡◌, ◌<◌, ◌⊎◌, ⊤, ℕ, List, [], ◌∷◌, ◌++◌, length, map, Option, Some, None, Ok, Err}
-use Rattle.std.specs.declared.result.Result.{Result}
+use Rattle.std.specs.Prelude.{◌≡◌, ◌<◌, ◌⊎◌, ℕ, List, ◌∷◌, ◌++◌, length, map, Option, Some, None}
 use Rattle.sqlite.specs.Store.{Ghosts}
 use Rattle.wb_program.specs.declared.serving.ServeEnd.{ServeEnd}
 use Rattle.wb_program.specs.declared.serving.ServeEnd.TheVariants as end
-use Rattle.wb_program.specs.declared.serving.Stop.{Stop}
-use Rattle.wb_program.specs.declared.serving.Stop.TheVariants as stop
 use Rattle.wb_program.specs.declared.sources.Converter.TheVariants.{End, Fault}
-use Rattle.wb_program.specs.Telling.{Answer, Tells, Told, asked, converted, timed}
-use Rattle.wb_program.specs.Turns.{Begun, Turn, all_handed_on, answers_begun, answers_of, answers_of_turn, happenings_begun, happenings_of, happenings_of_turn}
+use Rattle.wb_program.specs.SourceAnswers.{Answer, Tells, Told, asked, converted, timed}
+use Rattle.wb_program.specs.Turns.{Begun, Turn, all_handed_on, answers_begun, answers_of, happenings_begun, happenings_of}
 use Rattle.wb_sics.specs.Stands.{TerminalState}
 use Rattle.wb_station.specs.Account.{Out}
 use Rattle.wb_station.specs.Happening.{Happening, unmarked}
-use Rattle.wb_station.specs.Running.{Ran}
+use Rattle.wb_station.specs.RunOfEvents.{Ran}
 use Rattle.wb_store.specs.Journal.{StoreView}
 
 -- how serving for at most so many turns ends, after these whole turns, the newest first, with these answers and happenings
@@ -27,15 +24,6 @@ EndsAfter turns limit end.ClockFault answers happened =
     × (begun : Begun) × (happened ≡ happenings_begun begun ++ happenings_of turns)
     × (bytes : List ℕ) × (answers ≡ timed None ∷ asked (Some bytes) ∷ answers_begun begun ++ answers_of turns)
 
--- the same of one turn, which is whole or stops
-abbrev pub TurnEnds : Result ⊤ Stop → List Answer → List Happening → Type 0
-TurnEnds (Ok _) answers happened = (turn : Turn) × (answers ≡ answers_of_turn turn) × (happened ≡ happenings_of_turn turn)
-TurnEnds (Err stop.ConverterEnd) answers happened = (answers ≡ converted End ∷ []) × (happened ≡ [])
-TurnEnds (Err stop.ConverterFault) answers happened = (answers ≡ converted Fault ∷ []) × (happened ≡ [])
-TurnEnds (Err stop.ClockFault) answers happened =
-    (begun : Begun) × (happened ≡ happenings_begun begun)
-    × (bytes : List ℕ) × (answers ≡ timed None ∷ asked (Some bytes) ∷ answers_begun begun)
-
 module _ {D : Type 0} (g : Ghosts D) (t : TerminalState) (j : StoreView D) (t' : TerminalState) (j' : StoreView D) (old new : Option Told) where
   -- what happened, the newest first, led from one station to the other, but for the marks, and what was put out was handed on
   pub record Handled (answers : List Answer) (happened : List Happening) : Type 0 where
@@ -45,12 +33,7 @@ module _ {D : Type 0} (g : Ghosts D) (t : TerminalState) (j : StoreView D) (t' :
     pub ran : Ran g happenings t j t' j' outs
     pub told : Tells answers (all_handed_on outs) old new
 
-  pub record TurnServed (result : Result ⊤ Stop) : Type 0 where
-    pub answers : List Answer
-    pub happened : List Happening
-    pub handled : Handled answers happened
-    pub ends : TurnEnds result answers happened
-
+  -- serving for at most so many turns ended so
   pub record Served (limit : ℕ) (end : ServeEnd) : Type 0 where
     pub answers : List Answer
     pub happened : List Happening

@@ -4,7 +4,7 @@ ghost use Rattle.std.specs.Prelude.{◌≡◌, ◌≢◌, ◌++◌, ℕ, IfErr, 
 ghost use Rattle.wb_journal.specs.Check.{check as check_of};
 ghost use Rattle.wb_journal.specs.Rising.{IsRising};
 ghost use Rattle.wb_journal.specs.declared.entry.EntryParts.{EntryParts};
-ghost use Rattle.wb_program.specs.Printouts.{export_text, finding_line, is_sound};
+ghost use Rattle.wb_program.specs.CheckAndExports.{export_text, finding_line, is_sound};
 ghost use Rattle.wb_program.specs.declared.commands.PrintFault.TheVariants as fault;
 ghost use Rattle.wb_store.specs.Journal.{IsHonest, Stands};
 ghost use Rattle.wb_store.specs.Rows.{SpentKey};

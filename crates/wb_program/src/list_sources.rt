@@ -1,7 +1,7 @@
 //! Sources in memory.
 ghost use Rattle.std.specs.Prelude.{◌≡◌, ◌≤◌, ◌∷◌, [], false, length};
-ghost use Rattle.wb_program.specs.Recorded.{answer_of, handed_of, told_of};
-ghost use Rattle.wb_program.specs.Telling.{IsConverted, Tells, timed};
+ghost use Rattle.wb_program.specs.SourcesInMemory.{answer_of, handed_of, told_of};
+ghost use Rattle.wb_program.specs.SourceAnswers.{IsConverted, Tells, timed};
 
 use crate::sources::{Converter, REQUEST_ROOM, Sources, TERMINAL_ROOM, Taken};
 use std::alloc::Global;

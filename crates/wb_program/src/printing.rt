@@ -2,8 +2,8 @@
 ghost use Rattle.std.specs.Io.KnownBytes.{Appends};
 ghost use Rattle.std.specs.Prelude.{◌≡◌, OnOk, codes};
 ghost use Rattle.std.specs.Str.Lines.{lines};
-ghost use Rattle.wb_program.specs.Printed.{body_lines, printed_line as printed_line_of, printed_lines, printed_out, printed_replies, printed_reply, printed_response, status_of};
-ghost use Rattle.wb_station.specs.Shown.{shown};
+ghost use Rattle.wb_program.specs.PrintedOutputs.{body_lines, printed_line as printed_line_of, printed_lines, printed_out, printed_replies, printed_reply, printed_response, status_of};
+ghost use Rattle.wb_station.specs.OutputShows.{shown};
 
 use crate::lines::{first_line, split_word};
 use std::io::Write;

@@ -2,7 +2,8 @@
 ghost use Rattle.sqlite.specs.Steps.{over_memory};
 ghost use Rattle.std.specs.Prelude.{◌≡◌, ◌≤◌, ◌+◌, [], IfOk, IfSome, length};
 ghost use Rattle.std.specs.Str.Lines.{lines};
-ghost use Rattle.wb_program.specs.Replayed.{Ends, IsUntouched, ReplaysLines, WasRun, at_first};
+ghost use Rattle.wb_program.specs.Replayed.{Ends, IsUntouched, ReplaysLines, at_first};
+ghost use Rattle.wb_program.specs.helpers.RunEnds.{WasRun};
 ghost use Rattle.wb_station.specs.Stands.{Hears, Stands};
 ghost use Rattle.wb_store.specs.Journal.{Stands as StoreStands};
 

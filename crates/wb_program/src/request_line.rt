@@ -1,6 +1,6 @@
 //! The lines of a trace that hand in requests to the office.
 ghost use Rattle.std.specs.Prelude.{◌≡◌, ◌+◌, ◌≤◌, ◌++◌, IfSome, length, option_map, take};
-ghost use Rattle.wb_program.specs.LineEvents.{IsRead, events_of};
+ghost use Rattle.wb_program.specs.helpers.LineEvents.{IsRead, events_of};
 ghost use Rattle.wb_program.specs.RequestLines.{get as get_of, get_bytes, post as post_of, post_bytes, request_bytes, request_bytes_line as bytes_line_of, request_line as line_of};
 
 use crate::lines::split_word;

@@ -1,11 +1,11 @@
 //! The service: turns of a station over its sources.
 ghost use Rattle.std.specs.Prelude.{◌≡◌, ◌∷◌, [], false, map, reverse};
-ghost use Rattle.wb_program.specs.Served.{Handled, Served, TurnServed};
-ghost use Rattle.wb_program.specs.Serving.{ExchangeServed, StretchServed, end_of};
-ghost use Rattle.wb_program.specs.Telling.{Tells};
+ghost use Rattle.wb_program.specs.Served.{Handled, Served};
+ghost use Rattle.wb_program.specs.helpers.TurnParts.{ExchangeServed, StretchServed, end_of, TurnServed};
+ghost use Rattle.wb_program.specs.SourceAnswers.{Tells};
 ghost use Rattle.wb_program.specs.Turns.{handed_on};
 ghost use Rattle.wb_station.specs.Happening.{IsTaken, byte as byte_happening, happening};
-ghost use Rattle.wb_station.specs.Shown.{shown};
+ghost use Rattle.wb_station.specs.OutputShows.{shown};
 
 use crate::sources::{Converter, REQUEST_ROOM, Sources, TERMINAL_ROOM};
 use sqlite::Alter;

@@ -1,6 +1,6 @@
 //! Where events come from, and where what is put out goes.
 ghost use Rattle.std.specs.Prelude.{[], ◌∷◌, ◌≤◌, IfSome, Option, option_map, take};
-ghost use Rattle.wb_program.specs.Telling.{Told, IsConverted, Tells, asked, converted, timed, to_office, to_terminal, took};
+ghost use Rattle.wb_program.specs.SourceAnswers.{Told, IsConverted, Tells, asked, converted, timed, to_office, to_terminal, took};
 
 use wb_journal::Moment;
 use wb_window::Reading;

@@ -1,6 +1,6 @@
 //! Reading a trace.
 ghost use Rattle.std.specs.Prelude.{◌≡◌, ◌<◌, ◌≤◌, IfOk, IfSome, IsErrOf, length};
-ghost use Rattle.wb_program.specs.Reading.{HasTaken};
+ghost use Rattle.wb_program.specs.helpers.TakenFromReader.{HasTaken};
 
 use std::alloc::Global;
 use std::io::{ErrorKind, Read};

@@ -1,7 +1,7 @@
 //! A line of a trace, read.
 ghost use Rattle.std.specs.Option.{option_copied};
 ghost use Rattle.std.specs.Prelude.{◌≡◌, ◌+◌, ◌*◌, ◌≤◌, ℕ, List, IfSome, length, option_map};
-ghost use Rattle.wb_program.specs.LineEvents.{IsRead, events_of};
+ghost use Rattle.wb_program.specs.helpers.LineEvents.{IsRead, events_of};
 ghost use Rattle.wb_program.specs.TraceLines.{bytes_line, hang_up_line, line_events, of_text, reading_line, reading_word as reading_of_word, typed, typed_text as typed_text_of, without_blank};
 ghost use Rattle.wb_window.specs.Reading.{IsReading};
 

@@ -1,6 +1,6 @@
 //! The converter, which alone is waited for.
 ghost use Rattle.std.specs.Prelude.{IfSome};
-ghost use Rattle.wb_program.specs.Telling.{IsConverted};
+ghost use Rattle.wb_program.specs.SourceAnswers.{IsConverted};
 ghost use Rattle.wb_sockets.specs.Ready.{IsWithin};
 
 use crate::limits::{ENDLESS_LINE, SILENCE_SECONDS};

@@ -9,11 +9,9 @@ use Rattle.wb_sics.specs.Event.{Event as AtTerminal}
 use Rattle.wb_sics.specs.Event as terminal
 use Rattle.wb_sics.specs.Heard.{RepliesToHeard, heard}
 use Rattle.wb_sics.specs.Replies.{replies}
-use Rattle.wb_sics.specs.Stands.{TakesAll, TerminalState}
-use Rattle.wb_sics.specs.Stands.{Stands as TerminalStands}
+use Rattle.wb_sics.specs.Stands.{TakesAll, TerminalState, Stands as TerminalStands}
 use Rattle.wb_journal.specs.declared.entry.EntryParts.{EntryParts}
-use Rattle.wb_store.specs.Journal.{IsHonest, Reopens, StoreView}
-use Rattle.wb_store.specs.Journal.{Stands as StoreStands}
+use Rattle.wb_store.specs.Journal.{IsHonest, Reopens, StoreView, Stands as StoreStands}
 use Rattle.wb_store.specs.Keeping.{LeavesOnly}
 use Rattle.wb_store.specs.Rows.{SpentKey}
 use Rattle.wb_store.specs.Lists.{AreLists}

@@ -1,15 +1,10 @@
 mod Accounts
-mod Appends
-mod Asked
-mod CourseFacts
-mod HeadFacts
-mod Judging
-mod LengthFacts
+mod AppendedTexts
+mod BytesOfReplies
+mod Courses
+mod OfficeRequests
 mod OneHistory
-mod Passing
-mod Replied
-mod RouteFacts
-mod Seeking
-mod Wholeness
-pub mod Names
-pub mod Runs
+mod RunsSoFar
+mod judgement
+pub mod RefusalNames
+pub mod offered

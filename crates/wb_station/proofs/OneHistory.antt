@@ -5,9 +5,8 @@ use Rattle.httpdate.specs.Text.{imf_fixdate}
 use Rattle.wb_instrument.specs.Setup.{Setup}
 use Rattle.wb_office.specs.declared.request.Request.{Request}
 use Rattle.wb_office.specs.declared.request.Request.TheVariants.{Weigh, VoidOpen, Ticket, Indication, JournalCsv, TicketsCsv, Purge, Check}
-use Rattle.wb_office.specs.Asking.{Situation}
-use Rattle.wb_office.specs.Serves.{Wanted}
-use Rattle.wb_office.specs.Wanting.{HasBound, IsWanted, wanted}
+use Rattle.wb_office.specs.Situation.{Situation}
+use Rattle.wb_office.specs.Wanted.{Wanted, HasBound, IsWanted, wanted}
 use Rattle.wb_sics.specs.Event as terminal
 use Rattle.wb_sics.specs.Event.{Event as AtTerminal}
 use Rattle.wb_sics.specs.Heard.{RepliesToHeard, heard}
@@ -19,7 +18,7 @@ use Rattle.wb_station.specs.Judgement.{IsJudged}
 use Rattle.wb_station.specs.Laws.{OneHistory, RepliesAlone}
 use Rattle.wb_station.specs.Response.{Told, response_text, told_result}
 use Rattle.wb_station.specs.Stands.{IsReplied}
-use Rattle.wb_station.specs.Whole.{OneJudgement}
+use Rattle.wb_station.specs.WholeRequests.{OneJudgement}
 
 one_response : (at : ℕ) (told : Told) (x y : Out) → IsResponse at told x → IsResponse at told y → x ≡ y
 one_response at told x y a b =

@@ -3,9 +3,8 @@ use Rattle.std.specs.Prelude.{◌≡◌, ℕ, Bool, true, false, List, [], ◌�
 use Rattle.wb_instrument.specs.Setup.{Setup}
 use Rattle.wb_journal.specs.declared.entry.EntryParts.{EntryParts}
 use Rattle.wb_office.specs.declared.request.Request.{Request}
-use Rattle.wb_office.specs.Asking.{Situation}
-use Rattle.wb_office.specs.Serves.{Wanted}
-use Rattle.wb_office.specs.Wanting.{IsWanted}
+use Rattle.wb_office.specs.Situation.{Situation}
+use Rattle.wb_office.specs.Wanted.{Wanted, IsWanted}
 use Rattle.wb_scale.specs.History.{moments}
 use Rattle.wb_sics.specs.Calls.{calls}
 use Rattle.wb_sics.specs.declared.reply.Reply.{Reply}

@@ -1,25 +1,26 @@
-pub mod Account
-pub mod BodyLength
-pub mod Courses
-pub mod Faults
-pub mod Form
-pub mod Found
-pub mod Front
+-- What happens at a station, and what it puts out.
 pub mod Happening
-pub mod Judgement
-pub mod Kept
-pub mod Laws
-pub mod Lends
-pub mod Places
-pub mod Refused
-pub mod RequestBytes
-pub mod Response
-pub mod Router
-pub mod Routes
-pub mod Running
-pub mod Said
-pub mod Shown
-pub mod Sought
-pub mod Stands
+pub mod Account
 pub mod Unmade
-pub mod Whole
+pub mod Stands
+pub mod RunOfEvents
+pub mod Laws
+pub mod CourseOfHistory
+-- How the bytes of a request are judged.
+pub mod RequestBytes
+pub mod Routes
+pub mod BodyLength
+pub mod Form
+pub mod Judgement
+pub mod WholeRequests
+-- The bytes of a response.
+pub mod Faults
+pub mod Response
+-- What the calls say besides: of an output that is lent or kept, of the router, of want of memory.
+pub mod OutputShows
+pub mod AfterBorrow
+pub mod KeptOutputs
+pub mod Router
+pub mod UnlessMemoryRefused
+-- What private functions' contracts need besides.
+pub mod helpers

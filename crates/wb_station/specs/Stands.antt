@@ -5,15 +5,13 @@ use Rattle.sqlite.specs.Store.{Ghosts}
 use Rattle.sqlite.specs.Tree.{Trees}
 use Rattle.wb_instrument.specs.Setup.{Setup}
 use Rattle.wb_office.specs.declared.request.Request.{Request}
-use Rattle.wb_office.specs.Wanting.{asks_store}
+use Rattle.wb_office.specs.Wanted.{asks_store}
 use Rattle.wb_sics.specs.Event.{Event as AtTerminal}
 use Rattle.wb_sics.specs.Event as terminal
 use Rattle.wb_sics.specs.Heard.{heard}
 use Rattle.wb_sics.specs.Replies.{replies}
-use Rattle.wb_sics.specs.Stands.{TerminalState}
-use Rattle.wb_sics.specs.Stands.{Stands as TerminalStands}
-use Rattle.wb_store.specs.Journal.{IsHonest, Reopens, StoreView}
-use Rattle.wb_store.specs.Journal.{Stands as StoreStands}
+use Rattle.wb_sics.specs.Stands.{TerminalState, Stands as TerminalStands}
+use Rattle.wb_store.specs.Journal.{IsHonest, Reopens, StoreView, Stands as StoreStands}
 use Rattle.wb_store.specs.Keeping.{LeavesOnly}
 use Rattle.wb_store.specs.Lists.{AreLists}
 use Rattle.wb_station.specs.Account.{Account, Comes, IsAccount, IsOut, Out, nothing, replied}

@@ -6,7 +6,7 @@ ghost use Rattle.std.specs.Prelude.{◌≡◌, All, IsErrOf, codes, length, min,
 ghost use Rattle.std.specs.Str.Parse.{digits_value};
 ghost use Rattle.wb_station.specs.BodyLength.{is_number as is_number_of};
 ghost use Rattle.wb_station.specs.RequestBytes.{is_named as is_named_of, values};
-ghost use Rattle.wb_station.specs.Said.{IsValueOf, pairs, said, said_text};
+ghost use Rattle.wb_station.specs.helpers.LengthSaid.{IsValueOf, pairs, said, said_text};
 
 use crate::fault::HttpFault;
 use crate::head::Head;

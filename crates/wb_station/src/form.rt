@@ -1,9 +1,9 @@
 //! What a form asks.
 ghost use Rattle.form_urlencoded.specs.Form.{IsPlainText};
 ghost use Rattle.std.specs.Prelude.{◌≡◌, IfOk, IsErrOf, IsOk, bytes_eq, ok_or};
-ghost use Rattle.wb_station.specs.Found.{as_bytes, as_text};
+ghost use Rattle.wb_station.specs.helpers.FoundBytes.{as_bytes, as_text};
 ghost use Rattle.wb_station.specs.Form.{IsPlain, encoded_in, key_in, key_of as key_of_text, kind_in, kind_of as kind_of_text, plate_in, plate_of as plate_of_text, text_of, value_in, void_in, weighing_in};
-ghost use Rattle.wb_station.specs.Refused.{IsOf};
+ghost use Rattle.wb_station.specs.UnlessMemoryRefused.{IsOf};
 
 use crate::fault::HttpFault;
 use form_urlencoded::{decode, raw_pairs};

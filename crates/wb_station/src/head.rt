@@ -3,7 +3,7 @@ ghost use Rattle.httparse.specs.Grammar.{ReadsRequest, RequestHead};
 ghost use Rattle.httparse.specs.Spans.{IsHeaderWithin, IsRequestAt, IsRequestWithin};
 ghost use Rattle.std.specs.Prelude.{◌≡◌, ◌≤◌, ℕ, All, IfErr, IfNone, IfOk, IfSome, List, None, drop, length, take};
 ghost use Rattle.wb_station.specs.Judgement.{headless as headless_of};
-ghost use Rattle.wb_station.specs.Places.{IsHeadOf, IsReadAt};
+ghost use Rattle.wb_station.specs.helpers.HeadPlaces.{IsHeadOf, IsReadAt};
 ghost use Rattle.wb_station.specs.RequestBytes.{IsRead, Received};
 
 use crate::fault::HttpFault;

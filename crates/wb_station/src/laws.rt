@@ -1,5 +1,5 @@
 //! Laws of whole histories.
-ghost use Rattle.wb_station.specs.Courses.{HasCourse, KeptForGood, SameAgain};
+ghost use Rattle.wb_station.specs.CourseOfHistory.{HasCourse, KeptForGood, SameAgain};
 ghost use Rattle.wb_station.specs.Laws.{OneHistory, RepliesAlone};
 
 use crate::whole::law_of_one_judgement;

@@ -47,7 +47,7 @@ fn fault_line(fault: HttpFault) -> Line
 }
 
 /// The line of a refusal by the office.
-#[tactic(auto, using(crate::proofs::Names::name_short))]
+#[tactic(auto, using(crate::proofs::RefusalNames::name_short))]
 pub(crate) fn line_of_refusal(refusal: Refusal) -> Line
     ensures { result.bytes ≡ refused_line_of (number refusal) (name refusal) }
 {

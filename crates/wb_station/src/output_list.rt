@@ -1,6 +1,6 @@
 //! Outputs that are kept in memory.
 ghost use Rattle.std.specs.Prelude.{◌≡◌, []};
-ghost use Rattle.wb_station.specs.Kept.{kept_of};
+ghost use Rattle.wb_station.specs.KeptOutputs.{kept_of};
 
 use crate::outputs::{Outputs, Refused};
 use std::alloc::Global;

@@ -1,7 +1,7 @@
 //! The response to an outcome.
 ghost use Rattle.std.specs.Prelude.{◌≡◌, ◌≤◌, IsOk, OnErr, OnOk, [], false, length, vec_capacity};
 ghost use Rattle.wb_office.specs.Serves.{told as told_by_office, told_of};
-ghost use Rattle.wb_station.specs.Front.{told_by};
+ghost use Rattle.wb_station.specs.helpers.ToldByParts.{told_by};
 ghost use Rattle.wb_station.specs.Response.{IsDateOf, IsResponse, OneResponse, answer_status as answer_status_of, has_export, is_csv, is_export, phrase as phrase_of, refusal_status as refusal_status_of, response_text, told, told_answer, told_result};
 
 use crate::line::{Line, count_line, line_of_fault, line_of_refusal};

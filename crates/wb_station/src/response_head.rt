@@ -1,6 +1,6 @@
 //! A response, put into a room line by line.
 ghost use Rattle.std.specs.Prelude.{◌≡◌, ◌≤◌, ◌<◌, ◌+◌, ◌^◌, ◌++◌, IsOk, OnOk, decimal, length, vec_capacity, vec_len};
-ghost use Rattle.wb_station.specs.Front.{told_by};
+ghost use Rattle.wb_station.specs.helpers.ToldByParts.{told_by};
 ghost use Rattle.wb_station.specs.Response.{allow_line as allow_line_of, length_lines, media_type as media_type_of, phrase as phrase_of, response_text, status_line, type_lines};
 
 use crate::fault::Method;

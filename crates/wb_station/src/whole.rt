@@ -1,8 +1,8 @@
 //! Whether a request is whole.
 ghost use Rattle.httparse.specs.Spans.{IsHeaderWithin};
 ghost use Rattle.std.specs.Prelude.{◌≡◌, All, IsUtf8, length};
-ghost use Rattle.wb_station.specs.Sought.{sought_in, whole_by};
-ghost use Rattle.wb_station.specs.Whole.{OneJudgement, TellsWhole, WholeStays};
+ghost use Rattle.wb_station.specs.helpers.AskedByHead.{sought_in, whole_by};
+ghost use Rattle.wb_station.specs.WholeRequests.{OneJudgement, TellsWhole, WholeStays};
 
 use crate::fault::HttpFault;
 use crate::head::{FIELD_LIMIT, Head, head_at, places_of};

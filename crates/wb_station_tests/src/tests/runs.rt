@@ -1,5 +1,5 @@
 //! Runs of events: what is handed on, and where a run stops.
-ghost use Rattle.wb_station.specs.Kept.{kept_of};
+ghost use Rattle.wb_station.specs.KeptOutputs.{kept_of};
 
 use super::days::{instrument, store};
 use sqlite::Connection;

@@ -1,7 +1,7 @@
 use Rattle.std.proofs.Common.{◌∙◌, ap, refl}
 use Rattle.wb_office.specs.Answer.{tickets_answer}
 use Rattle.wb_office.specs.declared.request.Request.TheVariants as request
-use Rattle.wb_office.specs.Wanting.{IsWanted, wanted}
+use Rattle.wb_office.specs.Wanted.{IsWanted, wanted}
 use Rattle.wb_office.proofs.LookUps.{reads}
 use Rattle.wb_office.proofs.Serving.{stop_serves, told_serves}
 use Rattle.wb_office.proofs.exporting.answer_tickets.Goals as goal

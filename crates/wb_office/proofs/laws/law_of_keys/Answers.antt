@@ -1,4 +1,4 @@
-use Rattle.wb_office.proofs.TakenKeys.{one_entry_per_key}
+use Rattle.wb_office.proofs.courses.TakenKeys.{one_entry_per_key}
 use Rattle.wb_office.proofs.laws.law_of_keys.Goals as goal
 
 pub returns : goal.returns

@@ -1,4 +1,4 @@
-use Rattle.wb_office.proofs.Numbering.{numbers_run}
+use Rattle.wb_office.proofs.courses.Numbers.{numbers_run}
 use Rattle.wb_office.proofs.laws.law_of_numbers.Goals as goal
 
 pub returns : goal.returns

@@ -1,4 +1,4 @@
-use Rattle.wb_office.proofs.Repeating.{answered_again}
+use Rattle.wb_office.proofs.courses.RepeatedRequests.{answered_again}
 use Rattle.wb_office.proofs.laws.law_of_repeated_requests.Goals as goal
 
 pub returns : goal.returns

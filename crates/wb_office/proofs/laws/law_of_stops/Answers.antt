@@ -1,4 +1,4 @@
-use Rattle.wb_office.proofs.Stops.{answered_after_stops}
+use Rattle.wb_office.proofs.courses.Stops.{answered_after_stops}
 use Rattle.wb_office.proofs.laws.law_of_stops.Goals as goal
 
 pub returns : goal.returns

@@ -1,4 +1,4 @@
-use Rattle.wb_office.proofs.StoredLoads.{all_weighed}
+use Rattle.wb_office.proofs.courses.StoredLoads.{all_weighed}
 use Rattle.wb_office.proofs.laws.law_of_stored_loads.Goals as goal
 
 pub returns : goal.returns

@@ -1,7 +1,7 @@
 use Rattle.std.proofs.Common.{◌∙◌, ap, refl}
 use Rattle.wb_office.specs.Answer.{ticket_of}
 use Rattle.wb_office.specs.declared.request.Request.TheVariants as request
-use Rattle.wb_office.specs.Wanting.{IsWanted, wanted}
+use Rattle.wb_office.specs.Wanted.{IsWanted, wanted}
 use Rattle.wb_office.proofs.LookUps.{reads}
 use Rattle.wb_office.proofs.Serving.{read_serves, stop_serves}
 use Rattle.wb_office.proofs.tickets.answer_ticket.Goals as goal

@@ -1,6 +1,6 @@
 use Rattle.std.proofs.Common.{◌≡◌}
 use Rattle.wb_journal.specs.Rising.{IsRising}
-use Rattle.wb_office.proofs.Records.{tickets_to}
+use Rattle.wb_office.proofs.ExportRecords.{tickets_to}
 use Rattle.wb_office.proofs.tickets_export.tickets_text.Given as goal
 
 abbrev pub invariant-loop-place : goal.invariant-loop-place

@@ -1,8 +1,8 @@
 use Rattle.std.proofs.Common.{sym, ap, subst, ◌∙◌}
 use Rattle.std.specs.Prelude.{OnOk, reverse}
-use Rattle.wb_program.specs.LineEvents.{events_of}
-use Rattle.wb_program.specs.Performed.{Performed}
-use Rattle.wb_program.proofs.Passing.{Performed-none, reverse-replicate}
+use Rattle.wb_program.specs.helpers.LineEvents.{events_of}
+use Rattle.wb_program.specs.helpers.Performed.{Performed}
+use Rattle.wb_program.proofs.PerformedHappenings.{Performed-none, reverse-replicate}
 use Rattle.wb_station.specs.Happening.{reading}
 use Rattle.wb_program.proofs.performing.perform.Goals as goal
 

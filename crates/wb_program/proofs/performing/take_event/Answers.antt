@@ -1,4 +1,4 @@
-use Rattle.wb_program.proofs.Passing.{Performed-printed}
+use Rattle.wb_program.proofs.PerformedHappenings.{Performed-printed}
 use Rattle.wb_program.proofs.performing.take_event.Goals as goal
 
 pub returns : goal.returns

@@ -1,6 +1,6 @@
 use Rattle.std.proofs.Common.{[], ◌∷◌, replicate, subst}
-use Rattle.wb_program.specs.Performed.{Performed}
-use Rattle.wb_program.proofs.Passing.{Performed-append, Performed-none, replicate-more}
+use Rattle.wb_program.specs.helpers.Performed.{Performed}
+use Rattle.wb_program.proofs.PerformedHappenings.{Performed-append, Performed-none, replicate-more}
 use Rattle.wb_station.specs.Happening.{reading}
 use Rattle.wb_program.proofs.performing.take_readings.Goals as goal
 

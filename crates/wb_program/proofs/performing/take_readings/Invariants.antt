@@ -1,5 +1,5 @@
 use Rattle.std.proofs.Common.{replicate}
-use Rattle.wb_program.specs.Performed.{Performed}
+use Rattle.wb_program.specs.helpers.Performed.{Performed}
 use Rattle.wb_station.specs.Happening.{reading}
 use Rattle.wb_program.proofs.performing.take_readings.Given as goal
 

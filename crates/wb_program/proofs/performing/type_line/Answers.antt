@@ -1,4 +1,4 @@
-use Rattle.wb_program.proofs.Typing.{Typed-line}
+use Rattle.wb_program.proofs.TypedTexts.{Typed-line}
 use Rattle.wb_program.proofs.performing.type_line.Goals as goal
 
 pub returns : goal.returns

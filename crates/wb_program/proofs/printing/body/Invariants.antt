@@ -1,5 +1,5 @@
 use Rattle.std.proofs.Common.{◌≡◌, length}
-use Rattle.wb_program.specs.Printed.{body_lines}
+use Rattle.wb_program.specs.PrintedOutputs.{body_lines}
 use Rattle.wb_program.proofs.printing.body.Given as goal
 
 abbrev pub invariant-loop-line : goal.invariant-loop-line

@@ -1,6 +1,6 @@
 use Rattle.std.proofs.Common.{ap}
 use Rattle.std.specs.Str.Lines.{lines}
-use Rattle.wb_program.proofs.Writing.{all-printed, none-printed, one-printed}
+use Rattle.wb_program.proofs.WrittenTexts.{all-printed, none-printed, one-printed}
 use Rattle.wb_program.proofs.printing.print_lines.Goals as goal
 
 pub loop-line-init : goal.loop-line-init

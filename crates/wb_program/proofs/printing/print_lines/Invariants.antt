@@ -1,6 +1,6 @@
 use Rattle.std.proofs.Common.{length}
 use Rattle.std.specs.Str.Lines.{lines}
-use Rattle.wb_program.proofs.Writing.{PrintedSoFar}
+use Rattle.wb_program.proofs.WrittenTexts.{PrintedSoFar}
 use Rattle.wb_program.proofs.printing.print_lines.Given as goal
 
 abbrev pub invariant-loop-line : goal.invariant-loop-line

@@ -1,5 +1,5 @@
 use Rattle.std.proofs.Common.{sym}
-use Rattle.wb_program.proofs.Writing.{Appends-reply}
+use Rattle.wb_program.proofs.WrittenTexts.{Appends-reply}
 use Rattle.wb_program.proofs.printing.print_replies.Goals as goal
 
 pub loop-reply-preserved : goal.loop-reply-preserved

@@ -1,6 +1,6 @@
 use Rattle.std.proofs.Common.{take}
 use Rattle.std.specs.Io.KnownBytes.{Appends}
-use Rattle.wb_program.specs.Printed.{printed_replies}
+use Rattle.wb_program.specs.PrintedOutputs.{printed_replies}
 use Rattle.wb_program.proofs.printing.print_replies.Given as goal
 
 abbrev pub invariant-loop-reply : goal.invariant-loop-reply

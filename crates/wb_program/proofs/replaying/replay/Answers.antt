@@ -2,7 +2,7 @@ use Rattle.std.proofs.Common.{List, subst}
 use Rattle.std.specs.Str.Lines.{lines}
 use Rattle.wb_instrument.specs.Setup.{Setup}
 use Rattle.wb_program.specs.Replayed.{ReplaysLines}
-use Rattle.wb_program.proofs.Ending.{ended, written_to}
+use Rattle.wb_program.proofs.TraceEnds.{ended, written_to}
 use Rattle.wb_program.proofs.replaying.replay.Goals as goal
 
 pub returns-clause-ends : goal.returns-clause-ends

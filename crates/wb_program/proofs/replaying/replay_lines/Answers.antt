@@ -1,6 +1,6 @@
 use Rattle.std.proofs.Common.{sym}
-use Rattle.wb_program.specs.LineEvents.{events_of}
-use Rattle.wb_program.proofs.Progress.{Replaying-all, Replaying-next, Replaying-none, Replaying-stops}
+use Rattle.wb_program.specs.helpers.LineEvents.{events_of}
+use Rattle.wb_program.proofs.ReplayedLines.{Replaying-all, Replaying-next, Replaying-none, Replaying-stops}
 use Rattle.wb_program.proofs.replaying.replay_lines.Goals as goal
 
 pub loop-line-init : goal.loop-line-init

@@ -1,5 +1,5 @@
 use Rattle.std.proofs.Common.{length}
-use Rattle.wb_program.proofs.Progress.{Replaying}
+use Rattle.wb_program.proofs.ReplayedLines.{Replaying}
 use Rattle.wb_program.proofs.replaying.replay_lines.Given as goal
 
 abbrev pub invariant-loop-line : goal.invariant-loop-line

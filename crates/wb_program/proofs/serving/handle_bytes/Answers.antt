@@ -1,8 +1,8 @@
 use Rattle.std.proofs.Common.{[], ◌∷◌, get_or, map, subst, sym, take}
 use Rattle.std.specs.Prelude.{reverse}
 use Rattle.wb_program.specs.Served.{Handled}
-use Rattle.wb_program.proofs.Passing.{next-byte}
-use Rattle.wb_program.proofs.Told.{tells_none}
+use Rattle.wb_program.proofs.PerformedHappenings.{next-byte}
+use Rattle.wb_program.proofs.SourceAnswers.{tells_none}
 use Rattle.wb_program.proofs.Turns.{handled_append, handled_none}
 use Rattle.wb_station.specs.Happening.{byte}
 use Rattle.wb_program.proofs.serving.handle_bytes.Goals as goal

@@ -1,11 +1,11 @@
 use Rattle.std.proofs.Common.{◌≡◌, ap, refl, subst, subst₂, sym, ◌∙◌, Bool, true, false, true≢false, Result, Ok, Err}
-use Rattle.wb_office.specs.Outright.{Outright}
+use Rattle.wb_office.specs.WithoutStore.{Outright}
 use Rattle.wb_office.specs.Serves.{Serves, told_of}
-use Rattle.wb_office.specs.Wanting.{IsWanted}
+use Rattle.wb_office.specs.Wanted.{IsWanted}
 use Rattle.wb_station.specs.Account.{responded}
 use Rattle.wb_station.specs.Response.{IsDateOf, is_export, told_result}
 use Rattle.wb_station.proofs.Accounts.{response_is, when_err, when_not_err}
-use Rattle.wb_station.proofs.Asked.{answered_took, failed_took}
+use Rattle.wb_station.proofs.OfficeRequests.{answered_took, failed_took}
 use Rattle.wb_station.proofs.asking.answer.Goals as goal
 
 pub returns-then-is_err : goal.returns-then-is_err

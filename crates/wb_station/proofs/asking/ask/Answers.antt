@@ -1,7 +1,7 @@
 use Rattle.std.proofs.Common.{subst}
 use Rattle.wb_station.specs.Account.{responded}
 use Rattle.wb_station.specs.Judgement.{IsJudged}
-use Rattle.wb_station.proofs.Asked.{fault_took}
+use Rattle.wb_station.proofs.OfficeRequests.{fault_took}
 use Rattle.wb_station.proofs.asking.ask.Goals as goal
 
 pub returns-in-Ok : goal.returns-in-Ok

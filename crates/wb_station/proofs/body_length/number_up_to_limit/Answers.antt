@@ -1,6 +1,6 @@
 use Rattle.std.proofs.Common.{◌+◌, ◌*◌, ℕ, min, sym, ap, ◌∙◌}
 use Rattle.std.proofs.lemmas.Int.Digits.{digits_value_more}
-use Rattle.wb_station.proofs.LengthFacts.{cut, digit_at}
+use Rattle.wb_station.proofs.judgement.Lengths.{cut, digit_at}
 use Rattle.wb_station.proofs.body_length.number_up_to_limit.Goals as goal
 
 pub loop-digit-preserved : goal.loop-digit-preserved

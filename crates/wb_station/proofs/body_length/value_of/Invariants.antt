@@ -1,7 +1,7 @@
 use Rattle.std.proofs.Common.{◌≡◌, ◌++◌, drop, map}
 use Rattle.httparse.specs.Spans.{header_bytes}
 use Rattle.wb_station.specs.RequestBytes.{values}
-use Rattle.wb_station.specs.Found.{listed}
+use Rattle.wb_station.specs.helpers.FoundBytes.{listed}
 use Rattle.wb_station.proofs.body_length.value_of.Given as goal
 
 abbrev pub invariant-loop-field : goal.invariant-loop-field

@@ -3,7 +3,7 @@ use Rattle.std.specs.Prelude.{IfSome}
 use Rattle.form_urlencoded.specs.Form.{IsPlainText, raw_pairs}
 use Rattle.form_urlencoded.specs.Parse.{raw_pairs_left}
 use Rattle.wb_station.specs.Form.{ArePlain, IsPlain, has_name}
-use Rattle.wb_station.specs.Found.{listed}
+use Rattle.wb_station.specs.helpers.FoundBytes.{listed}
 use Rattle.wb_station.proofs.form.encoded_value.Given as goal
 
 abbrev pub invariant-loop-field : goal.invariant-loop-field

@@ -1,5 +1,5 @@
 use Rattle.wb_station.specs.RequestBytes.{Reads, Received}
-use Rattle.wb_station.proofs.HeadFacts.{read_at, read_front}
+use Rattle.wb_station.proofs.judgement.Heads.{read_at, read_front}
 use Rattle.wb_station.proofs.head.places_of.Goals as goal
 
 pub returns-in-Some-clause-read : goal.returns-in-Some-clause-read

@@ -1,4 +1,4 @@
-use Rattle.wb_station.proofs.CourseFacts.{kept_for_good}
+use Rattle.wb_station.proofs.Courses.{kept_for_good}
 use Rattle.wb_station.proofs.laws.law_of_kept_entries.Goals as goal
 
 pub returns : goal.returns

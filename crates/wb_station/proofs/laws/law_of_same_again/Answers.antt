@@ -1,4 +1,4 @@
-use Rattle.wb_station.proofs.CourseFacts.{same_again}
+use Rattle.wb_station.proofs.Courses.{same_again}
 use Rattle.wb_station.proofs.laws.law_of_same_again.Goals as goal
 
 pub returns : goal.returns

@@ -1,10 +1,10 @@
 use Rattle.std.proofs.Common.{refl, subst, Result, Some}
 use Rattle.wb_office.specs.declared.request.Request.{Request as Asked}
 use Rattle.wb_station.specs.Judgement.{judged}
-use Rattle.wb_station.specs.Refused.{IsOf}
+use Rattle.wb_station.specs.UnlessMemoryRefused.{IsOf}
 use Rattle.wb_station.specs.declared.fault.HttpFault.{HttpFault as Fault}
-use Rattle.wb_station.proofs.Judging.{judged_by_parts}
-use Rattle.wb_station.proofs.Passing.{wanted}
+use Rattle.wb_station.proofs.judgement.AskedByHead.{judged_by_parts}
+use Rattle.wb_station.proofs.judgement.FirstFaults.{wanted}
 use Rattle.wb_station.proofs.request.request_of.Goals as goal
 
 pub returns-clause-judged : goal.returns-clause-judged

@@ -1,6 +1,6 @@
 use Rattle.std.proofs.Common.{sym, length-append}
 use Rattle.wb_station.specs.Response.{response_text}
-use Rattle.wb_station.proofs.Appends.{append-body}
+use Rattle.wb_station.proofs.AppendedTexts.{append-body}
 use Rattle.wb_station.proofs.response_head.put_response.Goals as goal
 
 pub returns-clause-items : goal.returns-clause-items

@@ -1,6 +1,6 @@
 use Rattle.std.proofs.Common.{◌∙◌}
 use Rattle.wb_station.specs.Response.{status_line}
-use Rattle.wb_station.proofs.Appends.{append-five}
+use Rattle.wb_station.proofs.AppendedTexts.{append-five}
 use Rattle.wb_station.proofs.response_head.put_status_line.Goals as goal
 
 pub returns-clause-items : goal.returns-clause-items

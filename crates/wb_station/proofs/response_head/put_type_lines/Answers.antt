@@ -1,6 +1,6 @@
 use Rattle.std.proofs.Common.{◌∙◌}
 use Rattle.wb_station.specs.Response.{type_lines}
-use Rattle.wb_station.proofs.Appends.{append-five}
+use Rattle.wb_station.proofs.AppendedTexts.{append-five}
 use Rattle.wb_station.proofs.response_head.put_type_lines.Goals as goal
 
 pub returns-clause-items : goal.returns-clause-items

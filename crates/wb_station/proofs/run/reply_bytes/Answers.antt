@@ -1,5 +1,5 @@
 use Rattle.std.proofs.Common.{◌++◌, ap₂, sym, ◌∙◌, arith}
-use Rattle.wb_station.proofs.Replied.{next_bytes}
+use Rattle.wb_station.proofs.BytesOfReplies.{next_bytes}
 use Rattle.wb_station.proofs.run.reply_bytes.Goals as goal
 
 pub loop-reply-preserved : goal.loop-reply-preserved

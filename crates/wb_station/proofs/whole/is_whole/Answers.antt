@@ -1,5 +1,5 @@
 use Rattle.std.proofs.Common.{Some, sym, ◌∙◌}
-use Rattle.wb_station.proofs.Wholeness.{whole_by_parts, whole_by_steps}
+use Rattle.wb_station.proofs.judgement.WholeRequests.{whole_by_parts, whole_by_steps}
 use Rattle.wb_station.proofs.whole.is_whole.Goals as goal
 
 pub returns-in-Ok : goal.returns-in-Ok

@@ -5,8 +5,8 @@ use Rattle.wb_journal.specs.Kind.{is_single, is_void}
 use Rattle.wb_scale.specs.Indication.{gross}
 use Rattle.wb_scale.specs.Tare.{tare_now}
 use Rattle.wb_office.specs.Conditions.{is_preset_below}
-use Rattle.wb_office.specs.Judging.{is_preset_below_shown}
-use Rattle.wb_office.proofs.OfLoad.{preset_by_indication}
+use Rattle.wb_office.specs.helpers.IndicatedLoad.{is_preset_below_shown}
+use Rattle.wb_office.proofs.LoadConditions.{preset_by_indication}
 use Rattle.wb_office.proofs.evidence.Evidence.has_no_preset.Goals as goal
 
 single_weighs : (k : Kind) → is_single k ≡ true → not (is_void k) ≡ true

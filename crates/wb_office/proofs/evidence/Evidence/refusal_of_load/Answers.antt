@@ -1,8 +1,8 @@
 use Rattle.std.proofs.Common.{◌≡◌, ◌∙◌, sym, true, not, ap}
 use Rattle.wb_journal.specs.Kind.{is_void}
 use Rattle.wb_office.specs.Conditions.{weighs}
-use Rattle.wb_office.specs.Judging.{refusal_of_shown}
-use Rattle.wb_office.proofs.OfLoad.{by_indication, of_void}
+use Rattle.wb_office.specs.helpers.IndicatedLoad.{refusal_of_shown}
+use Rattle.wb_office.proofs.LoadConditions.{by_indication, of_void}
 use Rattle.wb_office.proofs.evidence.Evidence.refusal_of_load.Goals as goal
 
 pub returns-then-weighs-clause-judged : goal.returns-then-weighs-clause-judged

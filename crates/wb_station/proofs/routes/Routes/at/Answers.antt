@@ -1,5 +1,5 @@
 use Rattle.std.proofs.Common.{sym}
-use Rattle.wb_station.proofs.RouteFacts.{bytes_of, found, missing}
+use Rattle.wb_station.proofs.judgement.RoutesFound.{bytes_of, found, missing}
 use Rattle.wb_station.proofs.routes.Routes.at.Goals as goal
 
 pub returns-in-Ok : goal.returns-in-Ok

@@ -1,0 +1,124 @@
+-- The load behind the gross of an accepted weighing.
+use Rattle.std.proofs.Common.{◌≡◌, ◌∙◌, sym, ap, subst, All, length, take, Bool, true, false, not, ◌&&◌, List, Option, Some, None, ℤ, pos, refl, arith}
+use Rattle.std.proofs.lemmas.Int.{ints}
+use Rattle.std.specs.Prelude.{int_lt, is_none, option_map, ◌≤ℤ◌, ◌-ℤ◌}
+use Rattle.wb_instrument.specs.Limits.{is_over, is_under}
+use Rattle.wb_instrument.specs.Rounding.{round}
+use Rattle.wb_instrument.specs.Setup.{IsSetup, Setup}
+use Rattle.wb_journal.specs.declared.entry.EntryParts.{EntryParts}
+use Rattle.wb_journal.specs.declared.kind.Kind.{Kind}
+use Rattle.wb_journal.specs.declared.kind.Kind.TheVariants.{First, Second, Single, Void}
+use Rattle.wb_journal.specs.Kind.{is_void}
+use Rattle.wb_scale.specs.declared.answers.Indicated.TheVariants.{Shown}
+use Rattle.wb_scale.specs.declared.answers.TareNow.{TareNow}
+use Rattle.wb_scale.specs.Call.{Call}
+use Rattle.wb_scale.specs.Cleared.{is_cleared}
+use Rattle.wb_scale.specs.History.{moments}
+use Rattle.wb_scale.specs.Indication.{gross, indicated, indicated_at}
+use Rattle.wb_scale.specs.Moment.{readings}
+use Rattle.wb_scale.specs.Steady.{IsNear, NearAll}
+use Rattle.wb_scale.specs.Tare.{tare_now, tare_tenths}
+use Rattle.wb_scale.specs.Zero.{above_zero, zero_now}
+use Rattle.wb_window.specs.Stability.{is_stable}
+use Rattle.wb_office.specs.Situation.{Asking}
+use Rattle.wb_office.specs.Conditions.{holds_of}
+use Rattle.wb_office.specs.Laws.{AllWeighed, IsWeighed}
+use Rattle.wb_office.specs.Verdict.{accepted, first_refusal, gross_kg, kilograms, of_new, verdict}
+use Rattle.wb_office.proofs.courses.AcceptedEntries.{Outcome, adds, is_new, outcome, purges, stays}
+use Rattle.wb_office.proofs.FoundEntries.{is_some_same}
+use Rattle.wb_office.proofs.ConditionsInOrder.{none_holds}
+
+-- a load on which none of the conditions on it holds
+record IsFree (s : Setup) (is_still : Bool) (g : Option ℤ) : Type 0 where
+  pub there : is_none g ≡ false
+  pub over : holds_of (is_over s) g ≡ false
+  pub under : holds_of is_under g ≡ false
+  pub stable : is_still ≡ true
+  pub below : holds_of (λ x. int_lt x (pos 20)) g ≡ false
+
+-- what is shown of it
+record IsShownAt (s : Setup) (stable : Bool) (tare : TareNow) (tenths : Option ℤ) : Type 0 where
+  pub whole : ℤ
+  pub net : ℤ
+  pub is_gross : option_map round tenths ≡ Some whole
+  pub shown_so : indicated_at s stable tare tenths ≡ Shown whole net true
+  pub over : is_over s whole ≡ false
+  pub under : is_under whole ≡ false
+  pub least : pos 20 ≤ℤ whole
+
+not_below : (g : ℤ) → int_lt g (pos 20) ≡ false → pos 20 ≤ℤ g
+not_below g below = grind (arith, ints)
+
+shows : (s : Setup) (stable : Bool) (tare : TareNow) (tenths : Option ℤ) → IsFree s stable (option_map round tenths) → IsShownAt s stable tare tenths
+shows s stable tare None free = absurd (cc (free.there))
+shows s stable tare (Some tenths) free = record {
+  whole = round tenths;
+  net = round (tenths -ℤ tare_tenths tare);
+  is_gross = refl;
+  shown_so = rw (free.over, free.under, free.stable) refl;
+  over = free.over;
+  under = free.under;
+  least = not_below (round tenths) free.below;
+}
+
+true_of : (w b : Bool) → w ≡ true → w && not b ≡ false → b ≡ true
+true_of w true is h = refl
+true_of w false is h = absurd (cc (rw is at h))
+
+false_of : (w b : Bool) → w ≡ true → w && b ≡ false → b ≡ false
+false_of w b is h = rw is at h
+
+-- what is free of the conditions on a new key is free of those on the load
+free_load : (a : Asking) → first_refusal of_new a ≡ None → not (is_void a.kind) ≡ true
+    → IsFree a.now.setup (is_stable a.now.setup.window a.now.setup.band (readings a.now.history)) (gross a.now.history) × (is_cleared a.now.history ≡ true)
+free_load a none weighs =
+    let free = none_holds of_new a none in
+    let load = free.1 in (
+      record {
+        there = false_of _ (is_none (gross a.now.history)) weighs load.0;
+        over = false_of _ (holds_of (is_over a.now.setup) (gross a.now.history)) weighs load.1.0;
+        under = false_of _ (holds_of is_under (gross a.now.history)) weighs load.1.1.0;
+        stable = true_of _ (is_stable a.now.setup.window a.now.setup.band (readings a.now.history)) weighs load.1.1.1.0;
+        below = false_of _ (holds_of (λ x. int_lt x (pos 20)) (gross a.now.history)) weighs load.1.1.1.1.0;
+      },
+      true_of _ (is_cleared a.now.history) weighs load.1.1.1.1.1.1.1.0,
+    )
+
+stored_gross : (s : Setup) (k : Kind) (g : Option ℤ) (whole : ℤ) → is_void k ≡ false → g ≡ Some whole → gross_kg s k g ≡ Some (kilograms s whole)
+stored_gross s First g whole v is = rw is refl
+stored_gross s Second g whole v is = rw is refl
+stored_gross s Single g whole v is = rw is refl
+stored_gross s Void g whole v is = absurd (cc)
+
+weighed : NearAll → (a : Asking) (calls : List Call) → IsSetup a.now.setup → a.now.history ≡ moments a.now.setup calls → (e : EntryParts) → verdict a ≡ accepted e → is_void e.kind ≡ false
+    → IsWeighed a.now.setup a.now.history e
+unfolding indicated above_zero
+weighed near a calls setup history e is kind =
+    let new = is_new a e is in
+    let void : is_void a.kind ≡ false = rw new.made at kind in
+    let both = free_load a new.judged (rw void refl) in
+    let at = shows a.now.setup (is_stable a.now.setup.window a.now.setup.band (readings a.now.history)) (tare_now a.now.history) (above_zero a.now.history) both.0 in
+    let behind = near a.now.setup setup calls at.whole at.net (ap (indicated a.now.setup) (sym history) ∙ at.shown_so) in
+    record {
+      gross = at.whole;
+      net = at.net;
+      stored = ap (λ x. x.gross_kg) new.made ∙ stored_gross a.now.setup a.kind (gross a.now.history) at.whole void at.is_gross;
+      stable = at.shown_so;
+      not_over = at.over;
+      not_under = at.under;
+      at_least_min = at.least;
+      cleared = both.1;
+      behind = subst (λ ms. length (take a.now.setup.window (readings ms)) ≡ a.now.setup.window) (sym history) behind.0;
+      near = subst (λ ms. All (IsNear (zero_now ms) at.whole) (take a.now.setup.window (readings ms))) (sym history) behind.1;
+    }
+
+pub all_weighed : NearAll → AllWeighed
+all_weighed near w calls setup history request e some kind = go (outcome w 0 request)
+  where
+    go : Outcome w 0 request → IsWeighed w.setup w.history e
+    go (stays none es ks) = absurd (cc (sym none ∙ some))
+    go (purges purge none es ks) = absurd (cc (sym none ∙ some))
+    go (adds a f now is one es ks told) =
+        let same : f ≡ e = is_some_same (sym one ∙ some) in
+        let here = weighed near a calls (rw now setup) (rw now history) e (is ∙ ap accepted same) kind in
+        rw now at here

@@ -1,0 +1,155 @@
+-- A key that is stored or spent stays so, and no entry is added under it.
+use Rattle.std.proofs.Common.{◌≡◌, ◌∙◌, sym, ℕ, ◌+◌, ◌≤◌, Bool, true, false, cond, not, ◌||◌, if◌then◌else◌, List, [], ◌∷◌, ◌++◌, map, nat_le, nat_lt, None, refl, arith, true≢false}
+use Rattle.std.proofs.lemmas.Bool.Decides.{nat_tests}
+use Rattle.std.proofs.lemmas.List.Folds.{list_any-append}
+use Rattle.std.proofs.lemmas.List.Sums.{sum_by-cons}
+use Rattle.std.proofs.lemmas.Slice.Eq.{bytes_eq-Decides}
+use Rattle.std.specs.List.{list_any}
+use Rattle.std.specs.Prelude.{count_by}
+use Rattle.std.specs.Str.{bytes_eq}
+use Rattle.wb_journal.specs.declared.entry.EntryParts.{EntryParts}
+use Rattle.wb_journal.specs.Retention.{kept}
+use Rattle.wb_store.specs.Lists.{has_key, is_of_key, is_spent}
+use Rattle.wb_store.specs.Rows.{SpentKey}
+use Rattle.wb_office.specs.declared.request.Request.{Request}
+use Rattle.wb_office.specs.Answer.{below, entries_left, spent_by, spent_left}
+use Rattle.wb_office.specs.Situation.{Asking, Situation}
+use Rattle.wb_office.specs.CourseOfRequests.{Journal, Turn, added, additions, after, left, situation, with_one}
+use Rattle.wb_office.specs.Laws.{is_taken}
+use Rattle.wb_office.specs.Verdict.{accepted, verdict}
+use Rattle.wb_office.proofs.courses.AcceptedEntries.{Outcome, adds, is_new, outcome, purges, stays}
+use Rattle.wb_office.proofs.FoundEntries.{find_none}
+
+abbrev pub taken_in : List EntryParts → List SpentKey → List ℕ → Bool
+taken_in es ks key = list_any (has_key key) es || is_spent ks key
+
+abbrev room : Bool → ℕ
+room b = if b then 0 else 1
+
+less_room : (a b : Bool) → (a ≡ true → b ≡ true) → room b ≤ room a
+less_room true true h = omega arith
+less_room true false h = absurd (true≢false (sym (h refl)))
+less_room false true h = omega arith
+less_room false false h = omega arith
+
+or_left : (a b : Bool) → a ≡ true → (a || b) ≡ true
+or_left true b h = refl
+or_left false b h = absurd (cc)
+
+or_right : (a b : Bool) → b ≡ true → (a || b) ≡ true
+or_right true b h = refl
+or_right false b h = h
+
+or_either : {C : Type 0} (a b : Bool) → (a || b) ≡ true → (a ≡ true → C) → (b ≡ true → C) → C
+or_either true b h left right = left refl
+or_either false b h left right = right h
+
+any_grows : {X : Type 0} (p : X → Bool) (xs ys : List X) → list_any p xs ≡ true → list_any p (xs ++ ys) ≡ true
+any_grows p xs ys h = list_any-append p xs ys ∙ or_left (list_any p xs) (list_any p ys) h
+
+any_behind : {X : Type 0} (p : X → Bool) (xs ys : List X) → list_any p ys ≡ true → list_any p (xs ++ ys) ≡ true
+any_behind p xs ys h = list_any-append p xs ys ∙ or_right (list_any p xs) (list_any p ys) h
+
+-- an entry is kept by a purge or its key is spent
+kept_or_spent : (b : ℕ) (key : List ℕ) (es : List EntryParts) → list_any (has_key key) es ≡ true
+    → (list_any (has_key key) (kept b es) || list_any (is_of_key key) (map spent_by (below b es))) ≡ true
+kept_or_spent b key [] h = absurd (cc)
+kept_or_spent b key (e ∷ es) h = go (nat_le b e.number) (nat_lt e.number b) (turned b e.number) (bytes_eq e.key key) refl (λ r. kept_or_spent b key es r)
+  where
+    turned : (m n : ℕ) → nat_lt n m ≡ not (nat_le m n)
+    turned m n = grind (arith, nat_tests)
+
+    rest : bytes_eq e.key key ≡ false → list_any (has_key key) es ≡ true
+    rest t = rw t at h
+
+    go : (k s : Bool) → s ≡ not k → (a : Bool) → bytes_eq e.key key ≡ a
+        → (list_any (has_key key) es ≡ true → (list_any (has_key key) (kept b es) || list_any (is_of_key key) (map spent_by (below b es))) ≡ true)
+        → (list_any (has_key key) (cond k (e ∷ kept b es) (kept b es)) || list_any (is_of_key key) (map spent_by (cond s (e ∷ below b es) (below b es)))) ≡ true
+    go true true f a t more = absurd (true≢false f)
+    go true false f true t more = rw t refl
+    go true false f false t more = rw t (more (rest t))
+    go false true f true t more = or_right (list_any (has_key key) (kept b es)) (bytes_eq e.key key || list_any (is_of_key key) (map spent_by (below b es))) (rw t refl)
+    go false true f false t more = rw t (more (rest t))
+    go false false f a t more = absurd (true≢false (sym f))
+
+-- a key that is taken stays so
+stays_taken : (w : Situation) (b : ℕ) (request : Request) (key : List ℕ) → taken_in w.entries w.spent key ≡ true → taken_in (entries_left w b request) (spent_left w b request) key ≡ true
+stays_taken w b request key taken = go (outcome w b request)
+  where
+    stored : Bool
+    stored = list_any (has_key key) w.entries
+
+    go : Outcome w b request → taken_in (entries_left w b request) (spent_left w b request) key ≡ true
+    go (stays none es ks) = rw (es, ks) taken
+    go (adds a e now is some es ks told) =
+        rw (es, ks) (or_either stored (is_spent w.spent key) taken
+        (λ h. or_left (list_any (has_key key) (w.entries ++ e ∷ [])) (is_spent w.spent key) (any_grows (has_key key) w.entries (e ∷ []) h))
+        (λ h. or_right (list_any (has_key key) (w.entries ++ e ∷ [])) (is_spent w.spent key) h))
+    go (purges purge none es ks) =
+        rw (es, ks) (or_either stored (is_spent w.spent key) taken
+        (λ h. or_either (list_any (has_key key) (kept b w.entries)) (list_any (is_of_key key) (map spent_by (below b w.entries))) (kept_or_spent b key w.entries h)
+        (λ k. or_left (list_any (has_key key) (kept b w.entries)) _ k)
+        (λ k. or_right (list_any (has_key key) (kept b w.entries)) _ (any_behind (is_of_key key) w.spent (map spent_by (below b w.entries)) k)))
+        (λ h. or_right (list_any (has_key key) (kept b w.entries)) _ (any_grows (is_of_key key) w.spent (map spent_by (below b w.entries)) h)))
+
+one_of : (key : List ℕ) (e : EntryParts) (es : List EntryParts) → count_by (has_key key) (e ∷ es) ≡ cond (has_key key e) 1 0 + count_by (has_key key) es
+one_of key e es = sum_by-cons (λ x. cond (has_key key x) 1 0) e es
+
+-- an entry is added under a key that is free, and takes it
+takes_free : (w : Situation) (b : ℕ) (request : Request) (a : Asking) (e : EntryParts) → a.now ≡ w → verdict a ≡ accepted e → entries_left w b request ≡ w.entries ++ e ∷ []
+    → (taken_in w.entries w.spent e.key ≡ false) × (taken_in (entries_left w b request) (spent_left w b request) e.key ≡ true)
+takes_free w b request a e now is es =
+    let new = is_new a e is in
+    let key : e.key ≡ a.key = rw new.made refl in
+    let free : list_any (has_key a.key) w.entries ≡ false = rw now at (find_none (has_key a.key) a.now.entries new.free) in
+    let unspent : is_spent w.spent a.key ≡ false = rw now at new.unspent in (
+      rw (key, free, unspent) refl,
+      rw es (or_left (list_any (has_key e.key) (w.entries ++ e ∷ [])) _ (any_behind (has_key e.key) w.entries (e ∷ []) (or_left (bytes_eq e.key e.key) false ((bytes_eq-Decides e.key e.key).1 refl)))),
+    )
+
+-- what a request adds under a key, and whether it is free then
+one_request : (w : Situation) (b : ℕ) (request : Request) (key : List ℕ) (before : List EntryParts)
+    → count_by (has_key key) (with_one (added w request) before) + room (taken_in (entries_left w b request) (spent_left w b request) key)
+    ≤ count_by (has_key key) before + room (taken_in w.entries w.spent key)
+one_request w b request key before = go (outcome w b request)
+  where
+    less : room (taken_in (entries_left w b request) (spent_left w b request) key) ≤ room (taken_in w.entries w.spent key)
+    less = less_room (taken_in w.entries w.spent key) (taken_in (entries_left w b request) (spent_left w b request) key) (stays_taken w b request key)
+
+    none_added : added w request ≡ None
+        → count_by (has_key key) (with_one (added w request) before) + room (taken_in (entries_left w b request) (spent_left w b request) key)
+        ≤ count_by (has_key key) before + room (taken_in w.entries w.spent key)
+    none_added none = rw none (let l = less in omega (arith, l))
+
+    go : Outcome w b request
+        → count_by (has_key key) (with_one (added w request) before) + room (taken_in (entries_left w b request) (spent_left w b request) key)
+        ≤ count_by (has_key key) before + room (taken_in w.entries w.spent key)
+    go (stays none es ks) = none_added none
+    go (purges purge none es ks) = none_added none
+    go (adds a e now is some es ks told) = rw some (under (bytes_eq e.key key) refl)
+      where
+        under : (c : Bool) → bytes_eq e.key key ≡ c
+            → count_by (has_key key) (e ∷ before) + room (taken_in (entries_left w b request) (spent_left w b request) key) ≤ count_by (has_key key) before + room (taken_in w.entries w.spent key)
+        under true t =
+            let same : e.key ≡ key = (bytes_eq-Decides e.key key).0 t in
+            let both = takes_free w b request a e now is es in
+            let free : taken_in w.entries w.spent key ≡ false = rw same at both.0 in
+            let taken : taken_in (entries_left w b request) (spent_left w b request) key ≡ true = rw same at both.1 in
+            rw (free, taken, one_of key e before, t) (omega arith)
+        under false t = rw (one_of key e before, t) (let l = less in omega (arith, l))
+
+one_turn : (made : Bool) (j : Journal) (t : Turn) (key : List ℕ) (before : List EntryParts)
+    → count_by (has_key key) (with_one (if made then added (situation j t) t.request else None) before) + room (is_taken (if made then left j t else j) key)
+    ≤ count_by (has_key key) before + room (is_taken j key)
+one_turn true j t key before = one_request (situation j t) t.bound t.request key before
+one_turn false j t key before = omega arith
+
+counted : (j : Journal) (ts : List Turn) (key : List ℕ) → count_by (has_key key) (additions j ts) + room (is_taken (after j ts) key) ≤ room (is_taken j key)
+counted j [] key = omega arith
+counted j (t ∷ ts) key =
+    let before = counted j ts key in
+    let now = one_turn t.is_made (after j ts) t key (additions j ts) in
+    omega (arith, before, now)
+
+pub one_entry_per_key : (j : Journal) (ts : List Turn) (key : List ℕ) → count_by (has_key key) (additions j ts) ≤ (if is_taken j key then 0 else 1)
+one_entry_per_key j ts key = let all = counted j ts key in omega (arith, all)

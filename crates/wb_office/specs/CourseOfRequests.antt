@@ -1,0 +1,82 @@
+-- Requests one after the other, and the journal that they leave.
+use Rattle.std.specs.Prelude.{ℕ, Bool, if◌then◌else◌, List, [], ◌∷◌, Option, Some, None, Result}
+use Rattle.wb_instrument.specs.Setup.{Setup}
+use Rattle.wb_journal.specs.declared.entry.EntryParts.{EntryParts}
+use Rattle.wb_journal.specs.declared.kind.Kind.TheVariants.{Void}
+use Rattle.wb_scale.specs.Moment.{Moment}
+use Rattle.wb_store.specs.Rows.{SpentKey}
+use Rattle.wb_office.specs.declared.refusal.Refusal.{Refusal}
+use Rattle.wb_office.specs.declared.request.Request.{Request}
+use Rattle.wb_office.specs.declared.request.Request.TheVariants.{Weigh, VoidOpen, Ticket, Indication, JournalCsv, TicketsCsv, Purge, Check}
+use Rattle.wb_office.specs.Answer.{Told, answer, asking, entries_left, spent_left}
+use Rattle.wb_office.specs.Situation.{Situation}
+use Rattle.wb_office.specs.Verdict.{Verdict, accepted, refused, repeated, verdict}
+use Rattle.wb_office.specs.Wanted.{HasBound}
+
+-- the entry that a verdict adds, if it is accepted
+abbrev pub added_by : Verdict → Option EntryParts
+added_by (refused why) = None
+added_by (repeated e) = None
+added_by (accepted e) = Some e
+
+-- the entry that a request adds, if it is an accepted weighing or void
+abbrev pub added : Situation → Request → Option EntryParts
+added w (Weigh key kind plate) = added_by (verdict (asking w key kind plate))
+added w (VoidOpen key plate) = added_by (verdict (asking w key Void plate))
+added w (Ticket number) = None
+added w Indication = None
+added w JournalCsv = None
+added w TicketsCsv = None
+added w Purge = None
+added w Check = None
+
+-- the two lists of a store
+pub record Journal : Type 0 where
+  pub entries : List EntryParts
+  pub spent : List SpentKey
+
+-- a request in its turn, with the setup and the scale's history as they are then, and with the bound of a purge. One that was
+-- answered 15 or that a stop broke off may have been made or not; any other is made
+pub record Turn : Type 0 where
+  pub setup : Setup
+  pub history : List Moment
+  pub at : ℕ
+  pub request : Request
+  pub bound : ℕ
+  pub is_made : Bool
+
+-- what it is judged on
+abbrev pub situation : Journal → Turn → Situation
+situation j t = record { setup = t.setup; history = t.history; entries = j.entries; spent = j.spent; at = t.at }
+
+abbrev pub answer_in : Journal → Turn → Result Told Refusal
+answer_in j t = answer (situation j t) t.bound t.request
+
+-- the journal that it leaves if it is made
+abbrev pub left : Journal → Turn → Journal
+left j t = record { entries = entries_left (situation j t) t.bound t.request; spent = spent_left (situation j t) t.bound t.request }
+
+abbrev pub after_turn : Journal → Turn → Journal
+after_turn j t = if t.is_made then left j t else j
+
+-- the journal after these turns, the newest first
+abbrev pub after : Journal → List Turn → Journal
+after j [] = j
+after j (t ∷ ts) = after_turn (after j ts) t
+
+-- purges are at their bounds
+abbrev pub AreBounds : Journal → List Turn → Type 0
+AreBounds j [] = Unit {0}
+AreBounds j (t ∷ ts) = HasBound t.request (situation (after j ts) t) t.bound × AreBounds j ts
+
+abbrev pub with_one : Option EntryParts → List EntryParts → List EntryParts
+with_one None es = es
+with_one (Some e) es = e ∷ es
+
+abbrev pub added_in_turn : Journal → Turn → Option EntryParts
+added_in_turn j t = if t.is_made then added (situation j t) t.request else None
+
+-- the entries that these turns added, the newest first
+abbrev pub additions : Journal → List Turn → List EntryParts
+additions j [] = []
+additions j (t ∷ ts) = with_one (added_in_turn (after j ts) t) (additions j ts)

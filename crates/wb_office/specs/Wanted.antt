@@ -1,0 +1,47 @@
+-- What is wanted of a request.
+use Rattle.std.specs.Prelude.{◌≡◌, ℕ, Bool, true, false, ◌==◌, not, List, Result}
+use Rattle.wb_office.specs.declared.request.Request.{Request}
+use Rattle.wb_office.specs.declared.request.Request.TheVariants.{Weigh, VoidOpen, Ticket, Indication, JournalCsv, TicketsCsv, Purge, Check}
+use Rattle.wb_office.specs.Answer.{IsBoundAt, answer, entries_left, marks, spent_left, Told}
+use Rattle.wb_office.specs.Situation.{Situation}
+use Rattle.wb_journal.specs.declared.entry.EntryParts.{EntryParts}
+use Rattle.wb_store.specs.Rows.{SpentKey}
+use Rattle.wb_office.specs.declared.refusal.Refusal.{Refusal}
+
+-- what is wanted in a situation: an answer, the lists that it leaves, and whether the scale is marked
+pub record Wanted : Type 0 where
+  pub answer : Result Told Refusal
+  pub entries : List EntryParts
+  pub spent : List SpentKey
+  pub marks : Bool
+
+-- a purge has its bound, and no other request has one
+abbrev pub HasBound : Request → Situation → ℕ → Type 0
+HasBound (Weigh key kind plate) w b = b ≡ 0
+HasBound (VoidOpen key plate) w b = b ≡ 0
+HasBound (Ticket number) w b = b ≡ 0
+HasBound Indication w b = b ≡ 0
+HasBound JournalCsv w b = b ≡ 0
+HasBound TicketsCsv w b = b ≡ 0
+HasBound Purge w b = IsBoundAt w.setup w.entries w.spent w.at b
+HasBound Check w b = b ≡ 0
+
+abbrev pub wanted : Request → Situation → ℕ → Wanted
+wanted request w b = record { answer = answer w b request; entries = entries_left w b request; spent = spent_left w b request; marks = marks w request }
+
+-- the answer of the definitions, with what it leaves
+pub record IsWanted (request : Request) (w : Situation) (want : Wanted) : Type 0 where
+  pub bound : ℕ
+  pub is_bound : HasBound request w bound
+  pub is : want ≡ wanted request w bound
+
+-- an indication and the ticket of the number 0 ask no store; every other request does
+abbrev pub asks_store : Request → Bool
+asks_store (Weigh key kind plate) = true
+asks_store (VoidOpen key plate) = true
+asks_store (Ticket number) = not (number == 0)
+asks_store Indication = false
+asks_store JournalCsv = true
+asks_store TicketsCsv = true
+asks_store Purge = true
+asks_store Check = true

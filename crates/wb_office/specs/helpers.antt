@@ -1,0 +1,10 @@
+pub mod ConditionGroups
+pub mod EvidenceShown
+pub mod ExportRecord
+pub mod IndicatedLoad
+pub mod JudgedByVerdict
+pub mod LookUps
+pub mod Partners
+pub mod PurgeDue
+pub mod WantOfMemory
+pub mod WeighingWanted

@@ -1,0 +1,22 @@
+-- An entry that was found, with its partner.
+use Rattle.std.specs.Prelude.{◌≡◌, ℕ, List, Option, Some, None, option_map, ◌&&◌, ◌||◌, Bool, not}
+use Rattle.wb_journal.specs.declared.entry.EntryParts.{EntryParts}
+use Rattle.wb_journal.specs.Pairs.{partner, with_number}
+use Rattle.wb_office.specs.declared.tickets.Pair.{Pair}
+use Rattle.wb_journal.specs.Digest.{is_sound}
+use Rattle.wb_journal.specs.Kind.{is_second}
+use Rattle.wb_office.specs.Conditions.{holds_of}
+
+-- it comes with its partner
+abbrev pub IsPaired : List EntryParts → Option Pair → Type 0
+IsPaired es None = Unit {0}
+IsPaired es (Some pair) = pair.partner ≡ partner es pair.entry
+
+-- the entry of the number, with its partner
+pub record IsPairOf (es : List EntryParts) (number : ℕ) (found : Option Pair) : Type 0 where
+  pub entry : option_map (λ pair. pair.entry) found ≡ with_number number es
+  pub paired : IsPaired es found
+
+-- an entry that isn't sound, or is a Second with this partner, which is missing or isn't sound
+abbrev pub is_damaged_with : EntryParts → Option EntryParts → Bool
+is_damaged_with e p = not (is_sound e) || (is_second e.kind && not (holds_of is_sound p))

@@ -1,0 +1,6 @@
+pub mod AskedByHead
+pub mod FoundBytes
+pub mod HeadPlaces
+pub mod LengthSaid
+pub mod RoomShows
+pub mod ToldByParts
