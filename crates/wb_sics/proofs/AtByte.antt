@@ -22,7 +22,7 @@ use Rattle.wb_sics.specs.Answers.{tare_reply, weight_reply, zero_reply}
 use Rattle.wb_sics.specs.Calls.{asked, calls}
 use Rattle.wb_sics.specs.Commands.{command_of}
 use Rattle.wb_sics.specs.Event.{Event, byte, hang_up, stored}
-use Rattle.wb_sics.specs.Kept.{left_for, refused_by, waiting_from}
+use Rattle.wb_sics.specs.helpers.Kept.{left_for, refused_by, waiting_from}
 use Rattle.wb_sics.specs.Lines.{line_command, stream, unfinished, without_carriage_return}
 use Rattle.wb_sics.specs.Replies.{own_reply, replies, weight_at, weight_waits}
 use Rattle.wb_sics.specs.Stands.{Stands, StandsAt, Takes, TakesStored, TerminalState}

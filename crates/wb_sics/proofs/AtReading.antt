@@ -11,7 +11,7 @@ use Rattle.wb_scale.specs.Moment.{readings}
 use Rattle.wb_scale.specs.Stands.{Stands as ScaleStands}
 use Rattle.wb_scale.specs.State.{State}
 use Rattle.wb_scale.specs.Zero.{zero_answer}
-use Rattle.wb_scale.proofs.Moments.{readings-taken}
+use Rattle.wb_scale.proofs.offered.Readings.{readings-taken}
 use Rattle.wb_sics.specs.declared.reply.Reply.{Reply}
 use Rattle.wb_sics.specs.declared.waiting.Awaited.{Awaited}
 use Rattle.wb_sics.specs.declared.waiting.Awaited.TheVariants.{Weight, Zero, Tare}
@@ -19,7 +19,7 @@ use Rattle.wb_sics.specs.declared.waiting.Waiting.{Waiting}
 use Rattle.wb_sics.specs.Answers.{weight_reply, zero_reply}
 use Rattle.wb_sics.specs.Calls.{asked_at, calls}
 use Rattle.wb_sics.specs.Event.{Event, reading}
-use Rattle.wb_sics.specs.Kept.{asked_waiting, decided_at, left_for, replies_read, waiting_read}
+use Rattle.wb_sics.specs.helpers.Kept.{asked_waiting, decided_at, left_for, replies_read, waiting_read}
 use Rattle.wb_sics.specs.Replies.{replies, reply_to, weight_at, weight_waits}
 use Rattle.wb_sics.specs.Stands.{StandsAt, TerminalState}
 use Rattle.wb_sics.specs.Waiting.{readings_since, stable_at, tare_waits, zero_waits}

@@ -15,7 +15,7 @@ use Rattle.wb_scale.specs.History.{moments}
 use Rattle.wb_scale.specs.Moment.{Moment, readings}
 use Rattle.wb_scale.specs.Tare.{is_preset, tare_answer, tare_answer_at, tare_now}
 use Rattle.wb_scale.specs.Zero.{above_zero, last_load, zero_answer, zero_answer_at, zero_now}
-use Rattle.wb_scale.proofs.Moments.{readings-taken, readings-none}
+use Rattle.wb_scale.proofs.offered.Readings.{readings-taken, readings-none}
 use Rattle.wb_sics.specs.declared.command.Command.{Command}
 use Rattle.wb_sics.specs.declared.command.Command.TheVariants.{Weight, WeightNow, Zero, Tare, TareValue, PresetTare, BadTare, ClearTare, Cancel, Commands, SerialNumber, Unknown}
 use Rattle.wb_sics.specs.Answers.{tare_reply, zero_reply}

@@ -11,7 +11,7 @@ use Rattle.wb_scale.specs.Tare.{tare_answer}
 use Rattle.wb_sics.specs.declared.reply.Reply.{Reply}
 use Rattle.wb_sics.specs.declared.waiting.Awaited.TheVariants.{Weight, Tare}
 use Rattle.wb_sics.specs.Answers.{tare_reply, weight_reply}
-use Rattle.wb_sics.specs.Kept.{decided_at}
+use Rattle.wb_sics.specs.helpers.Kept.{decided_at}
 
 pub weight-decided : (i j inst : Setup) (k : List Call) (r : Reading) (x : Indicated) (answer : Option Reply) → answer ≡ weight_reply inst x → inst ≡ j → j ≡ i
     → x ≡ indicated j (moments j (read r ∷ k)) → answer ≡ decided_at i k r Weight

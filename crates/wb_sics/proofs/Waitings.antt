@@ -12,7 +12,7 @@ use Rattle.wb_sics.specs.declared.waiting.Awaited.TheVariants.{Weight, Zero, Tar
 use Rattle.wb_sics.specs.declared.waiting.Waiting.{Waiting}
 use Rattle.wb_sics.specs.Answers.{refusal}
 use Rattle.wb_sics.specs.Calls.{asked_at}
-use Rattle.wb_sics.specs.Kept.{asked_waiting, decided_at, left_for, refused_by, still, waiting_after, waiting_read}
+use Rattle.wb_sics.specs.helpers.Kept.{asked_waiting, decided_at, left_for, refused_by, still, waiting_after, waiting_read}
 use Rattle.wb_sics.specs.Replies.{given_up, is_cancel}
 use Rattle.wb_sics.specs.Waiting.{same}
 use Rattle.wb_sics.proofs.Unanswered.{left_next}

@@ -5,7 +5,7 @@ ghost use Rattle.wb_scale.specs.Call.{Call};
 ghost use Rattle.wb_scale.specs.History.{moments};
 ghost use Rattle.wb_scale.specs.Stands.{Stands as ScaleStands, TakesAll as ScaleTakesAll};
 ghost use Rattle.wb_sics.specs.Calls.{asked, asked_at};
-ghost use Rattle.wb_sics.specs.Kept.{asked_waiting, decided_at as decided_at_of, replies_read, waiting_from, waiting_read};
+ghost use Rattle.wb_sics.specs.helpers.Kept.{asked_waiting, decided_at as decided_at_of, replies_read, waiting_from, waiting_read};
 ghost use Rattle.wb_sics.specs.Replies.{listed as listed_of, own_reply};
 ghost use Rattle.wb_sics.specs.Waiting.{same};
 ghost use Rattle.wb_sics.specs.declared.waiting.Awaited.TheVariants.{Tare as AwaitedTare, Zero as AwaitedZero};
@@ -36,7 +36,7 @@ impl<W: Window> Model for Terminal<W> {
 
     ghost Value = { TerminalState };
 
-    ghost use Rattle.wb_sics.specs.Kept.{left_for};
+    ghost use Rattle.wb_sics.specs.helpers.Kept.{left_for};
     ghost use Rattle.wb_sics.specs.declared.waiting.Awaited.TheVariants.{Tare, Weight, Zero};
 
     ghost view = { λ t. record { scale = t.scale; weight = left_for Weight t.waiting; zero = left_for Zero t.waiting; tare = left_for Tare t.waiting; line = t.line.items } };

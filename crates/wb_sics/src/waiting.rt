@@ -3,7 +3,7 @@ ghost use Rattle.arrayvec.specs.ArrayVec.{array_vec_len};
 ghost use Rattle.std.specs.Prelude.{◌≡◌, ◌≤◌, ◌++◌, ◌∷◌, [], None, is_some, nat_lt, option_to_list, true};
 ghost use Rattle.wb_instrument.specs.Setup.{Setup};
 ghost use Rattle.wb_sics.specs.Answers.{refusal as refusal_of};
-ghost use Rattle.wb_sics.specs.Kept.{one_less, refused_by, still, waiting_after};
+ghost use Rattle.wb_sics.specs.helpers.Kept.{one_less, refused_by, still, waiting_after};
 ghost use Rattle.wb_sics.specs.Replies.{reply_to};
 
 use crate::command::Command;

@@ -1,6 +1,6 @@
 -- What a DequeWindow keeps beside its readings, to tell whether they agree.
 use Rattle.std.specs.Prelude.{ℕ, ◌+◌, List, [], ◌∷◌}
-use Rattle.wb_window.specs.Candidates.{queue_of}
+use Rattle.wb_window.specs.helpers.Candidates.{queue_of}
 use Rattle.wb_window.specs.declared.candidates.Extreme.TheVariants.{Greatest, Least}
 use Rattle.wb_window.specs.declared.queues.Queues.{Queues}
 use Rattle.wb_window.specs.declared.reading.Reading.{Reading}
