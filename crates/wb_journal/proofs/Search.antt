@@ -1,11 +1,8 @@
-use Rattle.std.proofs.Common.{◌≡◌, ℕ, zero as nought, suc, ◌<◌, get_or, length, arith, Bool, true, false, cond, ◌||◌, ◌⊎◌, inl, inr, List, [], ◌∷◌, ◌++◌, Some, None, refl, sym, ap, subst}
+-- What a test of some member says, what a search finds, and what holds of each member.
+use Rattle.std.proofs.Common.{◌≡◌, ℕ, suc, ◌<◌, get_or, length, arith, Bool, true, false, cond, ◌||◌, inl, inr, List, [], ◌∷◌, ◌++◌, Some, None, refl, sym, ap, subst}
 use Rattle.std.specs.List.{find, list_any}
-use Rattle.std.specs.Prelude.{All, Any, Contains}
-
--- x is one of the list
-abbrev pub Among : {A : Type 0} → A → List A → Type 0
-Among x [] = ⊥
-Among x (y ∷ ys) = (x ≡ y) ⊎ Among x ys
+use Rattle.std.specs.Prelude.{All, Any}
+use Rattle.wb_journal.proofs.offered.Members.{Among, among-at}
 
 pub list_any-among : {A : Type 0} (p : A → Bool) (x : A) (xs : List A) → Among x xs → p x ≡ true → list_any p xs ≡ true
 list_any-among p x [] h e = absurd h
@@ -16,25 +13,9 @@ list_any-among p x (y ∷ ys) (inr h) e = go (p y) (list_any-among p x ys h e)
     go true r = refl
     go false r = r
 
-pub list_any-some : {A : Type 0} (p : A → Bool) (xs : List A) → list_any p xs ≡ true → (x : A) × (Among x xs × (p x ≡ true))
-list_any-some p [] e = absurd (cc)
-list_any-some p (y ∷ ys) e = go (p y) refl (λ r. list_any-some p ys r)
-  where
-    go : (b : Bool) → p y ≡ b → (list_any p ys ≡ true → (x : _) × (Among x ys × (p x ≡ true))) → (x : _) × (Among x (y ∷ ys) × (p x ≡ true))
-    go true t next = (y, (inl refl, t))
-    go false t next = let r = next (rw t at e) in (r.0, (inr r.1.0, r.1.1))
-
 pub list_any-none : {A : Type 0} (p : A → Bool) (xs : List A) → ((x : A) → Among x xs → p x ≡ false) → list_any p xs ≡ false
 list_any-none p [] h = refl
 list_any-none p (y ∷ ys) h = rw (h y (inl refl)) (list_any-none p ys (λ x m. h x (inr m)))
-
-pub find-among : {A : Type 0} (p : A → Bool) (xs : List A) (x : A) → find p xs ≡ Some x → Among x xs × (p x ≡ true)
-find-among p [] x e = absurd (cc)
-find-among p (y ∷ ys) x e = go (p y) refl (λ r. find-among p ys x r)
-  where
-    go : (b : Bool) → p y ≡ b → (find p ys ≡ Some x → Among x ys × (p x ≡ true)) → Among x (y ∷ ys) × (p x ≡ true)
-    go true t next = let same : Some y ≡ Some x = rw t at e in let is : x ≡ y = cc in (inl is, cc)
-    go false t next = let r = next (rw t at e) in (inr r.0, r.1)
 
 pub find-none : {A : Type 0} (p : A → Bool) (xs : List A) (x : A) → find p xs ≡ None → Among x xs → p x ≡ false
 find-none p [] x e h = absurd h
@@ -47,10 +28,6 @@ find-none p (y ∷ ys) x e h = go (p y) refl (λ r m. find-none p ys x r m)
         here : Among x (y ∷ ys) → p x ≡ false
         here (inl same) = cc
         here (inr m) = next (rw t at e) m
-
-pub find-absent : {A : Type 0} (p : A → Bool) (xs : List A) → ((x : A) → Among x xs → p x ≡ false) → find p xs ≡ None
-find-absent p [] h = refl
-find-absent p (y ∷ ys) h = rw (h y (inl refl)) (find-absent p ys (λ x m. h x (inr m)))
 
 -- the only one that passes is found
 pub find-only : {A : Type 0} (p : A → Bool) (xs : List A) (x : A) → Among x xs → p x ≡ true → ((y : A) → Among y xs → p y ≡ true → y ≡ x)
@@ -72,24 +49,10 @@ pub among-right : {A : Type 0} (x : A) (xs ys : List A) → Among x ys → Among
 among-right x [] ys h = h
 among-right x (z ∷ zs) ys h = inr (among-right x zs ys h)
 
-pub among-either : {A : Type 0} (x : A) (xs ys : List A) → Among x (xs ++ ys) → Among x xs ⊎ Among x ys
-among-either x [] ys h = inr h
-among-either x (z ∷ zs) ys (inl e) = inl (inl e)
-among-either x (z ∷ zs) ys (inr h) = go (among-either x zs ys h)
-  where
-    go : Among x zs ⊎ Among x ys → Among x (z ∷ zs) ⊎ Among x ys
-    go (inl m) = inl (inr m)
-    go (inr m) = inr m
-
 among-place : {A : Type 0} (x : A) (xs : List A) → Among x xs → (k : ℕ) × ((k < length xs) × (get_or xs k x ≡ x))
 among-place x [] h = absurd h
 among-place x (y ∷ ys) (inl e) = (0, (omega arith, sym e))
 among-place x (y ∷ ys) (inr h) = let r = among-place x ys h in (suc r.0, (omega (arith, r.1.0), r.1.1))
-
-pub among-at : {A : Type 0} (xs : List A) (k : ℕ) (d : A) → k < length xs → Among (get_or xs k d) xs
-among-at [] k d h = absurd (omega arith)
-among-at (y ∷ ys) nought d h = inl refl
-among-at (y ∷ ys) (suc k) d h = inr (among-at ys k d (omega arith))
 
 pub all-among : {A : Type 0} (P : A → Type 0) (x : A) (xs : List A) → All P xs → Among x xs → P x
 all-among P x xs all h = let r = among-place x xs h in subst P r.1.1 (all r.0 x r.1.0)
@@ -102,6 +65,3 @@ any-from P x xs h p = let r = among-place x xs h in (r.0, x, r.1.0, r.1.1, p)
 
 pub any-some : {A : Type 0} (P : A → Type 0) (xs : List A) → Any P xs → (x : A) × (Among x xs × P x)
 any-some P xs any = (any.1, (subst (λ y. Among y xs) any.3 (among-at xs any.0 any.1 any.2), any.4))
-
-pub among-contains : {A : Type 0} (x : A) (xs : List A) → Contains xs x → Among x xs
-among-contains x xs h = subst (λ y. Among y xs) h.2 (among-at xs h.0 x h.1)
