@@ -1,10 +1,15 @@
-use Rattle.std.proofs.Common.{◌≡◌, ◌≢◌, ℕ, ◌+◌, ◌<◌, ◌≤◌, Bool, true, false, cond, List, [], ◌∷◌, ◌++◌, length, take, reverse, refl, sym, ◌∙◌, ap, arith}
-use Rattle.std.specs.Prelude.{nat_lt, ◌==◌}
+-- The unfinished line: what is kept of it, and the command of the line that an LF ends.
+use Rattle.std.proofs.Common.{◌≡◌, ◌≢◌, ℕ, ◌+◌, ◌<◌, ◌≤◌, Bool, true, false, cond, List, [], ◌∷◌, ◌++◌, length, take, reverse, refl, sym, ◌∙◌, ap, arith, ◌-◌, one-add}
+use Rattle.std.specs.Prelude.{nat_lt, ◌==◌, not}
 use Rattle.std.proofs.lemmas.Bool.Decides.{nat_tests}
 use Rattle.std.proofs.lemmas.List.{take_all, take-append-le, length-take, length-reverse, reverse-append, reverse-reverse, length_push}
 use Rattle.wb_sics.specs.declared.command.Command.TheVariants.{Unknown}
 use Rattle.wb_sics.specs.Commands.{command_of}
-use Rattle.wb_sics.specs.Lines.{without_carriage_return}
+use Rattle.wb_sics.specs.Lines.{without_carriage_return, line_command, stream, unfinished}
+use Rattle.std.specs.List.{before_first, prefix_len}
+use Rattle.std.proofs.lemmas.Grind.{reverse_onto}
+use Rattle.wb_sics.specs.declared.command.Command.{Command}
+use Rattle.wb_sics.specs.Event.{Event, byte}
 
 shorter : (n : ℕ) (text : List ℕ) → length (take n text) < n → length text < n
 shorter n text h = let l = length-take n text in omega arith
@@ -85,3 +90,21 @@ kept_none (b ∷ bs) line e n =
     let r = length-reverse (b ∷ bs) in
     let z : length (take 42 (reverse (b ∷ bs))) ≡ 0 = rw (← e) n in
     absurd (omega arith)
+
+before_first-cons : {X : Type 0} (p : X → Bool) (x : X) (xs : List X) → before_first p (x ∷ xs) ≡ cond (p x) [] (x ∷ before_first p xs)
+before_first-cons p x xs =
+    elim (p x) as (λ b. take (cond (not b) (1 + prefix_len (λ y. not (p y)) xs) 0) (x ∷ xs) ≡ cond b [] (x ∷ before_first p xs)) [
+      | true ↦ refl
+      | false ↦ rw one-add refl
+    ]
+
+pub unfinished-byte : (b : ℕ) (h : List Event) → (b == 10) ≡ false → reverse (unfinished (byte b ∷ h)) ≡ reverse (unfinished h) ++ b ∷ []
+unfinished-byte b h e = rw (before_first-cons (λ x. x == 10) b (stream h), e) (reverse_onto (unfinished h) b [])
+
+pub unfinished-line : (b : ℕ) (h : List Event) → (b == 10) ≡ true → unfinished (byte b ∷ h) ≡ []
+unfinished-line b h e = rw (before_first-cons (λ x. x == 10) b (stream h), e) refl
+
+pub line_command-kept : (line : List ℕ) (h : List Event) (c : Command) → line ≡ take 42 (reverse (unfinished h))
+    → ((bytes : List ℕ) → line ≡ take 42 (reverse bytes) → c ≡ command_of (reverse (without_carriage_return bytes))) → c ≡ line_command h
+unfolding line_command
+line_command-kept line h c e k = k (unfinished h) e
