@@ -1,3 +1,3 @@
 pub mod Presets
-pub mod Rounds
 pub mod Setups
+pub mod offered

@@ -1,3 +1,4 @@
+-- Preset tares: the intervals of so many grams, and when there are none.
 use Rattle.std.proofs.Common.{◌≡◌, ℕ, ◌+◌, ◌*◌, ◌/◌, ◌≤◌, ◌<◌, Option, ℤ, pos, option_map, ◌↔◌, Bool, true, false, cond, ◌&&◌, Some, None, refl, sym, ◌∙◌, ap, arith}
 use Rattle.std.proofs.Math.Nat.{mul-le-mul_left}
 use Rattle.std.proofs.lemmas.Bool.Decides.{nat_tests}

@@ -1,3 +1,4 @@
+-- A setup is one if each part is within its limits.
 use Rattle.std.proofs.Common.{◌≡◌, ℕ, suc, zero as nought, ◌≤◌, true, arith}
 use Rattle.std.specs.Prelude.{All}
 use Rattle.wb_instrument.specs.Interval.{is_interval}

@@ -1,4 +1,3 @@
-pub mod Inside
 pub mod Interval
 pub mod Limits
 pub mod Preset
@@ -6,3 +5,4 @@ pub mod Rounding
 pub mod Serial
 pub mod Setup
 pub mod WeightField
+pub mod helpers

@@ -85,7 +85,7 @@ impl Model for Instrument {
 
     ghost Value = { Setup };
 
-    ghost use Rattle.wb_instrument.specs.Inside.{setup_inside};
+    ghost use Rattle.wb_instrument.specs.helpers.Inside.{setup_inside};
 
     ghost view = { setup_inside };
 

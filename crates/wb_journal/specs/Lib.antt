@@ -4,16 +4,13 @@ pub mod CivilTime
 pub mod Digest
 pub mod Entry
 pub mod EntryText
-pub mod FaultBefore
 pub mod Key
 pub mod Kind
 pub mod Laws
-pub mod LeastAbove
 pub mod Moment
-pub mod Nearest
-pub mod OnSite
 pub mod Pairs
 pub mod Plate
 pub mod Retention
 pub mod Rising
 pub mod Texts
+pub mod helpers

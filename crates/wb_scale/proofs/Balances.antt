@@ -2,7 +2,7 @@
 use Rattle.std.proofs.Common.{◌≡◌, ℕ, ◌+◌, ◌*◌, Bool, true, false, cond, List, Option, Some, None, option_map, ◌↔◌, refl, sym, ◌∙◌, ap, ℤ, pos, ◌-ℤ◌, ◌≤ℤ◌, neg_ℤ, arith}
 use Rattle.std.specs.Prelude.{int_lt}
 use Rattle.std.proofs.lemmas.Int.{ints}
-use Rattle.wb_instrument.proofs.Rounds.{IsRounded-round}
+use Rattle.wb_instrument.proofs.offered.Rounding.{IsRounded-round}
 use Rattle.wb_instrument.specs.Preset.{IsPreset, preset}
 use Rattle.wb_instrument.specs.Rounding.{round}
 use Rattle.wb_instrument.specs.Setup.{Setup, intervals}
@@ -12,7 +12,7 @@ use Rattle.wb_scale.specs.declared.answers.TareAnswer.{TareAnswer}
 use Rattle.wb_scale.specs.declared.answers.TareAnswer.TheVariants.{Done}
 use Rattle.wb_scale.specs.declared.answers.TareNow.{TareNow}
 use Rattle.wb_scale.specs.declared.answers.TareNow.TheVariants.{Empty, Weighed, Preset}
-use Rattle.wb_scale.specs.After.{above, balance_answer}
+use Rattle.wb_scale.specs.helpers.After.{above, balance_answer}
 use Rattle.wb_scale.specs.Call.{Call}
 use Rattle.wb_scale.specs.History.{moments}
 use Rattle.wb_scale.specs.Indication.{IsInRange, indicated, indicated_at, shown}

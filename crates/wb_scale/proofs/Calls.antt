@@ -7,7 +7,7 @@ use Rattle.wb_scale.specs.Call.{Call, read, read_for_zero, set_zero, tare, prese
 use Rattle.wb_scale.specs.History.{moment, moments, taken}
 use Rattle.wb_scale.specs.Moment.{Moment, nothing, readings}
 use Rattle.wb_scale.specs.Zero.{is_done, last_load, load_of, zero_answer}
-use Rattle.wb_scale.proofs.Moments.{readings-none, readings-taken}
+use Rattle.wb_scale.proofs.offered.Readings.{readings-none, readings-taken}
 
 -- either moment takes the reading
 either-taken : (b : Bool) (m n : Moment) (ms : List Moment) (r : Reading) → m.reading ≡ Some r → n.reading ≡ Some r → readings (cond b m n ∷ ms) ≡ r ∷ readings ms

@@ -10,3 +10,4 @@ pub mod Unmarking
 pub mod Windows
 pub mod ZeroRange
 pub mod Zeros
+pub mod offered

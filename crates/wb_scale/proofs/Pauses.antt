@@ -5,7 +5,7 @@ use Rattle.std.specs.List.{list_all}
 use Rattle.std.specs.Ordering.{int_eq}
 use Rattle.std.proofs.lemmas.Bool.Decides.{nat_tests}
 use Rattle.wb_window.specs.declared.reading.Reading.{Reading}
-use Rattle.wb_scale.specs.After.{pause_from}
+use Rattle.wb_scale.specs.helpers.After.{pause_from}
 use Rattle.wb_scale.specs.Moment.{Moment}
 use Rattle.wb_scale.specs.Tracking.{is_quiet, steps}
 use Rattle.wb_scale.proofs.Moments.{steps-taken}

@@ -6,7 +6,7 @@ use Rattle.std.proofs.lemmas.Bool.Decides.{nat_tests}
 use Rattle.std.proofs.lemmas.Int.{ints}
 use Rattle.std.proofs.lemmas.List.{length-take}
 use Rattle.std.proofs.lemmas.List.Folds.{list_all_at}
-use Rattle.wb_instrument.proofs.Rounds.{IsRounded-round}
+use Rattle.wb_instrument.proofs.offered.Rounding.{IsRounded-round}
 use Rattle.wb_instrument.specs.Rounding.{round}
 use Rattle.wb_instrument.specs.Setup.{Setup, intervals}
 use Rattle.wb_window.specs.Stability.{agree, is_stable, near}

@@ -7,7 +7,7 @@ use Rattle.wb_instrument.specs.Rounding.{round}
 use Rattle.wb_window.specs.declared.reading.Reading.{Reading}
 use Rattle.wb_scale.specs.declared.answers.TareNow.TheVariants.{Empty}
 use Rattle.wb_scale.specs.declared.answers.ZeroAnswer.{ZeroAnswer}
-use Rattle.wb_scale.specs.After.{IsRefused, IsTarget, pause_from, seen, target_answer, tracked}
+use Rattle.wb_scale.specs.helpers.After.{IsRefused, IsTarget, pause_from, seen, target_answer, tracked}
 use Rattle.wb_scale.specs.Call.{Call, read, read_for_zero, set_zero}
 use Rattle.wb_scale.specs.Cleared.{is_cleared}
 use Rattle.wb_scale.specs.History.{moments, taken}
@@ -15,7 +15,8 @@ use Rattle.wb_scale.specs.Moment.{Moment, nothing, readings}
 use Rattle.wb_scale.specs.Stands.{Stands, StandsAt}
 use Rattle.wb_scale.specs.State.{IsScale, State}
 use Rattle.wb_scale.specs.Zero.{is_done, last_load, load_of, zero_answer}
-use Rattle.wb_scale.proofs.Moments.{is_cleared-none, is_cleared-taken, is_quiet-none, above_zero-taken, readings-none, readings-taken, tare_now-new, zero_now-set}
+use Rattle.wb_scale.proofs.Moments.{is_cleared-none, is_cleared-taken, is_quiet-none, above_zero-taken, tare_now-new, zero_now-set}
+use Rattle.wb_scale.proofs.offered.Readings.{readings-none, readings-taken}
 use Rattle.wb_scale.proofs.Pauses.{Pauses-taken, pause_from-le}
 use Rattle.wb_scale.proofs.Standing.{Stands-kept, load-held, load-seen, stable-held, stable-seen}
 use Rattle.wb_scale.proofs.Windows.{take_kept}

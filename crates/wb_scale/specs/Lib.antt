@@ -1,10 +1,8 @@
-pub mod After
 pub mod Call
 pub mod Cleared
 pub mod Drift
 pub mod History
 pub mod Indication
-pub mod Load
 pub mod Moment
 pub mod Stands
 pub mod State
@@ -13,3 +11,4 @@ pub mod Tare
 pub mod Tracking
 pub mod Unmarked
 pub mod Zero
+pub mod helpers

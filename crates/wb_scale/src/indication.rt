@@ -4,7 +4,7 @@ ghost use Rattle.wb_window.specs.Stability.{is_stable};
 ghost use Rattle.wb_scale.specs.Call.{Call};
 ghost use Rattle.wb_scale.specs.History.{moments};
 ghost use Rattle.wb_scale.specs.Indication.{IsInRange, indicated, indicated_at, shown};
-ghost use Rattle.wb_scale.specs.Load.{IsAbove};
+ghost use Rattle.wb_scale.specs.helpers.Load.{IsAbove};
 ghost use Rattle.wb_scale.specs.Moment.{readings};
 ghost use Rattle.wb_scale.specs.Stands.{Stands};
 ghost use Rattle.wb_scale.specs.Tare.{IsTare, tare_now};

@@ -33,9 +33,9 @@ impl<W: Window> Model for Scale<W> {
 }
 
 impl<W: Window> Scale<W> {
-    ghost use Rattle.wb_scale.specs.After.{above};
+    ghost use Rattle.wb_scale.specs.helpers.After.{above};
     ghost use Rattle.wb_scale.specs.Call.{Call, read};
-    ghost use Rattle.wb_scale.specs.Load.{IsAbove, IsLoad};
+    ghost use Rattle.wb_scale.specs.helpers.Load.{IsAbove, IsLoad};
     ghost use Rattle.wb_scale.specs.Stands.{Stands, Takes};
     ghost use Rattle.wb_scale.specs.Zero.{last_load};
 

@@ -2,8 +2,8 @@
 ghost use Rattle.std.specs.Prelude.{◌≡◌, ◌≤◌, ◌+ℤ◌, ◌≤ℤ◌, if◌then◌else◌, IfSome, neg_ℤ, pos, Some, true};
 ghost use Rattle.wb_instrument.specs.Limits.{zero_limit};
 ghost use Rattle.wb_window.specs.Stability.{is_stable};
-ghost use Rattle.wb_scale.specs.After.{pause_from, step_of, tracked};
-ghost use Rattle.wb_scale.specs.Load.{IsLoad};
+ghost use Rattle.wb_scale.specs.helpers.After.{pause_from, step_of, tracked};
+ghost use Rattle.wb_scale.specs.helpers.Load.{IsLoad};
 ghost use Rattle.wb_scale.specs.Tracking.{is_within as is_within_limit, step_to, towards};
 ghost use Rattle.wb_scale.specs.Zero.{IsInRange};
 

@@ -1,7 +1,7 @@
 //! Semi-automatic zero setting.
 ghost use Rattle.std.specs.Prelude.{◌≡◌, ◌∷◌, ◌≤ℤ◌, false, IfErr, IfOk, List, neg_ℤ, pos, Some};
 ghost use Rattle.wb_window.specs.Reading.{IsReading};
-ghost use Rattle.wb_scale.specs.After.{IsRefused, IsTarget};
+ghost use Rattle.wb_scale.specs.helpers.After.{IsRefused, IsTarget};
 ghost use Rattle.wb_scale.specs.Call.{Call, read, read_for_zero, set_zero};
 ghost use Rattle.wb_scale.specs.History.{moments};
 ghost use Rattle.wb_scale.specs.Moment.{readings};

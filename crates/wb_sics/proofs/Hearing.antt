@@ -1,5 +1,5 @@
 -- Stored weighings change no reply.
-use Rattle.std.proofs.Common.{◌≡◌, ℕ, ◌+◌, Bool, true, false, cond, List, [], ◌∷◌, ◌++◌, Option, Some, refl, sym, ◌∙◌, ap}
+use Rattle.std.proofs.Common.{◌≡◌, ℕ, ◌+◌, Bool, true, false, cond, List, [], ◌∷◌, ◌++◌, Option, Some, None, refl, sym, ◌∙◌, ap}
 use Rattle.std.specs.Prelude.{◌==◌, ◌||◌, is_some}
 use Rattle.wb_instrument.specs.Setup.{Setup}
 use Rattle.wb_window.specs.declared.reading.Reading.{Reading}
@@ -10,12 +10,12 @@ use Rattle.wb_sics.specs.declared.command.Command.{Command}
 use Rattle.wb_sics.specs.declared.command.Command.TheVariants.{Weight, WeightNow, Zero, Tare, TareValue, PresetTare, BadTare, ClearTare, Cancel, Commands, SerialNumber, Unknown}
 use Rattle.wb_sics.specs.declared.waiting.Awaited.{Awaited}
 use Rattle.wb_sics.specs.declared.waiting.Awaited.TheVariants.{Weight as AwaitedWeight, Zero as AwaitedZero, Tare as AwaitedTare}
-use Rattle.wb_sics.specs.Answers.{weight_reply}
+use Rattle.wb_sics.specs.declared.waiting.Waiting.{Waiting}
 use Rattle.wb_sics.specs.Calls.{asked, asked_at, calls}
 use Rattle.wb_sics.specs.Event.{Event, reading, byte, hang_up, stored, readings_of}
 use Rattle.wb_sics.specs.Heard.{RepliesToHeard, heard}
 use Rattle.wb_sics.specs.Lines.{commanded, line_command, stream}
-use Rattle.wb_sics.specs.Replies.{own_reply, replies, weight_at, weight_waits}
+use Rattle.wb_sics.specs.Replies.{decided, own_reply, replies, replies_read, reply_at, waiting_after, weight_at, weight_waits}
 use Rattle.wb_sics.specs.Waiting.{held_since, readings_since, stable_at, tare_waits, waits, zero_waits}
 
 -- ---- the words on events
@@ -128,13 +128,24 @@ own_reply-unmarked s k Commands u = refl
 own_reply-unmarked s k SerialNumber u = refl
 own_reply-unmarked s k Unknown u = refl
 
+waiting_after-heard : AllSameUnmarked → (s : Setup) (h : List Event) → waiting_after s (heard h) ≡ waiting_after s h
+waiting_after-heard same s h = rw (weight_waits-heard same s h, zero_waits-heard s h, tare_waits-heard s h, readings_since-heard h) refl
+
+decided-unmarked : (s : Setup) (k : List Call) (kind : Awaited) → SameUnmarked s k → decided s (moments s (unmarked k)) kind ≡ decided s (moments s k) kind
+decided-unmarked s k AwaitedWeight u = rw u.indicated refl
+decided-unmarked s k AwaitedZero u = rw u.readings refl
+decided-unmarked s k AwaitedTare u = rw u.tare refl
+
+replies_read-unmarked : (s : Setup) (k : List Call) (r : Reading) (w : Option Waiting) → SameUnmarked s (read r ∷ k) → replies_read s (unmarked k) r w ≡ replies_read s k r w
+replies_read-unmarked s k r None u = refl
+replies_read-unmarked s k r (Some w) u = ap (λ d. reply_at d w) (decided-unmarked s (read r ∷ k) w.awaited u)
+
 pub replies_to_heard : AllSameUnmarked → RepliesToHeard
 unfolding replies
 replies_to_heard same s (reading r) h =
-    let u = same s (read r ∷ calls s h) in
-    rw (weight_waits-heard same s h, zero_waits-heard s h, tare_waits-heard s h, readings_since-heard h, readings_of-heard h, calls-heard s h, u.indicated, u.tare) refl
+    rw (waiting_after-heard same s h, calls-heard s h) (replies_read-unmarked s (calls s h) r (waiting_after s h) (same s (read r ∷ calls s h)))
 replies_to_heard same s (byte b) h =
     let own = own_reply-unmarked s (calls s h) (line_command h) (same s (calls s h)) in
-    rw (weight_waits-heard same s h, zero_waits-heard s h, tare_waits-heard s h, line_command-heard h, calls-heard s h, own) refl
+    rw (waiting_after-heard same s h, line_command-heard h, calls-heard s h, own) refl
 replies_to_heard same s hang_up h = refl
 replies_to_heard same s stored h = refl

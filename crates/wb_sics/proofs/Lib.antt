@@ -1,8 +1,7 @@
-pub mod AtByte
-pub mod AtReading
 pub mod CallReadings
+pub mod Conditions
 pub mod Decided
 pub mod Hearing
-pub mod KeptLine
-pub mod Unanswered
-pub mod Waitings
+pub mod Standing
+pub mod UnfinishedLine
+pub mod WhatWaits

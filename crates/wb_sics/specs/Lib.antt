@@ -3,9 +3,9 @@ pub mod Calls
 pub mod Commands
 pub mod Event
 pub mod Heard
-pub mod Kept
 pub mod Lines
 pub mod Replies
 pub mod ReplyText
 pub mod Stands
 pub mod Waiting
+pub mod helpers

@@ -1,7 +1,8 @@
 -- The replies of a terminal.
-use Rattle.std.specs.Prelude.{◌==◌, Bool, true, false, nat_lt, List, [], ◌∷◌, ◌++◌, if◌then◌else◌, Option, Some, None, is_some, option_to_list}
+use Rattle.std.specs.Prelude.{◌==◌, ◌-◌, ℕ, Bool, true, false, nat_lt, List, [], ◌∷◌, ◌++◌, if◌then◌else◌, Option, Some, None, is_some, option_to_list}
 use Rattle.wb_instrument.specs.Setup.{Setup}
-use Rattle.wb_scale.specs.Call.{read}
+use Rattle.wb_window.specs.declared.reading.Reading.{Reading}
+use Rattle.wb_scale.specs.Call.{Call, read}
 use Rattle.wb_scale.specs.History.{moments}
 use Rattle.wb_scale.specs.Indication.{indicated}
 use Rattle.wb_scale.specs.Moment.{Moment, readings}
@@ -14,9 +15,10 @@ use Rattle.wb_sics.specs.declared.reply.Reply.{Reply}
 use Rattle.wb_sics.specs.declared.reply.Reply.TheVariants.{PresetBad, TareCleared, TareValue as TareReply, SerialNumber as SerialReply, Listed, Error}
 use Rattle.wb_sics.specs.declared.waiting.Awaited.{Awaited}
 use Rattle.wb_sics.specs.declared.waiting.Awaited.TheVariants.{Weight as AwaitedWeight, Zero as AwaitedZero, Tare as AwaitedTare}
+use Rattle.wb_sics.specs.declared.waiting.Waiting.{Waiting}
 use Rattle.wb_sics.specs.Answers.{weight_now, weight_reply, zero_reply, tare_reply, preset_reply, refusal}
 use Rattle.wb_sics.specs.Calls.{calls}
-use Rattle.wb_sics.specs.Event.{Event, reading, byte, hang_up, stored, readings_of}
+use Rattle.wb_sics.specs.Event.{Event, reading, byte, hang_up, stored}
 use Rattle.wb_sics.specs.Lines.{line_command}
 use Rattle.wb_sics.specs.Waiting.{waits, zero_waits, tare_waits, readings_since}
 
@@ -24,13 +26,31 @@ use Rattle.wb_sics.specs.Waiting.{waits, zero_waits, tare_waits, readings_since}
 abbrev pub moments_of : Setup → List Event → List Moment
 moments_of s h = moments s (calls s h)
 
+-- the reply to what is awaited, decided by these moments: none where the weight can't be given yet, or the scale isn't stable
+abbrev pub decided : Setup → List Moment → Awaited → Option Reply
+decided s ms AwaitedWeight = weight_reply s (indicated s ms)
+decided s ms AwaitedZero = zero_reply (zero_answer s (readings ms))
+decided s ms AwaitedTare = tare_reply (tare_answer s ms)
+
 -- the weight can be given: over, under or stable
 abbrev pub weight_at : Setup → List Event → Bool
-weight_at s h = is_some (weight_reply s (indicated s (moments_of s h)))
+weight_at s h = is_some (decided s (moments_of s h) AwaitedWeight)
 
--- a command for the weight waits
+-- a command for the weight waits until it can be given
 abbrev pub weight_waits : Setup → List Event → Bool
 weight_waits s h = waits AwaitedWeight (weight_at s) s.wait h
+
+-- the one that waits, if any does, for so many readings more
+abbrev pub one_of : Bool → Bool → Bool → ℕ → Option Waiting
+one_of weight zero tare left =
+    if weight then Some (record { awaited = AwaitedWeight; left = left })
+    else if zero then Some (record { awaited = AwaitedZero; left = left })
+    else if tare then Some (record { awaited = AwaitedTare; left = left })
+    else None
+
+-- what waits after a history, and for how many readings more; nothing waits after a hang-up
+abbrev pub waiting_after : Setup → List Event → Option Waiting
+waiting_after s h = one_of (weight_waits s h) (zero_waits s h) (tare_waits s h) (s.wait - readings_since h)
 
 -- the commands, in their order
 abbrev pub listed : List Reply
@@ -40,10 +60,10 @@ listed =
 
 -- a command's own reply at its LF, after these moments of the scale; none where it waits
 abbrev pub own_reply : Setup → List Moment → Command → List Reply
-own_reply s ms Weight = option_to_list (weight_reply s (indicated s ms))
+own_reply s ms Weight = option_to_list (decided s ms AwaitedWeight)
 own_reply s ms WeightNow = weight_now s (indicated s ms) ∷ []
-own_reply s ms Zero = option_to_list (zero_reply (zero_answer s (readings ms)))
-own_reply s ms Tare = option_to_list (tare_reply (tare_answer s ms))
+own_reply s ms Zero = option_to_list (decided s ms AwaitedZero)
+own_reply s ms Tare = option_to_list (decided s ms AwaitedTare)
 own_reply s ms TareValue = TareReply (tare_kg s (tare_now ms)) ∷ []
 own_reply s ms (PresetTare grams) = preset_reply (preset_answer s ms grams) ∷ []
 own_reply s ms BadTare = PresetBad ∷ []
@@ -67,32 +87,28 @@ is_cancel Commands = false
 is_cancel SerialNumber = false
 is_cancel Unknown = false
 
--- a waiting command is refused before another line's reply; `@` alone drops it unanswered
-abbrev pub given_up : Bool → Awaited → Command → List Reply
-given_up waiting kind command = if is_cancel command then [] else if waiting then refusal kind ∷ [] else []
+-- the refusal of what waits, before another line's reply; `@` alone drops it unanswered
+abbrev pub refused_by : Command → Option Waiting → List Reply
+refused_by next None = []
+refused_by next (Some w) = if is_cancel next then [] else (refusal w.awaited ∷ [])
 
--- the reply to a waiting command at a reading: the decided one, else none before the limit's last reading, and there a refusal
-abbrev pub reply_to : Bool → Option Reply → Bool → Awaited → List Reply
-reply_to false decided more kind = []
-reply_to true (Some reply) more kind = reply ∷ []
-reply_to true None true kind = []
-reply_to true None false kind = refusal kind ∷ []
+-- the reply to what waits at a reading: the decided one, else none before the last reading that it waits, and there a refusal
+abbrev pub reply_at : Option Reply → Waiting → List Reply
+reply_at (Some reply) w = reply ∷ []
+reply_at None w = if nat_lt 1 w.left then [] else (refusal w.awaited ∷ [])
 
--- the replies at the newest event; at a reading the zero setting looks at the zero before tracking, the others after it
+-- the replies at a reading, after these calls of the scale and with this waiting
+abbrev pub replies_read : Setup → List Call → Reading → Option Waiting → List Reply
+replies_read s k r None = []
+replies_read s k r (Some w) = reply_at (decided s (moments s (read r ∷ k)) w.awaited) w
+
+-- the replies at the newest event; a hang-up has none, whatever waits
 unfoldable pub replies : Setup → List Event → List Reply
 replies s [] = []
-replies s (reading r ∷ h) =
-    let more = nat_lt (readings_since (reading r ∷ h)) s.wait in
-    let taken = moments s (read r ∷ calls s h) in
-    reply_to (weight_waits s h) (weight_reply s (indicated s taken)) more AwaitedWeight
-    ++ reply_to (zero_waits s h) (zero_reply (zero_answer s (r ∷ readings_of h))) more AwaitedZero
-    ++ reply_to (tare_waits s h) (tare_reply (tare_answer s taken)) more AwaitedTare
+replies s (reading r ∷ h) = replies_read s (calls s h) r (waiting_after s h)
 replies s (byte b ∷ h) =
     if b == 10
-    then given_up (weight_waits s h) AwaitedWeight (line_command h)
-    ++ given_up (zero_waits s h) AwaitedZero (line_command h)
-    ++ given_up (tare_waits s h) AwaitedTare (line_command h)
-    ++ own_reply s (moments_of s h) (line_command h)
+    then refused_by (line_command h) (waiting_after s h) ++ own_reply s (moments_of s h) (line_command h)
     else []
 replies s (hang_up ∷ h) = []
 replies s (stored ∷ h) = []

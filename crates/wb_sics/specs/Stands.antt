@@ -1,42 +1,32 @@
 -- A terminal stands after a history.
-use Rattle.std.specs.Prelude.{◌≡◌, ℕ, ◌-◌, Bool, List, [], ◌∷◌, ◌++◌, take, reverse, Option, Some, None, if◌then◌else◌}
+use Rattle.std.specs.Prelude.{◌≡◌, ℕ, List, [], ◌∷◌, ◌++◌, take, reverse, Option, None}
 use Rattle.wb_instrument.specs.Setup.{Setup}
 use Rattle.wb_scale.specs.Call.{stored as stored_call}
 use Rattle.wb_scale.specs.Stands.{Stands as ScaleStands, Takes as ScaleTakes}
 use Rattle.wb_scale.specs.State.{State}
+use Rattle.wb_sics.specs.declared.waiting.Waiting.{Waiting}
 use Rattle.wb_sics.specs.Calls.{calls}
 use Rattle.wb_sics.specs.Event.{Event, stored}
 use Rattle.wb_sics.specs.Lines.{unfinished}
-use Rattle.wb_sics.specs.Replies.{weight_waits}
-use Rattle.wb_sics.specs.Waiting.{readings_since, tare_waits, zero_waits}
+use Rattle.wb_sics.specs.Replies.{waiting_after}
 
 -- what a terminal keeps
 pub record TerminalState : Type 0 where
   pub scale : State
-  -- the readings that a command still waits for the weight, for zero setting, for tare balancing
-  pub weight : Option ℕ
-  pub zero : Option ℕ
-  pub tare : Option ℕ
+  -- the waiting command, with the readings that it still waits
+  pub waiting : Option Waiting
   -- the first bytes of the unfinished line
   pub line : List ℕ
 
 -- nothing waits, and no line is begun
 pub record IsIdle (s : TerminalState) : Type 0 where
-  pub weight : s.weight ≡ None
-  pub zero : s.zero ≡ None
-  pub tare : s.tare ≡ None
+  pub waiting : s.waiting ≡ None
   pub line : s.line ≡ []
-
--- the readings that a waiting command still waits
-abbrev pub left : Bool → Setup → List Event → Option ℕ
-left waits s h = if waits then Some (s.wait - readings_since h) else None
 
 -- what a terminal keeps is what the definitions say of the history
 pub record StandsAt (i : Setup) (s : TerminalState) (h : List Event) : Type 0 where
   pub scale : ScaleStands s.scale (calls i h)
-  pub weight : s.weight ≡ left (weight_waits i h) i h
-  pub zero : s.zero ≡ left (zero_waits i h) i h
-  pub tare : s.tare ≡ left (tare_waits i h) i h
+  pub waiting : s.waiting ≡ waiting_after i h
   pub line : s.line ≡ take 42 (reverse (unfinished h))
 
 -- the terminal stands after the history

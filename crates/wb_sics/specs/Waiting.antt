@@ -1,5 +1,5 @@
--- Waiting commands: `S`, `Z` and `T` (times and order are this project's own).
-use Rattle.std.specs.Prelude.{ℕ, ◌==◌, ◌+◌, Bool, true, false, not, ◌&&◌, ◌||◌, nat_lt, List, [], ◌∷◌, if◌then◌else◌, Option, Some, None}
+-- When `S`, `Z` and `T` wait (times and order are this project's own).
+use Rattle.std.specs.Prelude.{ℕ, ◌==◌, ◌+◌, Bool, true, false, not, ◌&&◌, ◌||◌, nat_lt, List, [], ◌∷◌, if◌then◌else◌, Option, Some, None, option_and_then}
 use Rattle.wb_instrument.specs.Setup.{Setup}
 use Rattle.wb_window.specs.Stability.{is_stable}
 use Rattle.wb_sics.specs.declared.command.Command.{Command}
@@ -39,11 +39,6 @@ abbrev pub may_be : Awaited → Option Awaited → Bool
 may_be kind None = false
 may_be kind (Some awaited) = same kind awaited
 
--- a command waits for this
-abbrev pub asks_for : Awaited → Option Command → Bool
-asks_for kind None = false
-asks_for kind (Some command) = may_be kind (awaited_by command)
-
 -- how many readings came since the last line or hang-up
 abbrev pub readings_since : List Event → ℕ
 readings_since [] = 0
@@ -62,7 +57,7 @@ held_since now (stored ∷ h) = held_since now h
 
 -- the last line's command waits for this: its condition has not held since, and fewer readings than the limit came since
 unfoldable pub waits : Awaited → (List Event → Bool) → ℕ → List Event → Bool
-waits kind now limit h = asks_for kind (commanded h) && not (held_since now h) && nat_lt (readings_since h) limit
+waits kind now limit h = may_be kind (option_and_then awaited_by (commanded h)) && not (held_since now h) && nat_lt (readings_since h) limit
 
 -- the scale is stable
 abbrev pub stable_at : Setup → List Event → Bool

@@ -1,12 +1,12 @@
 //! The terminal, proved for every history of readings, bytes, hang-ups and stored weighings.
 ghost use Rattle.arrayvec.specs.ArrayVec.{array_vec_len};
 ghost use Rattle.std.specs.Prelude.{◌≡◌, ◌≤◌, ◌∷◌, ◌++◌, [], List, None};
-ghost use Rattle.wb_scale.specs.Call.{Call};
+ghost use Rattle.wb_scale.specs.Call.{Call, read};
 ghost use Rattle.wb_scale.specs.History.{moments};
 ghost use Rattle.wb_scale.specs.Stands.{Stands as ScaleStands, TakesAll as ScaleTakesAll};
 ghost use Rattle.wb_sics.specs.Calls.{asked, asked_at};
-ghost use Rattle.wb_sics.specs.Kept.{asked_waiting, decided_at as decided_at_of, replies_read, waiting_from, waiting_read};
-ghost use Rattle.wb_sics.specs.Replies.{listed as listed_of, own_reply};
+ghost use Rattle.wb_sics.specs.helpers.Kept.{asked_waiting, waiting_from, waiting_read};
+ghost use Rattle.wb_sics.specs.Replies.{decided, listed as listed_of, own_reply, replies_read};
 ghost use Rattle.wb_sics.specs.Waiting.{same};
 ghost use Rattle.wb_sics.specs.declared.waiting.Awaited.TheVariants.{Tare as AwaitedTare, Zero as AwaitedZero};
 ghost use Rattle.wb_window.specs.Reading.{IsReading};
@@ -36,10 +36,7 @@ impl<W: Window> Model for Terminal<W> {
 
     ghost Value = { TerminalState };
 
-    ghost use Rattle.wb_sics.specs.Kept.{left_for};
-    ghost use Rattle.wb_sics.specs.declared.waiting.Awaited.TheVariants.{Tare, Weight, Zero};
-
-    ghost view = { λ t. record { scale = t.scale; weight = left_for Weight t.waiting; zero = left_for Zero t.waiting; tare = left_for Tare t.waiting; line = t.line.items } };
+    ghost view = { λ t. record { scale = t.scale; waiting = t.waiting; line = t.line.items } };
 }
 
 impl<W: Window> Terminal<W> {
@@ -179,7 +176,7 @@ fn decided_at<W: Window>(scale: &mut Scale<W>, reading: Reading, awaited: Awaite
     ensures takes { ScaleTakesAll scale.old scale.new
         (asked_at (same AwaitedZero awaited) (same AwaitedTare awaited) reading) }
     ensures decided { (h : List Call) → ScaleStands scale.old h
-        → result ≡ decided_at_of scale.old.setup h reading awaited }
+        → result ≡ decided scale.old.setup (moments scale.old.setup (read reading ∷ h)) awaited }
 {
     match awaited {
         Awaited::Weight => {

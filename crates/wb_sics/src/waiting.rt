@@ -1,10 +1,10 @@
 //! Waiting commands.
 ghost use Rattle.arrayvec.specs.ArrayVec.{array_vec_len};
-ghost use Rattle.std.specs.Prelude.{◌≡◌, ◌≤◌, ◌++◌, ◌∷◌, [], None, is_some, nat_lt, option_to_list, true};
+ghost use Rattle.std.specs.Prelude.{◌≡◌, ◌≤◌, ◌++◌, [], None, false, is_some, option_to_list};
 ghost use Rattle.wb_instrument.specs.Setup.{Setup};
 ghost use Rattle.wb_sics.specs.Answers.{refusal as refusal_of};
-ghost use Rattle.wb_sics.specs.Kept.{one_less, refused_by, still, waiting_after};
-ghost use Rattle.wb_sics.specs.Replies.{reply_to};
+ghost use Rattle.wb_sics.specs.helpers.Kept.{still, unless_decided};
+ghost use Rattle.wb_sics.specs.Replies.{refused_by, reply_at};
 
 use crate::command::Command;
 use crate::reply::{Replies, Reply};
@@ -31,9 +31,8 @@ pub(crate) fn after_reading(
     replies: &mut Replies,
 ) -> Option<Waiting>
     requires empty { replies.old.items ≡ [] }
-    ensures waiting { result ≡ waiting_after (is_some decided) waiting }
-    ensures replies { replies.new.items
-        ≡ reply_to true decided (nat_lt 1 waiting.left) waiting.awaited }
+    ensures waiting { result ≡ still (is_some decided) waiting }
+    ensures replies { replies.new.items ≡ reply_at decided waiting }
 {
     match decided {
         Some(reply) => {
@@ -46,9 +45,8 @@ pub(crate) fn after_reading(
 
 fn not_decided(waiting: Waiting, replies: &mut Replies) -> Option<Waiting>
     requires empty { replies.old.items ≡ [] }
-    ensures waiting { result ≡ one_less waiting.left waiting.awaited }
-    ensures replies { replies.new.items
-        ≡ reply_to true None (nat_lt 1 waiting.left) waiting.awaited }
+    ensures waiting { result ≡ still false waiting }
+    ensures replies { replies.new.items ≡ reply_at None waiting }
 {
     if 1 < waiting.left {
         Some(Waiting {
@@ -69,7 +67,7 @@ pub(crate) fn at_line_end(
     replies: &mut Replies,
 ) -> Option<Waiting>
     requires few { array_vec_len replies.old ≤ 1 }
-    ensures waiting { (s : Setup) → s.wait ≡ wait → result ≡ still s awaited decided }
+    ensures waiting { (s : Setup) → s.wait ≡ wait → result ≡ unless_decided s awaited decided }
     ensures replies { replies.new.items ≡ replies.old.items ++ option_to_list decided }
 {
     match decided {

@@ -8,7 +8,7 @@ use Rattle.std.proofs.lemmas.Option.{slice_get_within}
 use Rattle.std.specs.List.{filter, slice_get}
 use Rattle.wb_window.proofs.Order.{stays_on}
 use Rattle.wb_window.proofs.Spread.{take_next}
-use Rattle.wb_window.specs.Candidates.{beyond, stays, candidates, queue_of, beyond_last}
+use Rattle.wb_window.specs.helpers.Candidates.{beyond, stays, candidates, queue_of, beyond_last}
 use Rattle.wb_window.specs.declared.candidates.Extreme.{Extreme}
 use Rattle.wb_window.specs.declared.reading.Reading.{Reading}
 use Rattle.wb_window.specs.declared.reading.Reading.TheVariants.{Load, Lost}

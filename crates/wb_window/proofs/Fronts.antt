@@ -5,8 +5,8 @@ use Rattle.std.specs.List.{filter, slice_get}
 use Rattle.wb_window.proofs.Entering.{NoneBeyond, Falling, Falling-candidates}
 use Rattle.wb_window.proofs.Order.{stays_itself, beyond_later, further}
 use Rattle.wb_window.proofs.Spread.{Within, Reached, Spread, agree-lost}
-use Rattle.wb_window.specs.Candidates.{stays, candidates}
-use Rattle.wb_window.specs.Queues.{lost_of}
+use Rattle.wb_window.specs.helpers.Candidates.{stays, candidates}
+use Rattle.wb_window.specs.helpers.Queues.{lost_of}
 use Rattle.wb_window.specs.Stability.{agree}
 use Rattle.wb_window.specs.declared.candidates.Extreme.{Extreme}
 use Rattle.wb_window.specs.declared.candidates.Extreme.TheVariants.{Greatest, Least}

@@ -4,7 +4,7 @@ use Rattle.std.proofs.lemmas.Int.{ints}
 use Rattle.std.specs.List.{filter, slice_get}
 use Rattle.std.specs.Option.{option_eq}
 use Rattle.wb_window.proofs.Order.{beyond_over, beyond_on, beyond_itself, beyond_of}
-use Rattle.wb_window.specs.Candidates.{beyond, stays, candidates}
+use Rattle.wb_window.specs.helpers.Candidates.{beyond, stays, candidates}
 use Rattle.wb_window.specs.declared.candidates.Extreme.{Extreme}
 use Rattle.wb_window.specs.declared.reading.Reading.{Reading}
 use Rattle.wb_window.specs.declared.reading.Reading.TheVariants.{Load, Lost}

@@ -3,7 +3,7 @@ use Rattle.std.proofs.Common.{◌≡◌, ℕ, zero, suc, ◌+◌, ◌-◌, ◌<�
 use Rattle.std.proofs.lemmas.List.{take_all}
 use Rattle.std.specs.List.{slice_get}
 use Rattle.wb_window.proofs.Spread.{take_next}
-use Rattle.wb_window.specs.Queues.{lost_of}
+use Rattle.wb_window.specs.helpers.Queues.{lost_of}
 use Rattle.wb_window.specs.declared.reading.Reading.{Reading}
 use Rattle.wb_window.specs.declared.reading.Reading.TheVariants.{Load, Lost}
 

@@ -1,7 +1,7 @@
 -- Which of two or three loads lies beyond another one.
 use Rattle.std.proofs.Common.{◌≡◌, Bool, true, false, not, refl, ℤ, arith}
 use Rattle.std.proofs.lemmas.Int.{ints}
-use Rattle.wb_window.specs.Candidates.{beyond, stays}
+use Rattle.wb_window.specs.helpers.Candidates.{beyond, stays}
 use Rattle.wb_window.specs.declared.candidates.Extreme.{Extreme}
 use Rattle.wb_window.specs.declared.candidates.Extreme.TheVariants.{Greatest, Least}
 

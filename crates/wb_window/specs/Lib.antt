@@ -1,5 +1,4 @@
-pub mod Candidates
 pub mod Held
-pub mod Queues
 pub mod Reading
 pub mod Stability
+pub mod helpers

@@ -15,7 +15,7 @@ pub(crate) enum Extreme {
 }
 
 impl Extreme {
-    ghost use Rattle.wb_window.specs.Candidates.{beyond};
+    ghost use Rattle.wb_window.specs.helpers.Candidates.{beyond};
 
     /// Whether a load lies strictly beyond another one.
     fn is_beyond(self, load: i32, other: i32) -> bool
@@ -36,7 +36,7 @@ pub(crate) struct Candidates {
 }
 
 impl Candidates {
-    ghost use Rattle.wb_window.specs.Candidates.{beyond_last, queue_of};
+    ghost use Rattle.wb_window.specs.helpers.Candidates.{beyond_last, queue_of};
     ghost use Rattle.wb_window.specs.declared.reading.Reading.{Reading};
     ghost use Rattle.wb_window.specs.declared.reading.Reading.TheVariants.{Load};
 

@@ -24,7 +24,7 @@ impl Model for DequeWindow {
     ghost view = { λ w. record { size = w.ring.capacity; band = w.band; readings = w.ring.items } };
 
     ghost use Rattle.std.specs.Prelude.{◌≡◌};
-    ghost use Rattle.wb_window.specs.Queues.{queues_of};
+    ghost use Rattle.wb_window.specs.helpers.Queues.{queues_of};
 
     ghost invariant = { λ w. w.queues ≡ queues_of w.ring.capacity w.ring.items };
 }

@@ -15,7 +15,7 @@ pub(crate) struct Queues {
 }
 
 impl Queues {
-    ghost use Rattle.wb_window.specs.Queues.{queues_of};
+    ghost use Rattle.wb_window.specs.helpers.Queues.{queues_of};
 
     /// Of a window of so many readings, with none in it yet.
     pub(crate) fn new(alloc: Global, size: usize) -> Result<Self, AllocError>

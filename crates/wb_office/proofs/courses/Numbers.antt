@@ -3,7 +3,7 @@ use Rattle.std.proofs.Common.{◌≡◌, ◌∙◌, sym, ap, ℕ, ◌+◌, max, 
 use Rattle.std.proofs.lemmas.Int.{clamps}
 use Rattle.wb_journal.specs.declared.entry.EntryParts.{EntryParts}
 use Rattle.wb_store.specs.Lists.{greatest, greatest_spent, next_number}
-use Rattle.wb_store.proofs.PurgeLists.{next_stays}
+use Rattle.wb_store.proofs.offered.LaterLists.{next_stays}
 use Rattle.wb_office.specs.Situation.{Asking, Situation}
 use Rattle.wb_office.specs.CourseOfRequests.{added}
 use Rattle.wb_office.specs.Laws.{IsNumbered, NumbersRun}

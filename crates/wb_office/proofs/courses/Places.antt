@@ -16,10 +16,10 @@ use Rattle.wb_journal.specs.Moment.{day_of}
 use Rattle.wb_journal.specs.Pairs.{is_first_of, is_open, is_partner, lies_between, may_pair_of, open_count, open_of, partner}
 use Rattle.wb_journal.specs.Retention.{kept}
 use Rattle.wb_journal.specs.Rising.{IsRising, IsRisingFrom}
-use Rattle.wb_journal.proofs.LawFacts.{kept-partner}
-use Rattle.wb_journal.proofs.Members.{Among, among-contains}
+use Rattle.wb_journal.proofs.offered.Kept.{kept-partner}
+use Rattle.wb_journal.proofs.offered.Members.{Among, among-contains}
 use Rattle.wb_store.specs.Lists.{greatest, greatest_spent, next_number}
-use Rattle.wb_store.proofs.OpenCounts.{one, open_count_more}
+use Rattle.wb_store.proofs.offered.LaterLists.{one, open_count_more}
 use Rattle.wb_office.specs.declared.request.Request.TheVariants.{Purge}
 use Rattle.wb_office.specs.Answer.{entries_left}
 use Rattle.wb_office.specs.Situation.{Asking, Situation}

@@ -17,10 +17,10 @@ use Rattle.wb_journal.specs.Pairs.{open_of, partner}
 use Rattle.wb_journal.specs.Retention.{kept}
 use Rattle.wb_journal.specs.Rising.{IsRising}
 use Rattle.wb_journal.specs.Texts.{ticket}
-use Rattle.wb_journal.proofs.Seals.{sound-sealed}
+use Rattle.wb_journal.proofs.offered.Seals.{sound-sealed}
 use Rattle.wb_store.specs.Lists.{by_key, greatest_spent, has_key, is_spent, next_number}
 use Rattle.wb_store.specs.Rows.{SpentKey}
-use Rattle.wb_store.proofs.PurgeLists.{left_rises, next_stays}
+use Rattle.wb_store.proofs.offered.LaterLists.{left_rises, next_stays}
 use Rattle.wb_office.specs.declared.refusal.Refusal.{Refusal}
 use Rattle.wb_office.specs.declared.refusal.Refusal.TheVariants as refusal
 use Rattle.wb_office.specs.declared.request.Request.{Request}

@@ -11,8 +11,8 @@ use Rattle.wb_journal.specs.Kind.{is_closing}
 use Rattle.wb_journal.specs.Pairs.{is_first_of, is_partner, lies_between, may_pair_of, partner}
 use Rattle.wb_journal.specs.Retention.{IsPurgeBound, kept}
 use Rattle.wb_journal.specs.Rising.{IsRising}
-use Rattle.wb_journal.proofs.LawFacts.{kept-partner}
-use Rattle.wb_journal.proofs.Members.{Among, find-among}
+use Rattle.wb_journal.proofs.offered.Kept.{kept-partner}
+use Rattle.wb_journal.proofs.offered.Members.{Among, find-among}
 use Rattle.wb_store.specs.Lists.{by_key, has_key, is_of_key, is_spent}
 use Rattle.wb_store.specs.Rows.{SpentKey}
 use Rattle.wb_office.specs.Answer.{below, spent_by}

@@ -1,6 +1,6 @@
 use Rattle.std.proofs.Common.{arith, ◌∙◌}
 use Rattle.std.proofs.lemmas.Bool.Decides.{nat_tests}
-use Rattle.wb_sics.proofs.KeptLine.{take_push, take_full}
+use Rattle.wb_sics.proofs.UnfinishedLine.{take_push, take_full}
 use Rattle.wb_sics.proofs.line.keep.Goals as goal
 
 pub returns-then-not-is_full : goal.returns-then-not-is_full

@@ -1,5 +1,5 @@
 use Rattle.std.proofs.Common.{◌∙◌}
-use Rattle.wb_sics.proofs.KeptLine.{kept_cr, kept_whole}
+use Rattle.wb_sics.proofs.UnfinishedLine.{kept_cr, kept_whole}
 use Rattle.wb_sics.proofs.line.kept_command.Goals as goal
 
 pub returns-then-last-eq13 : goal.returns-then-last-eq13

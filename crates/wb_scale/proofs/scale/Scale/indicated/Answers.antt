@@ -1,5 +1,5 @@
 use Rattle.std.proofs.Common.{◌≡◌, subst, sym, ◌∙◌}
-use Rattle.wb_scale.specs.After.{above}
+use Rattle.wb_scale.specs.helpers.After.{above}
 use Rattle.wb_scale.specs.Stands.{Stands}
 use Rattle.wb_scale.specs.State.{State}
 use Rattle.wb_scale.specs.Zero.{last_load}

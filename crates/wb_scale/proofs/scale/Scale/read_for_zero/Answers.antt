@@ -1,7 +1,7 @@
 use Rattle.std.proofs.Common.{◌≡◌, arith, of_z, pos, sym, to_z, w32, ◌∙◌, refl}
 use Rattle.std.proofs.lemmas.Int.{ints}
 use Rattle.wb_instrument.specs.Limits.{tracking_gap}
-use Rattle.wb_scale.specs.After.{IsRefused, IsTarget, pause_from, seen}
+use Rattle.wb_scale.specs.helpers.After.{IsRefused, IsTarget, pause_from, seen}
 use Rattle.wb_scale.specs.Stands.{Stands}
 use Rattle.wb_scale.specs.State.{State}
 use Rattle.wb_scale.proofs.Standing.{IsScale-seen, Stands-read, Takes-behind}

@@ -2,7 +2,7 @@ use Rattle.std.proofs.Common.{◌≡◌, Some, arith, ap, of_z, subst, sym, to_z
 use Rattle.std.proofs.lemmas.Int.{ints}
 use Rattle.wb_scale.specs.declared.answers.TareAnswer.TheVariants.{Done}
 use Rattle.wb_scale.specs.declared.answers.TareNow.TheVariants.{Weighed}
-use Rattle.wb_scale.specs.After.{above, balance_answer}
+use Rattle.wb_scale.specs.helpers.After.{above, balance_answer}
 use Rattle.wb_scale.specs.Call.{tare}
 use Rattle.wb_scale.specs.Moment.{nothing}
 use Rattle.wb_scale.specs.Stands.{Stands}

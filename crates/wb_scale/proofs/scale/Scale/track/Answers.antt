@@ -2,7 +2,7 @@ use Rattle.std.proofs.Common.{◌≡◌, ◌+ℤ◌, arith, of_z, pos, subst, sy
 use Rattle.std.proofs.lemmas.Int.{ints}
 use Rattle.wb_instrument.specs.Limits.{zero_limit}
 use Rattle.wb_window.specs.Stability.{is_stable}
-use Rattle.wb_scale.specs.After.{step_of, tracked}
+use Rattle.wb_scale.specs.helpers.After.{step_of, tracked}
 use Rattle.wb_scale.specs.State.{IsScale, State}
 use Rattle.wb_scale.specs.Zero.{last_load}
 use Rattle.wb_scale.proofs.Standing.{IsScale-moved, tracked-parts}

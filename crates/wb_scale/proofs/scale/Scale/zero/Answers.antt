@@ -1,6 +1,6 @@
 use Rattle.std.proofs.Common.{◌≡◌, arith, of_z, subst, sym, to_z, w32, ◌∙◌, refl}
 use Rattle.std.proofs.lemmas.Int.{ints}
-use Rattle.wb_scale.specs.After.{IsTarget}
+use Rattle.wb_scale.specs.helpers.After.{IsTarget}
 use Rattle.wb_scale.specs.State.{IsScale, State}
 use Rattle.wb_scale.proofs.Zeros.{Stands-not_zeroed, Stands-zeroed, target_answer-held}
 use Rattle.wb_scale.proofs.Standing.{Takes-behind}

@@ -5,8 +5,8 @@ use Rattle.wb_sics.specs.Calls.{calls}
 use Rattle.wb_sics.specs.Event.{byte}
 use Rattle.wb_sics.specs.Lines.{line_command}
 use Rattle.wb_sics.specs.Stands.{Stands}
-use Rattle.wb_sics.proofs.AtByte.{Performs, Stands-at, StandsAt-byte, Takes-behind, StandsAt-line, line_command-kept, replies-byte, replies-line}
-use Rattle.wb_sics.proofs.AtReading.{kept}
+use Rattle.wb_sics.proofs.Standing.{Performs, Stands-at, StandsAt-byte, StandsAt-line, Takes-behind, kept, replies-byte, replies-line}
+use Rattle.wb_sics.proofs.UnfinishedLine.{line_command-kept}
 use Rattle.wb_sics.proofs.terminal.Terminal.byte_into.Goals as goal
 
 pub returns-then-byte-ne-LINE_FEED-clause-takes : goal.returns-then-byte-ne-LINE_FEED-clause-takes

@@ -1,7 +1,6 @@
 use Rattle.std.proofs.Common.{refl}
 use Rattle.wb_sics.specs.Event.{hang_up}
-use Rattle.wb_sics.proofs.AtByte.{StandsAt-hang_up, Takes-behind}
-use Rattle.wb_sics.proofs.AtReading.{kept}
+use Rattle.wb_sics.proofs.Standing.{StandsAt-hang_up, Takes-behind, kept}
 use Rattle.wb_sics.proofs.terminal.Terminal.hangup.Goals as goal
 
 pub returns-clause-takes : goal.returns-clause-takes

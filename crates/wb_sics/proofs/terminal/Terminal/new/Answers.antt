@@ -1,4 +1,4 @@
-use Rattle.wb_sics.proofs.AtByte.{Stands-new}
+use Rattle.wb_sics.proofs.Standing.{Stands-new}
 use Rattle.wb_sics.proofs.terminal.Terminal.new.Goals as goal
 
 pub returns-clause-stands : goal.returns-clause-stands

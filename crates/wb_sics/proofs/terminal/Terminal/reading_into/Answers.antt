@@ -1,8 +1,7 @@
 use Rattle.wb_sics.specs.Calls.{calls}
 use Rattle.wb_sics.specs.Event.{reading}
 use Rattle.wb_sics.specs.Stands.{Stands}
-use Rattle.wb_sics.proofs.AtByte.{Stands-at, Takes-behind}
-use Rattle.wb_sics.proofs.AtReading.{Reads, StandsAt-reading, kept, replies-reading}
+use Rattle.wb_sics.proofs.Standing.{Reads, Stands-at, StandsAt-reading, Takes-behind, kept, replies-reading}
 use Rattle.wb_sics.proofs.terminal.Terminal.reading_into.Goals as goal
 
 pub returns-clause-takes : goal.returns-clause-takes

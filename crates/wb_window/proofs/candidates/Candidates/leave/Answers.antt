@@ -3,7 +3,7 @@ use Rattle.std.proofs.Common.{rules, ◌≡◌, ◌≢◌, true, false, int_eq, 
 use Rattle.std.specs.List.{slice_get}
 use Rattle.std.specs.Option.{option_eq}
 use Rattle.wb_window.proofs.Leaving.{queue_of-leave, queue_of-leave_other, is_some, is_other}
-use Rattle.wb_window.specs.Candidates.{candidates}
+use Rattle.wb_window.specs.helpers.Candidates.{candidates}
 use Rattle.wb_window.specs.declared.reading.Reading.TheVariants.{Load}
 use Rattle.wb_window.proofs.candidates.Candidates.leave.Goals as goal
 

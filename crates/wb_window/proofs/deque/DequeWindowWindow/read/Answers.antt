@@ -1,7 +1,7 @@
 use Rattle.std.proofs.Common.{◌≡◌, ℕ, ◌+◌, ◌-◌, ◌<◌, ◌≤◌, List, [], ◌∷◌, ◌++◌, Some, None, ◌∙◌, sym, ap, suc, length, take, arith, length-take}
 use Rattle.std.specs.List.{slice_get}
 use Rattle.wb_window.proofs.Oldest.{oldest_last, none_goes, lost_of-last_lost, lost_of-le-length}
-use Rattle.wb_window.specs.Queues.{queues_of, lost_of}
+use Rattle.wb_window.specs.helpers.Queues.{queues_of, lost_of}
 use Rattle.wb_window.specs.declared.queues.Queues.{Queues}
 use Rattle.wb_window.specs.declared.reading.Reading.{Reading}
 use Rattle.wb_window.proofs.deque.DequeWindowWindow.read.Goals as goal

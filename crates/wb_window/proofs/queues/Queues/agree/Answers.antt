@@ -3,8 +3,8 @@ use Rattle.std.proofs.lemmas.Int.{ints}
 use Rattle.std.specs.List.{slice_get}
 use Rattle.wb_window.proofs.Fronts.{Spread-fronts, agree-none, agree-any_lost}
 use Rattle.wb_window.proofs.Spread.{spread_answer}
-use Rattle.wb_window.specs.Candidates.{candidates}
-use Rattle.wb_window.specs.Queues.{lost_of}
+use Rattle.wb_window.specs.helpers.Candidates.{candidates}
+use Rattle.wb_window.specs.helpers.Queues.{lost_of}
 use Rattle.wb_window.specs.declared.candidates.Extreme.TheVariants.{Greatest, Least}
 use Rattle.wb_window.proofs.queues.Queues.agree.Goals as goal
 

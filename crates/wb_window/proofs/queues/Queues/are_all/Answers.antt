@@ -3,8 +3,8 @@ use Rattle.std.specs.List.{slice_get}
 use Rattle.std.specs.Option.{option_eq}
 use Rattle.wb_window.proofs.Fronts.{all_same}
 use Rattle.wb_window.proofs.Leaving.{is_some}
-use Rattle.wb_window.specs.Candidates.{candidates}
-use Rattle.wb_window.specs.Queues.{queues_of}
+use Rattle.wb_window.specs.helpers.Candidates.{candidates}
+use Rattle.wb_window.specs.helpers.Queues.{queues_of}
 use Rattle.wb_window.specs.declared.queues.Queues.{Queues}
 use Rattle.wb_window.specs.declared.candidates.Extreme.TheVariants.{Greatest, Least}
 use Rattle.wb_window.specs.declared.reading.Reading.{Reading}

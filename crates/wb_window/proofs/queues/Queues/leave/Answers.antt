@@ -1,7 +1,7 @@
 use Rattle.std.proofs.Common.{rules, ◌≡◌, ◌+◌, ◌-◌, [], ◌∷◌, ◌++◌, ◌∙◌, ap, refl, w32, to_z, of_z, arith}
 use Rattle.wb_window.proofs.Leaving.{candidates-leave_lost}
 use Rattle.wb_window.proofs.Oldest.{lost_of-last_load, lost_of-last_lost}
-use Rattle.wb_window.specs.Queues.{queues_of, lost_of}
+use Rattle.wb_window.specs.helpers.Queues.{queues_of, lost_of}
 use Rattle.wb_window.specs.declared.candidates.Extreme.TheVariants.{Greatest, Least}
 use Rattle.wb_window.specs.declared.reading.Reading.TheVariants.{Load, Lost}
 use Rattle.wb_window.proofs.queues.Queues.leave.Goals as goal

@@ -1,0 +1,7 @@
+pub mod Kept
+pub mod Members
+pub mod Open
+pub mod OpenCount
+pub mod Partners
+pub mod Rising
+pub mod Seals

@@ -1,0 +1,4 @@
+pub mod FaultBefore
+pub mod LeastAbove
+pub mod Nearest
+pub mod OnSite
