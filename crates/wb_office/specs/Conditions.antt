@@ -1,5 +1,4 @@
--- The conditions on which a weighing or void is refused. Those that name a section are OIML R 76-1:2006's, the others are this
--- project's own.
+-- The conditions on which a weighing or void is refused: those with a section are OIML R 76-1:2006's, the others this project's own.
 use Rattle.std.specs.Prelude.{ℕ, ◌+◌, Bool, false, not, ◌&&◌, ◌||◌, nat_lt, List, length, Option, Some, None, is_some, is_none, ℤ, pos, int_lt}
 use Rattle.std.specs.Str.{bytes_eq}
 use Rattle.wb_instrument.specs.Limits.{is_over, is_under}

@@ -6,7 +6,7 @@ ghost use Rattle.wb_station.specs.Response.{IsDateOf, IsResponse, OneResponse, a
 
 use crate::line::{Line, count_line, line_of_fault, line_of_refusal};
 use crate::outcome::Outcome;
-use crate::response_head::{Front, put_response, put_whole};
+use crate::response_head::{ResponseHead, put_response, put_whole};
 use crate::room::ResponseRoom;
 use http::StatusCode;
 use httpdate::HttpDate;
@@ -106,7 +106,7 @@ fn put_answer(
     ensures fits { is_csv (told_by_office answer.now) ≡ false → IsOk result }
     ensures capacity { vec_capacity room.old ≤ vec_capacity room.new }
 {
-    let plain = Front {
+    let plain = ResponseHead {
         status,
         csv: false,
         allow: None,
@@ -118,7 +118,7 @@ fn put_answer(
         Answer::Csv(text) => put_whole(
             room,
             date,
-            Front {
+            ResponseHead {
                 status,
                 csv: true,
                 allow: None,
@@ -140,18 +140,18 @@ fn put_answer(
 fn put_line(
     room: &mut Vec<u8>,
     date: &[u8; 29],
-    front: Front,
+    head: ResponseHead,
     line: &Line,
 ) -> Result<(), AllocError>
-    requires phrase { length (phrase_of front.status) ≤ 32 }
+    requires phrase { length (phrase_of head.status) ≤ 32 }
     requires empty { room.old.items ≡ [] }
     requires room { 2048 ≤ vec_capacity room.old }
     ensures items { OnOk result (room.new.items
-        ≡ response_text (told_by front line.now.bytes) date.now) }
+        ≡ response_text (told_by head line.now.bytes) date.now) }
     ensures fits { IsOk result }
     ensures capacity { vec_capacity room.old ≤ vec_capacity room.new }
 {
-    put_whole(room, date, front, line.as_str().as_bytes())
+    put_whole(room, date, head, line.as_str().as_bytes())
 }
 
 /// The response to an outcome, in an empty room.
@@ -164,12 +164,12 @@ fn put_outcome(room: &mut Vec<u8>, date: &[u8; 29], outcome: &Outcome<'_>) -> Re
 {
     match outcome {
         Outcome::Fault(fault) => {
-            let front = Front {
+            let head = ResponseHead {
                 status: fault.status(),
                 csv: false,
                 allow: fault.allowed(),
             };
-            put_line(room, date, front, &line_of_fault(*fault))
+            put_line(room, date, head, &line_of_fault(*fault))
         }
         Outcome::Office { request, result } => put_result(room, date, request, result),
     }
@@ -191,12 +191,12 @@ fn put_result(
     match answered {
         Ok(answer) => put_answer(room, date, answer_status(request), answer),
         Err(refusal) => {
-            let front = Front {
+            let head = ResponseHead {
                 status: refusal_status(*refusal),
                 csv: false,
                 allow: None,
             };
-            put_line(room, date, front, &line_of_refusal(*refusal))
+            put_line(room, date, head, &line_of_refusal(*refusal))
         }
     }
 }

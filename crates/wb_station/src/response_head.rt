@@ -10,7 +10,7 @@ use std::alloc::AllocError;
 
 /// What a response tells before its body.
 #[derive(Clone, Copy)]
-pub(crate) struct Front {
+pub(crate) struct ResponseHead {
     pub(crate) status: StatusCode,
     pub(crate) csv: bool,
     pub(crate) allow: Option<Method>,
@@ -108,21 +108,21 @@ fn allow_line(allow: Option<Method>) -> &'static str
 pub(crate) fn put_response(
     room: &mut Vec<u8>,
     date: &[u8; 29],
-    front: Front,
+    head: ResponseHead,
     text: &[u8],
     end: &[u8],
 ) -> Result<(), AllocError>
-    requires phrase { length (phrase_of front.status) ≤ 32 }
+    requires phrase { length (phrase_of head.status) ≤ 32 }
     requires size { length text.now + length end.now < 2 ^ 64 }
     ensures items { OnOk result (room.new.items
-        ≡ room.old.items ++ response_text (told_by front (text.now ++ end.now)) date.now) }
+        ≡ room.old.items ++ response_text (told_by head (text.now ++ end.now)) date.now) }
     ensures fits { vec_len room.old + 224 + length text.now + length end.now ≤ vec_capacity room.old
         → IsOk result }
     ensures capacity { vec_capacity room.old ≤ vec_capacity room.new }
 {
-    put_status_line(room, front.status)?;
-    put_type_lines(room, date, front.csv)?;
-    put_length_lines(room, text.len() + end.len(), front.allow)?;
+    put_status_line(room, head.status)?;
+    put_type_lines(room, date, head.csv)?;
+    put_length_lines(room, text.len() + end.len(), head.allow)?;
     room.extend_from_slice(text)?;
     room.extend_from_slice(end)?;
     Ok(())
@@ -132,14 +132,14 @@ pub(crate) fn put_response(
 pub(crate) fn put_whole(
     room: &mut Vec<u8>,
     date: &[u8; 29],
-    front: Front,
+    head: ResponseHead,
     text: &[u8],
 ) -> Result<(), AllocError>
-    requires phrase { length (phrase_of front.status) ≤ 32 }
+    requires phrase { length (phrase_of head.status) ≤ 32 }
     ensures items { OnOk result (room.new.items
-        ≡ room.old.items ++ response_text (told_by front text.now) date.now) }
+        ≡ room.old.items ++ response_text (told_by head text.now) date.now) }
     ensures fits { vec_len room.old + 224 + length text.now ≤ vec_capacity room.old → IsOk result }
     ensures capacity { vec_capacity room.old ≤ vec_capacity room.new }
 {
-    put_response(room, date, front, text, b"")
+    put_response(room, date, head, text, b"")
 }
