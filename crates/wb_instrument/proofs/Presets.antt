@@ -12,9 +12,6 @@ in_range-inside n m p q =
     let high : nat_le m n ≡ true = grind (arith, nat_tests) in
     rw (low, high) refl
 
-pub in_range-below : (n m : ℕ) → m < 1 → in_range n m ≡ None
-in_range-below n m p = let low : nat_le 1 m ≡ false = grind (arith, nat_tests) in rw low refl
-
 pub in_range-above : (n m : ℕ) → n < m → in_range n m ≡ None
 in_range-above n m p = go (nat_le 1 m)
   where

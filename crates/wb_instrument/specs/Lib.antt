@@ -1,8 +1,9 @@
+-- The rules, in the order in which to read them; the helpers are for private functions and proofs alone.
+pub mod Setup
 pub mod Interval
+pub mod Serial
+pub mod Rounding
 pub mod Limits
 pub mod Preset
-pub mod Rounding
-pub mod Serial
-pub mod Setup
 pub mod WeightField
 pub mod helpers

@@ -1,1 +1,2 @@
+-- Definitions that private functions and proofs alone need.
 pub mod Inside

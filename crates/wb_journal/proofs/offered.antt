@@ -1,3 +1,4 @@
+-- Lemmas for the crates above; nothing else of these proofs is used there.
 pub mod Kept
 pub mod Members
 pub mod Open

@@ -1,5 +1,4 @@
 pub mod Balances
-pub mod Calls
 pub mod Moments
 pub mod Pauses
 pub mod Spacing

@@ -8,11 +8,10 @@ use Rattle.wb_scale.specs.declared.answers.TareNow.{TareNow}
 use Rattle.wb_scale.specs.helpers.After.{above}
 use Rattle.wb_scale.specs.Cleared.{clears, is_below_min, is_cleared, places, stores}
 use Rattle.wb_scale.specs.Indication.{gross}
-use Rattle.wb_scale.specs.Moment.{Moment}
+use Rattle.wb_scale.specs.Moment.{Moment, readings}
 use Rattle.wb_scale.specs.Tare.{tare_now}
 use Rattle.wb_scale.specs.Tracking.{is_quiet, steps}
 use Rattle.wb_scale.specs.Zero.{above_zero, load_of, zero_now}
-use Rattle.wb_scale.proofs.offered.Readings.{readings-taken}
 
 before_first-cons : {X : Type 0} (p : X → Bool) (x : X) (xs : List X) → before_first p (x ∷ xs) ≡ cond (p x) [] (x ∷ before_first p xs)
 before_first-cons p x xs =
@@ -30,6 +29,14 @@ zero_now-step m ms e = rw (before_first-cons (λ x. is_some x.zeroed) m ms, e) (
 pub zero_now-set : (m : Moment) (ms : List Moment) (v : ℤ) → m.zeroed ≡ Some v → zero_now (m ∷ ms) ≡ v
 unfolding zero_now
 zero_now-set m ms v e = rw (before_first-cons (λ x. is_some x.zeroed) m ms, e) (omega (arith, ints))
+
+pub readings-taken : (m : Moment) (ms : List Moment) (r : Reading) → m.reading ≡ Some r → readings (m ∷ ms) ≡ r ∷ readings ms
+unfolding readings
+readings-taken m ms r e = rw e refl
+
+pub readings-none : (m : Moment) (ms : List Moment) → m.reading ≡ None → readings (m ∷ ms) ≡ readings ms
+unfolding readings
+readings-none m ms e = rw e refl
 
 pub steps-taken : (m : Moment) (ms : List Moment) (r : Reading) → m.reading ≡ Some r → steps (m ∷ ms) ≡ m.step ∷ steps ms
 unfolding steps

@@ -19,8 +19,7 @@ use Rattle.wb_scale.specs.State.{IsScale, State}
 use Rattle.wb_scale.specs.Tare.{tare_now}
 use Rattle.wb_scale.specs.Tracking.{is_quiet, step_at, step_to}
 use Rattle.wb_scale.specs.Zero.{above_zero, last_load, load_of, zero_now}
-use Rattle.wb_scale.proofs.Moments.{above_zero-taken, is_cleared-none, is_cleared-stored, is_cleared-taken, is_quiet-none, tare_now-new, tare_now-same, zero_now-step}
-use Rattle.wb_scale.proofs.offered.Readings.{readings-none, readings-taken}
+use Rattle.wb_scale.proofs.Moments.{above_zero-taken, is_cleared-none, is_cleared-stored, is_cleared-taken, is_quiet-none, tare_now-new, tare_now-same, zero_now-step, readings-none, readings-taken}
 use Rattle.wb_scale.proofs.Pauses.{Pauses-fresh, Pauses-taken, pause_from-le}
 use Rattle.wb_scale.proofs.Windows.{AreReadings-take, is_stable-take, last_load-take, take_kept}
 

@@ -12,8 +12,7 @@ use Rattle.wb_scale.specs.Tare.{tare_answer, tare_now}
 use Rattle.wb_scale.specs.Tracking.{steps}
 use Rattle.wb_scale.specs.Unmarked.{AllSameUnmarked, unmarked}
 use Rattle.wb_scale.specs.Zero.{above_zero, zero_now}
-use Rattle.wb_scale.proofs.Moments.{steps-none, steps-taken, tare_now-new, tare_now-same, zero_now-set, zero_now-step}
-use Rattle.wb_scale.proofs.offered.Readings.{readings-none, readings-taken}
+use Rattle.wb_scale.proofs.Moments.{steps-none, steps-taken, tare_now-new, tare_now-same, zero_now-set, zero_now-step, readings-none, readings-taken}
 
 -- two lists of moments with the same readings, zero, tare and steps
 record Alike (ms ns : List Moment) : Type 0 where

@@ -15,8 +15,7 @@ use Rattle.wb_scale.specs.Moment.{Moment, nothing, readings}
 use Rattle.wb_scale.specs.Stands.{Stands, StandsAt}
 use Rattle.wb_scale.specs.State.{IsScale, State}
 use Rattle.wb_scale.specs.Zero.{is_done, last_load, load_of, zero_answer}
-use Rattle.wb_scale.proofs.Moments.{is_cleared-none, is_cleared-taken, is_quiet-none, above_zero-taken, tare_now-new, zero_now-set}
-use Rattle.wb_scale.proofs.offered.Readings.{readings-none, readings-taken}
+use Rattle.wb_scale.proofs.Moments.{is_cleared-none, is_cleared-taken, is_quiet-none, above_zero-taken, tare_now-new, zero_now-set, readings-none, readings-taken}
 use Rattle.wb_scale.proofs.Pauses.{Pauses-taken, pause_from-le}
 use Rattle.wb_scale.proofs.Standing.{Stands-kept, load-held, load-seen, stable-held, stable-seen}
 use Rattle.wb_scale.proofs.Windows.{take_kept}

@@ -1,1 +1,2 @@
+-- Lemmas for the crates above; nothing else of these proofs is used there.
 pub mod Readings

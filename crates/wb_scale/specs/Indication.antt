@@ -1,4 +1,4 @@
--- What is indicated.
+-- The indication: gross and net, each rounded to the interval.
 use Rattle.std.specs.Prelude.{◌+◌, Bool, if◌then◌else◌, List, Option, Some, None, option_map, ℤ, pos, ◌-ℤ◌, neg_ℤ, ◌≤ℤ◌}
 use Rattle.wb_instrument.specs.Limits.{is_over, is_under}
 use Rattle.wb_instrument.specs.Rounding.{round}
@@ -15,7 +15,7 @@ use Rattle.wb_scale.specs.Zero.{above_zero}
 abbrev pub gross : List Moment → Option ℤ
 gross ms = option_map round (above_zero ms)
 
--- net, in whole e: the load above the zero less the tare, rounded
+-- net, in whole e: the load above the zero less the tare, rounded; a weighed tare stands in it in tenths, not rounded
 abbrev pub net : List Moment → Option ℤ
 net ms = option_map (λ tenths. round (tenths -ℤ tare_tenths (tare_now ms))) (above_zero ms)
 

@@ -1,14 +1,15 @@
+-- The rules, in the order in which to read them; the helpers are for private functions and proofs alone.
 pub mod Call
-pub mod Cleared
-pub mod Drift
+pub mod Moment
+pub mod Zero
+pub mod Tracking
+pub mod Tare
 pub mod History
 pub mod Indication
-pub mod Moment
-pub mod Stands
+pub mod Cleared
 pub mod State
+pub mod Stands
+pub mod Drift
 pub mod Steady
-pub mod Tare
-pub mod Tracking
 pub mod Unmarked
-pub mod Zero
 pub mod helpers

@@ -1,4 +1,4 @@
--- The tare: weighed or preset (OIML R 76-1:2006, 4.6 and 4.7).
+-- The tare: weighed or preset (OIML R 76-1:2006, 4.6 and 4.7). A weighed tare is rounded where its own value is printed, and nowhere else.
 use Rattle.std.specs.Prelude.{ℕ, ◌*◌, Bool, true, false, not, if◌then◌else◌, List, Option, Some, None, unwrap_or, option_map, ℤ, pos, ◌*ℤ◌, int_lt, int_le, ◌≤ℤ◌}
 use Rattle.wb_instrument.specs.Preset.{preset}
 use Rattle.wb_instrument.specs.Rounding.{round}
@@ -23,7 +23,7 @@ tare_tenths Empty = pos 0
 tare_tenths (Weighed tenths) = tenths
 tare_tenths (Preset whole) = pos 10 *ℤ whole
 
--- its kilograms, rounded to e
+-- its own value in kilograms, as it is printed: a weighed tare is rounded to e
 abbrev pub tare_kg : Setup → TareNow → ℤ
 tare_kg s Empty = pos 0
 tare_kg s (Weighed tenths) = pos s.interval_kg *ℤ round tenths

@@ -11,11 +11,11 @@ use Rattle.wb_instrument.specs.Rounding.{round}
 use Rattle.wb_scale.specs.declared.answers.TareAnswer.TheVariants.{Done as TareDone, PresetInUse, Above as TareAboveMax, Below as TareBelowZero}
 use Rattle.wb_scale.specs.declared.answers.ZeroAnswer.TheVariants.{Done, Above, Below}
 use Rattle.wb_scale.specs.Call.{Call, read}
-use Rattle.wb_scale.specs.History.{moments, moment}
+use Rattle.wb_scale.specs.History.{moments}
 use Rattle.wb_scale.specs.Moment.{Moment, readings}
 use Rattle.wb_scale.specs.Tare.{is_preset, tare_answer, tare_answer_at, tare_now}
 use Rattle.wb_scale.specs.Zero.{above_zero, last_load, zero_answer, zero_answer_at, zero_now}
-use Rattle.wb_scale.proofs.offered.Readings.{readings-taken}
+use Rattle.wb_scale.proofs.offered.Readings.{readings-read}
 use Rattle.wb_sics.specs.Answers.{tare_reply, zero_reply, weight_reply}
 use Rattle.wb_sics.specs.Calls.{calls}
 use Rattle.wb_sics.specs.Event.{Event, reading, readings_of}
@@ -37,7 +37,7 @@ weight-decided i j inst k r x answer a e f g =
 
 pub zero-decided : (i : Setup) (k : List Call) (r : Reading) (x : ZeroAnswer) (answer : Option Reply) → answer ≡ zero_reply x
     → x ≡ zero_answer i (r ∷ readings (moments i k)) → answer ≡ decided i (moments i (read r ∷ k)) Zero
-zero-decided i k r x answer a g = a ∙ ap zero_reply (g ∙ ap (zero_answer i) (sym (readings-taken (moment i (read r) (moments i k)) (moments i k) r refl)))
+zero-decided i k r x answer a g = a ∙ ap zero_reply (g ∙ ap (zero_answer i) (sym (readings-read i r k)))
 
 pub tare-decided : (i j : Setup) (k : List Call) (r : Reading) (x : TareAnswer) (answer : Option Reply) → answer ≡ tare_reply x → j ≡ i
     → x ≡ tare_answer j (moments j (read r ∷ k)) → answer ≡ decided i (moments i (read r ∷ k)) Tare
@@ -98,14 +98,14 @@ tare_reply-stable i ms l = go (is_stable i.window i.band (readings ms)) refl
     go false e = rw e refl
 
 -- at a reading, and at the end of a line
-readings-read : (i : Setup) (r : Reading) (h : List Event) → readings (moments i (read r ∷ calls i h)) ≡ readings_of (reading r ∷ h)
-readings-read i r h = readings-taken (moment i (read r) (moments i (calls i h))) (moments i (calls i h)) r refl ∙ ap (λ rs. r ∷ rs) (readings-calls i h)
+readings-here : (i : Setup) (r : Reading) (h : List Event) → readings (moments i (read r ∷ calls i h)) ≡ readings_of (reading r ∷ h)
+readings-here i r h = readings-read i r (calls i h) ∙ ap (λ rs. r ∷ rs) (readings-calls i h)
 
 pub zero-read : (i : Setup) (r : Reading) (h : List Event) → 1 ≤ i.window → is_some (decided i (moments i (read r ∷ calls i h)) Zero) ≡ stable_at i (reading r ∷ h)
-zero-read i r h l = zero_reply-stable i (readings (moments i (read r ∷ calls i h))) l ∙ ap (is_stable i.window i.band) (readings-read i r h)
+zero-read i r h l = zero_reply-stable i (readings (moments i (read r ∷ calls i h))) l ∙ ap (is_stable i.window i.band) (readings-here i r h)
 
 pub tare-read : (i : Setup) (r : Reading) (h : List Event) → 1 ≤ i.window → is_some (decided i (moments i (read r ∷ calls i h)) Tare) ≡ stable_at i (reading r ∷ h)
-tare-read i r h l = tare_reply-stable i (moments i (read r ∷ calls i h)) l ∙ ap (is_stable i.window i.band) (readings-read i r h)
+tare-read i r h l = tare_reply-stable i (moments i (read r ∷ calls i h)) l ∙ ap (is_stable i.window i.band) (readings-here i r h)
 
 pub zero-line : (i : Setup) (h : List Event) → 1 ≤ i.window → is_some (decided i (moments i (calls i h)) Zero) ≡ stable_at i h
 zero-line i h l = zero_reply-stable i (readings (moments i (calls i h))) l ∙ ap (is_stable i.window i.band) (readings-calls i h)

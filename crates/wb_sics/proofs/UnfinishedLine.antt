@@ -83,14 +83,6 @@ kept_whole bytes line rest last e s c =
     let most : length line ≡ 42 = ap length e ∙ l ∙ (omega arith) in
     long_unknown line (omega arith) ∙ sym (long_unknown (reverse (without_carriage_return bytes)) (without_carriage_return-long bytes long)))
 
-pub kept_none : (bytes line : List ℕ) → line ≡ take 42 (reverse bytes) → length line ≡ 0 → command_of line ≡ command_of (reverse (without_carriage_return bytes))
-kept_none [] line e n = rw e refl
-kept_none (b ∷ bs) line e n =
-    let l = length-take 42 (reverse (b ∷ bs)) in
-    let r = length-reverse (b ∷ bs) in
-    let z : length (take 42 (reverse (b ∷ bs))) ≡ 0 = rw (← e) n in
-    absurd (omega arith)
-
 before_first-cons : {X : Type 0} (p : X → Bool) (x : X) (xs : List X) → before_first p (x ∷ xs) ≡ cond (p x) [] (x ∷ before_first p xs)
 before_first-cons p x xs =
     elim (p x) as (λ b. take (cond (not b) (1 + prefix_len (λ y. not (p y)) xs) 0) (x ∷ xs) ≡ cond b [] (x ∷ before_first p xs)) [

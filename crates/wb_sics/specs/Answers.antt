@@ -1,4 +1,4 @@
--- The reply that the scale's answer gives.
+-- The reply that the scale's answer gives, for each command that asks it.
 use Rattle.std.specs.Prelude.{Bool, true, false, Option, Some, None, ℤ, pos, ◌*ℤ◌}
 use Rattle.wb_instrument.specs.Setup.{Setup}
 use Rattle.wb_scale.specs.declared.answers.Indicated.{Indicated}
@@ -19,7 +19,7 @@ abbrev pub weight_shown : Bool → ℤ → Reply
 weight_shown true kg = WeightStable kg
 weight_shown false kg = WeightMoving kg
 
--- the reply to `SI`
+-- the reply to `SI`: the indicated net in kilograms; the net is rounded, the weighed tare in it is not (wb_scale, Indication)
 abbrev pub weight_now : Setup → Indicated → Reply
 weight_now s NoLoad = WeightRefused
 weight_now s Over = WeightOver

@@ -1,11 +1,12 @@
-pub mod Answers
-pub mod Calls
-pub mod Commands
+-- The rules, in the order in which to read them; the helpers are for private functions and proofs alone.
 pub mod Event
-pub mod Heard
 pub mod Lines
+pub mod Commands
+pub mod Waiting
+pub mod Calls
+pub mod Answers
 pub mod Replies
 pub mod ReplyText
 pub mod Stands
-pub mod Waiting
+pub mod Heard
 pub mod helpers
