@@ -11,8 +11,7 @@ use Rattle.jiff_core.specs.declared.civil.datetime.DateTime.{DateTime}
 use Rattle.jiff.specs.Words.{civil_nanos, epoch_day, time_nanos}
 use Rattle.std.specs.Int.{int_div_euclid}
 use Rattle.std.proofs.Math.IntN.{pos-*ℤ-pos, pos-+ℤ-pos}
-use Rattle.wb_journal.specs.CivilTime.{IsCivilTime}
-use Rattle.wb_journal.specs.Civil.{civil, month_of, year_of}
+use Rattle.wb_journal.specs.Civil.{IsCivilTime, civil, month_of, year_of}
 use Rattle.wb_journal.specs.Moment.{day_of}
 use Rattle.wb_journal.specs.declared.civil.Civil.{Civil}
 

@@ -1,5 +1,5 @@
 -- The civil date and time of a moment, in UTC.
-use Rattle.std.specs.Prelude.{◌≡◌, ℕ, zero, suc, ◌+◌, ◌-◌, ◌*◌, ◌/◌, ◌%◌, nat_lt, if◌then◌else◌, pos}
+use Rattle.std.specs.Prelude.{◌≡◌, ◌≤◌, ◌<◌, ℕ, zero, suc, ◌+◌, ◌-◌, ◌*◌, ◌/◌, ◌%◌, nat_lt, if◌then◌else◌, pos}
 use Rattle.jiff_core.specs.Calendar.{days_in_month, days_in_year, days_from_civil}
 use Rattle.wb_journal.specs.declared.civil.Civil.{Civil}
 use Rattle.wb_journal.specs.Moment.{day_of}
@@ -40,3 +40,17 @@ civil moment = record {
 pub record IsCivilOf (moment : ℕ) (c : Civil) : Type 0 where
   pub date : days_from_civil (pos c.year) c.month c.day ≡ pos (day_of moment)
   pub clock : c.hour * 3600 + c.minute * 60 + c.second ≡ moment % 86400
+
+-- a date and time that the calendar and the clock have
+pub record IsCivilTime (moment : ℕ) (c : Civil) : Type 0 where
+  -- it is the moment's
+  pub of_moment : IsCivilOf moment c
+  pub first_year : 1970 ≤ c.year
+  pub last_year : c.year ≤ 9999
+  pub first_month : 1 ≤ c.month
+  pub last_month : c.month ≤ 12
+  pub first_day : 1 ≤ c.day
+  pub last_day : c.day ≤ days_in_month (pos c.year) c.month
+  pub hours : c.hour < 24
+  pub minutes : c.minute < 60
+  pub seconds : c.second < 60

@@ -11,7 +11,6 @@ pub mod Pairs
 pub mod Retention
 pub mod Check
 pub mod Civil
-pub mod CivilTime
 pub mod Texts
 pub mod Laws
 pub mod helpers

@@ -1,8 +1,7 @@
 //! Civil time.
 ghost use Rattle.jiff.specs.Words.{civil_nanos};
 ghost use Rattle.std.specs.Prelude.{◌≡◌, ◌≤◌, ◌<◌, ◌*ℤ◌, pos, IfOk, IsOk, Ok};
-ghost use Rattle.wb_journal.specs.Civil.{civil};
-ghost use Rattle.wb_journal.specs.CivilTime.{IsCivilTime};
+ghost use Rattle.wb_journal.specs.Civil.{IsCivilTime, civil};
 
 use crate::Moment;
 use jiff::civil::DateTime;

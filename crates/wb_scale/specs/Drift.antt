@@ -1,4 +1,4 @@
--- How far the zero moves.
+-- Laws of the zero: how fast zero tracking moves it, and that it stays in its range.
 use Rattle.std.specs.Prelude.{ℕ, ◌≤◌, Bool, not, List, take, drop, count_by, ℤ, pos, neg_ℤ, ◌≤ℤ◌}
 use Rattle.std.specs.Ordering.{int_eq}
 use Rattle.wb_instrument.specs.Limits.{zero_limit}

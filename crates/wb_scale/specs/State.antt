@@ -1,4 +1,4 @@
--- What a scale keeps.
+-- What a scale keeps, and what holds of every scale.
 use Rattle.std.specs.Prelude.{◌≡◌, ℕ, ◌-◌, ◌≤◌, Bool, List, [], ◌∷◌, ℤ, pos, neg_ℤ, ◌≤ℤ◌}
 use Rattle.wb_instrument.specs.Limits.{tracking_gap, zero_limit}
 use Rattle.wb_instrument.specs.Setup.{Setup, IsSetup}

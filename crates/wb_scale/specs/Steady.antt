@@ -1,4 +1,4 @@
--- What a stable indication says of the readings behind it.
+-- A law of stable equilibrium: what a stable indication says of the readings behind it.
 use Rattle.std.specs.Prelude.{◌≡◌, true, All, List, length, take, ℤ, pos, ◌+ℤ◌, ◌-ℤ◌, ◌≤ℤ◌}
 use Rattle.wb_instrument.specs.Rounding.{round}
 use Rattle.wb_instrument.specs.Setup.{Setup, IsSetup}

@@ -1,4 +1,4 @@
--- A scale's history without its stored weighings.
+-- A law: a scale's answers are those of its history without the stored weighings.
 use Rattle.std.specs.Prelude.{◌≡◌, ℕ, List, [], ◌∷◌}
 use Rattle.wb_instrument.specs.Setup.{Setup}
 use Rattle.wb_scale.specs.Call.{Call, read, read_for_zero, set_zero, tare, preset, clear_tare, stored}

@@ -1,4 +1,4 @@
--- A terminal's history without its stored weighings.
+-- A law: a terminal's replies are those of its history without the stored weighings.
 use Rattle.std.specs.Prelude.{◌≡◌, List, [], ◌∷◌}
 use Rattle.wb_instrument.specs.Setup.{Setup}
 use Rattle.wb_sics.specs.Event.{Event, reading, byte, hang_up, stored}

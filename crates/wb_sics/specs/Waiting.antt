@@ -1,4 +1,4 @@
--- When `S`, `Z` and `T` wait (times and order are this project's own).
+-- When `S`, `Z` and `T` wait (times and order are this project's own); what waits after a history is put together in Replies.
 use Rattle.std.specs.Prelude.{ℕ, ◌==◌, ◌+◌, Bool, true, false, not, ◌&&◌, ◌||◌, nat_lt, List, [], ◌∷◌, if◌then◌else◌, Option, Some, None, option_and_then}
 use Rattle.wb_instrument.specs.Setup.{Setup}
 use Rattle.wb_window.specs.Stability.{is_stable}

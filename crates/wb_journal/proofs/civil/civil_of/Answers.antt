@@ -1,8 +1,8 @@
 use Rattle.std.proofs.Common.{◌≡◌, ◌*◌, pos, sym, ◌∙◌, subst, arith}
 use Rattle.std.proofs.lemmas.Int.{ints}
 use Rattle.jiff.specs.Words.{civil_nanos}
+use Rattle.wb_journal.specs.Civil.{IsCivilTime}
 use Rattle.wb_journal.specs.declared.civil.Civil.{Civil}
-use Rattle.wb_journal.specs.CivilTime.{IsCivilTime}
 use Rattle.wb_journal.proofs.Calendar.{civil-of_datetime, same_civil}
 use Rattle.wb_journal.proofs.civil.civil_of.Goals as goal
 
