@@ -11,6 +11,7 @@ pub mod Pairs
 pub mod Retention
 pub mod Check
 pub mod Civil
+pub mod Net
 pub mod Texts
 pub mod Laws
 pub mod helpers

@@ -1,11 +1,12 @@
 -- Slips and tickets: texts of an entry, and of its partner (print symbols of OIML R 76-1:2006: G gross, N net, PT preset tare).
-use Rattle.std.specs.Prelude.{ℕ, ◌+◌, ◌-◌, ◌/◌, ◌%◌, List, [], ◌∷◌, ◌++◌, Option, Some, None, ℤ, pos, ◌-ℤ◌, max, min, codes, decimal}
+use Rattle.std.specs.Prelude.{ℕ, ◌+◌, ◌-◌, ◌/◌, ◌%◌, List, [], ◌∷◌, ◌++◌, Option, Some, None, ℤ, pos, codes, decimal}
 use Rattle.wb_instrument.specs.WeightField.{weight_field}
 use Rattle.wb_journal.specs.declared.civil.Civil.{Civil}
 use Rattle.wb_journal.specs.declared.entry.EntryParts.{EntryParts}
 use Rattle.wb_journal.specs.Civil.{civil}
 use Rattle.wb_journal.specs.EntryText.{line}
 use Rattle.wb_journal.specs.Kind.{capitals}
+use Rattle.wb_journal.specs.Net.{net}
 
 -- the last two digits of a number
 abbrev pub two_digits : ℕ → List ℕ
@@ -56,23 +57,6 @@ title name e = line name (decimal e.number) ++ line (codes "PLATE ") e.plate
 -- the slip of an entry
 unfoldable pub slip : EntryParts → List ℕ
 slip e = title (codes "WEIGHING SLIP ") e ++ block e
-
--- the greater gross less the smaller, where both are there
-abbrev pub gross_difference : Option ℕ → Option ℕ → Option ℤ
-gross_difference None other = None
-gross_difference (Some gross) None = None
-gross_difference (Some gross) (Some other) = Some (pos (max gross other - min gross other))
-
--- the gross less the preset tare, where both are there
-abbrev pub gross_over_preset : Option ℕ → Option ℕ → Option ℤ
-gross_over_preset None preset = None
-gross_over_preset (Some gross) None = None
-gross_over_preset (Some gross) (Some preset) = Some (pos gross -ℤ pos preset)
-
--- the net of an entry: with its partner, or over its preset tare
-abbrev pub net : EntryParts → Option EntryParts → Option ℤ
-net e None = gross_over_preset e.gross_kg e.preset_kg
-net e (Some partner) = gross_difference e.gross_kg partner.gross_kg
 
 -- the line of a net
 abbrev pub net_line : Option ℤ → List ℕ

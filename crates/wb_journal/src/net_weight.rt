@@ -1,7 +1,7 @@
 //! The net of a ticket.
 ghost use Rattle.std.specs.Option.{ForSome, option_copied};
 ghost use Rattle.std.specs.Prelude.{◌≡◌, ◌≤◌};
-ghost use Rattle.wb_journal.specs.Texts.{gross_difference, gross_over_preset, net as net_of};
+ghost use Rattle.wb_journal.specs.Net.{gross_difference, gross_over_preset, net as net_of};
 
 use crate::Entry;
 

@@ -1,4 +1,4 @@
-//! A window with two queues.
+//! A window with two queues: the one that the program uses.
 ghost use Rattle.std.specs.Prelude.{◌≡◌, IfOk, [], replicate, true};
 
 use crate::queues::Queues;

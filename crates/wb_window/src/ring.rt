@@ -1,4 +1,4 @@
-//! A window in a ring.
+//! A window in a ring, plain and short; the program uses the one with two queues.
 ghost use Rattle.std.specs.Prelude.{◌≡◌, IfOk, []};
 ghost use Rattle.wb_window.specs.Stability.{agree as agree_of};
 

@@ -1,7 +1,8 @@
 use Rattle.std.proofs.Common.{◌≡◌, ◌++◌, []}
 use Rattle.std.specs.Option.{option_copied}
 use Rattle.std.specs.Prelude.{codes}
-use Rattle.wb_journal.specs.Texts.{block, net, net_line, partner_block, ticket, title}
+use Rattle.wb_journal.specs.Texts.{block, net_line, partner_block, ticket, title}
+use Rattle.wb_journal.specs.Net.{net}
 use Rattle.wb_journal.proofs.Appends.{append-four}
 use Rattle.wb_journal.proofs.texts.ticket_text.Goals as goal
 
