@@ -1,4 +1,4 @@
-//! The judgement of a weighing or void.
+//! The judgement of a weighing or void: by its key, and if the key is new by the conditions of `judgement.rt`.
 ghost use Rattle.std.specs.Prelude.{◌≡◌, IfOk, None, Some, false, not, true};
 ghost use Rattle.std.specs.Option.{option_copied};
 ghost use Rattle.wb_journal.specs.Digest.{is_sound as is_sound_entry};
