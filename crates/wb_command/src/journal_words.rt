@@ -1,7 +1,7 @@
 //! The words of what is asked of a journal's file.
+use crate::words::Asked;
 use clap::{Arg, ArgAction, ArgMatches, Command};
 use std::alloc::{AllocError, Global};
-use wb_program::What;
 
 /// What can be exported.
 static EXPORTS: [&str; 2] = ["journal", "tickets"];
@@ -56,11 +56,14 @@ pub(crate) fn file(alloc: Global, words: &ArgMatches<'_>) -> Result<Option<Strin
     }
 }
 
-/// What the words ask to export. None if they name neither, which `clap` doesn't let through.
-pub(crate) fn what(words: &ArgMatches<'_>) -> Option<What> {
-    match words.get_str("what")? {
-        "journal" => Some(What::Journal),
-        "tickets" => Some(What::Tickets),
-        _ => None,
+/// What the words of an export ask for. Nothing if they name no file or neither table, which `clap` doesn't let through.
+pub(crate) fn export_of(alloc: Global, words: &ArgMatches<'_>) -> Result<Asked, AllocError> {
+    let Some(file) = file(alloc, words)? else {
+        return Ok(Asked::Nothing);
+    };
+    match words.get_str("what") {
+        Some("journal") => Ok(Asked::ExportJournal(file)),
+        Some("tickets") => Ok(Asked::ExportTickets(file)),
+        _ => Ok(Asked::Nothing),
     }
 }

@@ -1,18 +1,14 @@
-//! The command line of the program: what its words ask for, and the journal's file that they name.
+//! The command line of the program: what its words ask for.
 //!
 //! The words are read by `clap`. A function of this crate returns whatever they are; which options there are, their defaults and
 //! their refusals are tested.
 #![tactic(auto)]
 
-mod files;
 mod journal_words;
 mod service_words;
 mod setup_words;
-#[cfg(test)]
-mod tests;
 mod words;
 
-pub use files::{kept_store_in, store_in};
 pub use service_words::Service;
 pub use setup_words::SetupFault;
 pub use words::{Asked, REFUSED, read_words};

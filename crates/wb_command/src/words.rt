@@ -1,11 +1,10 @@
 //! The words of the command line.
-use crate::journal_words::{check_command, export_command, file, what};
+use crate::journal_words::{check_command, export_command, export_of, file};
 use crate::service_words::{Service, serve_command, service_of};
 use crate::setup_words::{SetupFault, instrument, with_setup};
 use clap::{ArgMatches, Command};
 use std::alloc::{AllocError, Global};
 use wb_instrument::Instrument;
-use wb_program::What;
 
 /// The status of words or a setup that are refused.
 pub const REFUSED: u8 = 2;
@@ -26,8 +25,10 @@ pub enum Asked {
     Serve(Instrument, Service),
     /// The journal in this file is to be checked.
     Check(String),
-    /// This of the journal in this file is to be exported.
-    Export(String, What),
+    /// The journal in this file is to be exported.
+    ExportJournal(String),
+    /// The tickets of the journal in this file are to be exported.
+    ExportTickets(String),
     /// The setup is refused.
     SetupRefused(SetupFault),
     /// The words are refused, or ask for help or the version.
@@ -82,13 +83,6 @@ fn check_of(alloc: Global, words: &ArgMatches<'_>) -> Result<Asked, AllocError> 
     match file(alloc, words)? {
         Some(file) => Ok(Asked::Check(file)),
         None => Ok(Asked::Nothing),
-    }
-}
-
-fn export_of(alloc: Global, words: &ArgMatches<'_>) -> Result<Asked, AllocError> {
-    match (file(alloc, words)?, what(words)) {
-        (Some(file), Some(what)) => Ok(Asked::Export(file, what)),
-        _ => Ok(Asked::Nothing),
     }
 }
 

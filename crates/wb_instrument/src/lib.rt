@@ -13,8 +13,6 @@ mod preset;
 mod rounding;
 mod serial;
 mod setup;
-#[cfg(test)]
-mod tests;
 
 pub use field::weight_field;
 pub use interval::is_interval;

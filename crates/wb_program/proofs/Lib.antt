@@ -3,7 +3,6 @@ mod LineKinds
 mod PerformedHappenings
 mod ReplayedLines
 mod SourceAnswers
-mod SourcesInMemory
 mod TraceEnds
 mod Turns
 mod TypedTexts

@@ -8,10 +8,10 @@ use Rattle.wb_program.specs.declared.serving.ServeEnd.{ServeEnd}
 use Rattle.wb_program.specs.declared.serving.ServeEnd.TheVariants as end
 use Rattle.wb_program.specs.declared.serving.Stop.{Stop}
 use Rattle.wb_program.specs.declared.serving.Stop.TheVariants as stop
-use Rattle.wb_program.specs.declared.sources.Converter.TheVariants.{Line}
+use Rattle.wb_sources.specs.declared.sources.Converter.TheVariants.{Line}
 use Rattle.wb_program.specs.Served.{EndsAfter, Handled, Served}
 use Rattle.wb_program.specs.helpers.TurnParts.{ExchangeEnds, ExchangeServed, StretchServed, end_of, TurnEnds, TurnServed}
-use Rattle.wb_program.specs.SourceAnswers.{Answer, Tells, Told, converted, took}
+use Rattle.wb_sources.specs.SourceAnswers.{Answer, Tells, Told, converted, took}
 use Rattle.wb_program.specs.Turns.{Begun, Turn, all_handed_on, answers_begun, answers_of, handed_on, happenings_begun, happenings_of, stretch}
 use Rattle.wb_program.proofs.SourceAnswers.{all_handed_on_append, tells_append, tells_none}
 use Rattle.wb_sics.specs.Stands.{TerminalState}

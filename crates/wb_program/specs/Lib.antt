@@ -7,12 +7,9 @@ pub mod Trace
 -- What a replay prints.
 pub mod PrintedOutputs
 pub mod Replayed
--- The service: what its sources answer, what comes in a turn, how it ends.
-pub mod ConverterLines
-pub mod SourceAnswers
+-- The service: what comes in a turn, and how it ends.
 pub mod Turns
 pub mod Served
-pub mod SourcesInMemory
 -- What a check and the exports print.
 pub mod CheckAndExports
 -- What private functions' contracts need besides.

@@ -1,13 +1,8 @@
 -- Numbers in a trace.
-use Rattle.std.specs.Prelude.{ℕ, ◌==◌, ◌&&◌, nat_le, List, [], ◌∷◌, if◌then◌else◌, Option, Some, None, option_map, ℤ, pos, neg_ℤ}
+use Rattle.std.specs.Prelude.{ℕ, ◌==◌, ◌&&◌, nat_le, List, [], ◌∷◌, if◌then◌else◌, Option, Some, None}
 use Rattle.hex.specs.Hex.{decode_of}
 use Rattle.std.specs.Result.{result_ok}
 use Rattle.wb_text.specs.Digits.{digits}
-
--- an optional minus sign, and 1 to 18 digits
-abbrev pub number : List ℕ → Option ℤ
-number [] = None
-number (c ∷ cs) = if c == 45 then option_map (λ n. neg_ℤ (pos n)) (digits 18 cs) else option_map pos (digits 18 (c ∷ cs))
 
 abbrev pub within : ℕ → ℕ → ℕ → Option ℕ
 within least most n = if nat_le least n && nat_le n most then Some n else None

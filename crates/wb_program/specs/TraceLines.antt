@@ -6,7 +6,8 @@ use Rattle.wb_window.specs.Reading.{reading_of}
 use Rattle.wb_window.specs.declared.reading.Reading.{Reading}
 use Rattle.wb_window.specs.declared.reading.Reading.TheVariants.{Lost}
 use Rattle.wb_station.specs.Happening.{Happening, reading, byte, hang_up}
-use Rattle.wb_program.specs.Numerals.{number, count, hexadecimal}
+use Rattle.wb_program.specs.Numerals.{count, hexadecimal}
+use Rattle.wb_sources.specs.Number.{number}
 use Rattle.wb_program.specs.RequestLines.{request_bytes_line, request_line}
 
 -- `lost`, or a number of tenths

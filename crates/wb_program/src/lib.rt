@@ -2,27 +2,21 @@
 //!
 //! `replay` reads a trace of converter readings, terminal lines and requests to the office, and prints the replies and responses of
 //! a station over a journal in memory, over any reader and writer. `print_check` and `print_export` print what the check of a store
-//! finds, and its exports. `serve` runs a station over its sources, turn by turn; `converter_line` reads a line of a load converter.
+//! finds, and its exports. `serve` runs a station over its sources, turn by turn.
 //! The command line and the process's own streams are in the crate `weighbridge`.
 #![tactic(auto)]
 
 mod commands;
-mod converter;
 mod lines;
-mod list_sources;
 mod numerals;
 mod performing;
 mod printing;
 mod replaying;
 mod request_line;
 mod serving;
-mod sources;
 mod trace;
 mod trace_line;
 
 pub use commands::{PrintFault, What, print_check, print_export};
-pub use converter::converter_line;
-pub use list_sources::{Answered, HandedIn, ListSources, ListTurn};
 pub use replaying::{ReplayEnd, replay};
 pub use serving::{ServeEnd, serve};
-pub use sources::{Converter, REQUEST_ROOM, Sources, TERMINAL_ROOM, Taken};

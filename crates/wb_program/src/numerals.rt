@@ -1,6 +1,6 @@
 //! Numbers in a trace.
 ghost use Rattle.std.specs.Prelude.{◌≡◌, ◌≤◌, ◌+◌, ◌*◌, IfSome, length, option_map, take};
-ghost use Rattle.wb_program.specs.Numerals.{count as count_of, hexadecimal as hexadecimal_of, number as number_of};
+ghost use Rattle.wb_program.specs.Numerals.{count as count_of, hexadecimal as hexadecimal_of};
 ghost use Rattle.wb_program.specs.RequestLines.{moment as moment_of};
 
 use wb_journal::Moment;
@@ -11,22 +11,6 @@ const MOST_DIGITS: usize = 18;
 
 /// The times that a reading may be handed in by one line.
 const MOST_TIMES: u64 = 10_000;
-
-/// An optional minus sign, and 1 to 18 digits.
-pub(crate) fn number(text: &[u8]) -> Option<i64>
-    ensures { result ≡ number_of text.now }
-{
-    match text {
-        [] => None,
-        [first, rest @ ..] => {
-            if *first == b'-' {
-                Some(-(digits(rest, MOST_DIGITS)? as i64))
-            } else {
-                Some(digits(text, MOST_DIGITS)? as i64)
-            }
-        }
-    }
-}
 
 /// 1 to 10,000, with no leading zero.
 pub(crate) fn count(text: &[u8]) -> Option<u32>

@@ -2,14 +2,14 @@
 ghost use Rattle.std.specs.Prelude.{◌≡◌, ◌∷◌, [], false, map, reverse};
 ghost use Rattle.wb_program.specs.Served.{Handled, Served};
 ghost use Rattle.wb_program.specs.helpers.TurnParts.{ExchangeServed, StretchServed, end_of, TurnServed};
-ghost use Rattle.wb_program.specs.SourceAnswers.{Tells};
+ghost use Rattle.wb_sources.specs.SourceAnswers.{Tells};
 ghost use Rattle.wb_program.specs.Turns.{handed_on};
 ghost use Rattle.wb_station.specs.Happening.{IsTaken, byte as byte_happening, happening};
 ghost use Rattle.wb_station.specs.OutputShows.{shown};
 
-use crate::sources::{Converter, REQUEST_ROOM, Sources, TERMINAL_ROOM};
 use sqlite::Alter;
 use thiserror::Error;
+use wb_sources::{Converter, REQUEST_ROOM, Sources, TERMINAL_ROOM};
 use wb_station::{Event, Output, Station, reply_bytes};
 use wb_window::Window;
 

@@ -5,9 +5,10 @@ ghost use Rattle.wb_program.specs.helpers.LineEvents.{IsRead, events_of};
 ghost use Rattle.wb_program.specs.TraceLines.{bytes_line, hang_up_line, line_events, of_text, reading_line, reading_word as reading_of_word, typed, typed_text as typed_text_of, without_blank};
 ghost use Rattle.wb_window.specs.Reading.{IsReading};
 
-use crate::numerals::{count, hexadecimal, number};
+use crate::numerals::{count, hexadecimal};
 use crate::request_line::{request_bytes_line, request_line};
 use wb_journal::Moment;
+use wb_sources::number;
 use wb_text::split_at_first;
 use wb_window::Reading;
 

@@ -11,8 +11,6 @@ mod laws;
 mod load;
 mod scale;
 mod tare;
-#[cfg(test)]
-mod tests;
 mod tracking;
 mod zero_setting;
 

@@ -14,8 +14,6 @@ mod laws;
 mod line;
 mod reply;
 mod terminal;
-#[cfg(test)]
-mod tests;
 mod waiting;
 
 pub use command::{Command, parse_line};

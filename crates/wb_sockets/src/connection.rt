@@ -9,7 +9,7 @@ use std::fmt::Display;
 use std::io::{Read, Write};
 use std::net::{OpenStream, Shutdown, SocketAddr};
 use std::time::Instant;
-use wb_program::REQUEST_ROOM;
+use wb_sources::REQUEST_ROOM;
 use wb_station::{Routes, is_whole};
 
 /// What a connection is doing.

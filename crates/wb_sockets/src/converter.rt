@@ -1,6 +1,6 @@
 //! The converter, which alone is waited for.
 ghost use Rattle.std.specs.Prelude.{IfSome};
-ghost use Rattle.wb_program.specs.SourceAnswers.{IsConverted};
+ghost use Rattle.wb_sources.specs.SourceAnswers.{IsConverted};
 ghost use Rattle.wb_sockets.specs.Ready.{IsWithin};
 
 use crate::limits::{ENDLESS_LINE, SILENCE_SECONDS};
@@ -12,7 +12,7 @@ use std::io::Read;
 use std::net::{Net, OpenStream};
 use std::time::{Clock, Duration, Instant};
 use thiserror::Error;
-use wb_program::Converter as Said;
+use wb_sources::Converter as Said;
 use wb_window::Reading;
 
 /// A converter that can't be opened.

@@ -8,7 +8,7 @@ use std::alloc::{AllocError, Global};
 use std::io::{ErrorKind, Read, Write};
 use std::net::{OpenListener, OpenStream, SocketAddr};
 use std::time::Instant;
-use wb_program::REQUEST_ROOM;
+use wb_sources::REQUEST_ROOM;
 use wb_station::Routes;
 
 /// The listener and its connections.

@@ -14,7 +14,7 @@ use std::time::{Clock, Duration, Instant, SystemTime, UNIX_EPOCH};
 use std::{str, thread};
 use thiserror::Error;
 use wb_journal::Moment;
-use wb_program::{Converter as Said, REQUEST_ROOM, Sources, TERMINAL_ROOM, Taken};
+use wb_sources::{Converter as Said, REQUEST_ROOM, Sources, TERMINAL_ROOM, Taken};
 use wb_station::Routes;
 
 /// How often what waits for clients is looked at at the end.

@@ -4,6 +4,5 @@ mod converter;
 mod lines;
 mod memory;
 mod office;
-mod service;
 mod sockets;
 mod terminal;

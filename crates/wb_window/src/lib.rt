@@ -11,8 +11,6 @@ mod deque;
 mod queues;
 mod reading;
 mod ring;
-#[cfg(test)]
-mod tests;
 mod window;
 
 pub use deque::DequeWindow;

@@ -6,7 +6,8 @@ mod service;
 use crate::service::serve_bridge;
 use std::io;
 use std::process::ExitCode;
-use wb_command::{Asked, REFUSED, Service, kept_store_in, read_words};
+use wb_command::{Asked, REFUSED, Service, read_words};
+use wb_file::kept_store_in;
 use wb_instrument::Instrument;
 use wb_program::{PrintFault, ReplayEnd, ServeEnd, What, print_check, print_export, replay};
 
@@ -22,7 +23,8 @@ fn main(rt: HostRuntime) -> io::Result<ExitCode> {
         Asked::Replay(instrument) => run_replay(&rt, instrument),
         Asked::Serve(instrument, service) => run_serve(&rt, instrument, &service),
         Asked::Check(path) => run_check(&rt, path.as_str()),
-        Asked::Export(path, what) => run_export(&rt, path.as_str(), what),
+        Asked::ExportJournal(path) => run_export(&rt, path.as_str(), What::Journal),
+        Asked::ExportTickets(path) => run_export(&rt, path.as_str(), What::Tickets),
         Asked::SetupRefused(fault) => {
             eprintln!(rt; "{fault}")?;
             Ok(ExitCode::from(fault.status()))

@@ -1,7 +1,8 @@
 //! The service of a bridge, over files and sockets.
 use sqlite::{File, FileStore};
 use thiserror::Error;
-use wb_command::{Service, store_in};
+use wb_command::Service;
+use wb_file::store_in;
 use wb_instrument::Instrument;
 use wb_program::{PrintFault, ServeEnd, serve};
 use wb_sockets::{AddressFault, Converter, ConverterFault, Sockets, StartFault, listen};

@@ -6,7 +6,7 @@ use std::fs;
 use std::process::Abort;
 use std::test::Fail;
 use std::time::Instant;
-use wb_program::Converter as Said;
+use wb_sources::Converter as Said;
 use wb_window::Reading::{Load, Lost};
 
 /// Hears what comes next: what it says, at which millisecond, and whether it had to be waited for.

@@ -5,7 +5,7 @@ use crate::report::Report;
 use std::alloc::Global;
 use std::test::Fail;
 use std::time::Instant;
-use wb_program::REQUEST_ROOM;
+use wb_sources::REQUEST_ROOM;
 use wb_station::Routes;
 
 const ASKED: &[u8] = b"GET /indication HTTP/1.1\r\n\r\n";

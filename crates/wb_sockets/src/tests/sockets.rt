@@ -5,7 +5,7 @@ use crate::converter::Converter;
 use crate::source::Source;
 use std::test::Fail;
 use std::time::Instant;
-use wb_program::{Converter as Said, REQUEST_ROOM, Sources, TERMINAL_ROOM};
+use wb_sources::{Converter as Said, REQUEST_ROOM, Sources, TERMINAL_ROOM};
 use wb_window::Reading;
 
 const ASKED: &[u8] = b"GET /check HTTP/1.1\r\n\r\n";

@@ -5,7 +5,7 @@ use crate::terminal::Terminal;
 use std::alloc::Global;
 use std::test::Fail;
 use std::time::Instant;
-use wb_program::{TERMINAL_ROOM, Taken};
+use wb_sources::{TERMINAL_ROOM, Taken};
 
 /// A terminal, and what its turns take.
 #[derive(Drop)]

@@ -1,5 +1,5 @@
 use Rattle.std.proofs.Common.{[], ◌∷◌, None, Some, refl, take}
-use Rattle.wb_program.specs.SourceAnswers.{asked, timed}
+use Rattle.wb_sources.specs.SourceAnswers.{asked, timed}
 use Rattle.wb_program.specs.Turns.{answers_of_request, happenings_of_request}
 use Rattle.wb_program.proofs.SourceAnswers.{tells_append}
 use Rattle.wb_program.proofs.Turns.{handled_answer, handled_none}

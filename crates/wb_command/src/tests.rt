@@ -1,3 +1,0 @@
-//! The words of the command line, and files.
-mod command_line;
-mod files;

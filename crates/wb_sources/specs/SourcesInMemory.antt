@@ -1,0 +1,23 @@
+-- What sources in memory kept.
+use Rattle.std.specs.Prelude.{Bool, true, false, List, map, reverse, Option, Some, None}
+use Rattle.wb_sources.specs.declared.list_sources.Answered.{Answered}
+use Rattle.wb_sources.specs.declared.list_sources.Answered.TheVariants as kept
+use Rattle.wb_sources.specs.declared.list_sources.HandedIn.{HandedIn}
+use Rattle.wb_sources.specs.declared.list_sources.HandedIn.TheVariants.{Reply, Response}
+use Rattle.wb_sources.specs.SourceAnswers.{Answer, Handed, Told, asked, converted, timed, to_office, to_terminal, took}
+
+abbrev pub answer_of : Answered → Answer
+answer_of (kept.Converter converter) = converted converter
+answer_of (kept.Terminal bytes hung_up) = took bytes.items hung_up
+answer_of (kept.Office None) = asked None
+answer_of (kept.Office (Some request)) = asked (Some request.items)
+answer_of (kept.Moment moment) = timed moment
+
+abbrev pub handed_of : HandedIn → Handed
+handed_of (Reply bytes) = to_terminal bytes.items
+handed_of (Response bytes) = to_office bytes.items
+
+-- what was kept, the newest first; nothing once a fault was kept
+abbrev pub told_of : Bool → List Answered → List HandedIn → Option Told
+told_of true answered handed = None
+told_of false answered handed = Some (record { answers = reverse (map answer_of answered); handed = reverse (map handed_of handed) })
