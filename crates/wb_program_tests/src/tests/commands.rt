@@ -1,6 +1,9 @@
 //! What is printed of a store's journal, and lines of a load converter.
-use sqlite::{Connection, MemStore};
+use super::store;
+use sqlite::MemStore;
 use std::alloc::Global;
+use std::process::Abort;
+use std::str;
 use std::test::Fail;
 use wb_instrument::Serial;
 use wb_journal::{Digest, Entry, EntryParts, Key, Kind, Moment, Plate};
@@ -35,92 +38,114 @@ fn entry(number: u32, key: &str, kind: Kind, moment: u64, gross_kg: u32) -> Resu
     Ok(Entry::new(parts).ok_or("limits")?)
 }
 
-/// A store over a database in memory, with a pair of weighings. The first has its digest, or none.
-fn store(alloc: Global, is_sound: bool) -> Result<Store<MemStore>, Fail> {
-    let conn = Connection::open_in_memory(alloc)?;
-    let mut store = match Store::open(conn) {
-        Ok(store) => store,
-        Err((fault, _)) => return Err(fault.into()),
-    };
+/// Stores a pair of weighings. The first has its digest, or none.
+fn weigh(store: &mut Store<MemStore>, is_sound: bool) -> Result<(), Fail> {
     let first = entry(1, "K1", Kind::First, MORNING, 18_340)?;
+    let second = entry(2, "K2", Kind::Second, LATER, 8_140)?;
     store.append(&if is_sound { first.sealed() } else { first })?;
-    store.append(&entry(2, "K2", Kind::Second, LATER, 8_140)?.sealed())?;
-    Ok(store)
+    store.append(&second.sealed())?;
+    Ok(())
 }
 
-#[test]
-fn prints_what_a_check_finds(rt: HostRuntime) -> Result<(), Fail> {
-    for (is_sound, line) in [(true, "SOUND 2\n"), (false, "DAMAGED 1\n")] {
-        let mut printed = Vec::new(rt.alloc());
-        let answer = print_check(rt.alloc(), &mut store(rt.alloc(), is_sound)?, &mut printed);
-        assert_eq!(rt; answer, Ok(is_sound));
-        assert_eq!(rt; String::from_utf8(printed)?.as_str(), line);
+/// What is asked of a store, and its answer.
+#[derive(Clone, Copy, Drop)]
+enum Asked {
+    Check(Result<bool, PrintFault>),
+    Export(What, Result<(), PrintFault>),
+}
+
+/// What is asked of a store, and what is printed.
+type Row = (Asked, &'static str);
+
+const OF_A_SOUND_JOURNAL: &[Row] = &[
+    (Asked::Check(Ok(true)), "SOUND 2\n"),
+    (Asked::Export(What::Journal, Ok(())), JOURNAL),
+    (Asked::Export(What::Tickets, Ok(())), TICKETS),
+];
+
+const OF_A_DAMAGED_JOURNAL: &[Row] = &[
+    (Asked::Check(Ok(false)), "DAMAGED 1\n"),
+    (Asked::Export(What::Tickets, Err(PrintFault::Damaged)), ""),
+];
+
+/// Asks for each row at one store.
+fn prints_each(rt: &impl Abort, alloc: Global, is_sound: bool, rows: &[Row]) -> Result<(), Fail> {
+    let mut store = store(alloc)?;
+    weigh(&mut store, is_sound)?;
+    for (asked, printed) in rows {
+        prints(rt, alloc, &mut store, asked, printed)?;
     }
     Ok(())
 }
 
-#[test]
-fn prints_both_exports(rt: HostRuntime) -> Result<(), Fail> {
-    for (what, text) in [(What::Journal, JOURNAL), (What::Tickets, TICKETS)] {
-        let mut printed = Vec::new(rt.alloc());
-        let answer = print_export(
-            rt.alloc(),
-            &mut store(rt.alloc(), true)?,
-            what,
-            &mut printed,
-        );
-        assert_eq!(rt; answer, Ok(()));
-        assert_eq!(rt; String::from_utf8(printed)?.as_str(), text);
+fn prints(
+    rt: &impl Abort,
+    alloc: Global,
+    store: &mut Store<MemStore>,
+    asked: &Asked,
+    printed: &str,
+) -> Result<(), Fail> {
+    let mut writer = Vec::new(alloc);
+    match asked {
+        Asked::Check(wanted) => {
+            let answer = print_check(alloc, store, &mut writer);
+            assert_eq!(rt; answer, *wanted, "{printed}");
+        }
+        Asked::Export(what, wanted) => {
+            let answer = print_export(alloc, store, *what, &mut writer);
+            assert_eq!(rt; answer, *wanted, "{printed}");
+        }
     }
+    assert_eq!(rt; str::from_utf8(writer.as_slice())?, printed);
     Ok(())
+}
+
+#[test]
+fn prints_a_check_and_both_exports(rt: HostRuntime) -> Result<(), Fail> {
+    prints_each(&rt, rt.alloc(), true, OF_A_SOUND_JOURNAL)
 }
 
 #[test]
 fn prints_no_tickets_of_a_damaged_journal(rt: HostRuntime) -> Result<(), Fail> {
-    let mut printed = Vec::new(rt.alloc());
-    let answer = print_export(
-        rt.alloc(),
-        &mut store(rt.alloc(), false)?,
-        What::Tickets,
-        &mut printed,
-    );
-    assert_eq!(rt; answer, Err(PrintFault::Damaged));
-    assert!(rt; printed.is_empty());
-    Ok(())
+    prints_each(&rt, rt.alloc(), false, OF_A_DAMAGED_JOURNAL)
 }
+
+const REPORTED: &[(PrintFault, &str)] = &[
+    (PrintFault::Store(StoreFault::Memory), "store 1 memory"),
+    (PrintFault::Store(StoreFault::Disk), "store 2 disk"),
+    (PrintFault::Store(StoreFault::Size), "store 3 size"),
+    (PrintFault::Store(StoreFault::Foreign), "store 4 foreign"),
+    (PrintFault::Store(StoreFault::Closed), "store 5 closed"),
+    (PrintFault::Damaged, "refused 17 damaged"),
+    (PrintFault::Write, "write fault"),
+    (PrintFault::Memory, "want of memory"),
+];
 
 #[test]
 fn reports_each_fault_by_its_line(rt: HostRuntime) -> Result<(), Fail> {
-    for (fault, line) in [
-        (PrintFault::Store(StoreFault::Memory), "store 1 memory"),
-        (PrintFault::Store(StoreFault::Disk), "store 2 disk"),
-        (PrintFault::Store(StoreFault::Size), "store 3 size"),
-        (PrintFault::Store(StoreFault::Foreign), "store 4 foreign"),
-        (PrintFault::Store(StoreFault::Closed), "store 5 closed"),
-        (PrintFault::Damaged, "refused 17 damaged"),
-        (PrintFault::Write, "write fault"),
-        (PrintFault::Memory, "want of memory"),
-    ] {
+    for (fault, line) in REPORTED {
         let said = format!(in rt.alloc(); "{fault}")?;
-        assert_eq!(rt; said.as_str(), line);
+        assert_eq!(rt; said.as_str(), *line);
     }
     Ok(())
 }
 
+const CONVERTED: &[(&str, Reading)] = &[
+    ("9170", Reading::Load(9_170)),
+    ("-5", Reading::Load(-5)),
+    ("000000000000000007", Reading::Load(7)),
+    ("2000000", Reading::Load(2_000_000)),
+    ("2000001", Reading::Lost),
+    ("0000000000000000007", Reading::Lost),
+    ("9170 ", Reading::Lost),
+    ("+5", Reading::Lost),
+    ("-", Reading::Lost),
+    ("", Reading::Lost),
+];
+
 #[test]
 fn reads_lines_of_a_converter(rt: HostRuntime) {
-    for (line, reading) in [
-        ("9170", Reading::Load(9_170)),
-        ("-5", Reading::Load(-5)),
-        ("000000000000000007", Reading::Load(7)),
-        ("2000000", Reading::Load(2_000_000)),
-        ("2000001", Reading::Lost),
-        ("0000000000000000007", Reading::Lost),
-        ("9170 ", Reading::Lost),
-        ("+5", Reading::Lost),
-        ("-", Reading::Lost),
-        ("", Reading::Lost),
-    ] {
-        assert_eq!(rt; converter_line(line.as_bytes()), reading, "{line}");
+    for (line, reading) in CONVERTED {
+        assert_eq!(rt; converter_line(line.as_bytes()), *reading, "{line}");
     }
 }

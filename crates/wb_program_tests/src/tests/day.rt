@@ -1,5 +1,5 @@
 //! A day at a weighbridge, as `docs/day.md` has it.
-use super::replayed;
+use super::{ROAD, prints};
 use std::test::Fail;
 use wb_program::ReplayEnd;
 
@@ -86,13 +86,11 @@ const LINES: [(&str, &str); 33] = [
 fn prints_a_whole_day(rt: HostRuntime) -> Result<(), Fail> {
     let mut trace = String::new(rt.alloc());
     let mut printed = String::new(rt.alloc());
-    for (line, print) in LINES {
+    for (line, print) in &LINES {
         trace.push_str(line)?;
         trace.push_str("\n")?;
         printed.push_str(print)?;
     }
-    let (end, got) = replayed(rt.alloc(), trace.as_str())?;
-    assert_eq!(rt; end, ReplayEnd::Done);
-    assert_eq!(rt; got.as_str(), printed.as_str());
-    Ok(())
+    let row = ("a whole day", trace.as_str(), printed.as_str());
+    prints(&rt, rt.alloc(), ROAD, ReplayEnd::Done, row)
 }

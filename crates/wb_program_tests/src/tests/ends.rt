@@ -1,26 +1,53 @@
 //! How a replay ends: its limits, faults of its reader and writer, texts and statuses.
-use super::road;
-use std::io;
+use super::{ROAD, instrument};
+use std::alloc::Global;
 use std::io::{ErrorKind, Read, Write};
+use std::process::Abort;
 use std::test::Fail;
+use std::{io, str};
 use wb_program::{ReplayEnd, replay};
+
+/// A line, a comment up to so many bytes, and these last bytes.
+fn long(alloc: Global, size: usize, last: &[u8]) -> Result<Vec<u8>, Fail> {
+    let mut trace = Vec::from_slice(alloc, b"t SI\n")?;
+    trace.resize(size, b'#')?;
+    trace.extend_from_slice(last)?;
+    Ok(trace)
+}
+
+/// Replays what a reader gives, which must end so and print so.
+fn ends<R: Read>(
+    rt: &impl Abort,
+    alloc: Global,
+    reader: &mut R,
+    wanted: ReplayEnd,
+    printed: &[u8],
+) -> Result<(), Fail> {
+    let mut writer = Vec::new(alloc);
+    let end = replay(alloc, instrument(ROAD)?, reader, &mut writer);
+    assert_eq!(rt; end, wanted);
+    assert_eq!(rt; writer.as_slice(), printed);
+    Ok(())
+}
 
 #[test]
 fn runs_nothing_of_a_trace_one_byte_too_long(rt: HostRuntime) -> Result<(), Fail> {
-    let mut trace = Vec::from_slice(rt.alloc(), b"t SI\n#")?;
-    for _ in trace.len()..1_048_576 {
-        trace.push(b'#')?;
-    }
-    let mut printed = Vec::new(rt.alloc());
-    let end = replay(rt.alloc(), road()?, &mut trace.as_slice(), &mut printed);
-    assert_eq!(rt; end, ReplayEnd::Done);
-    assert_eq!(rt; printed.as_slice(), b"t S I\n".as_slice());
-    trace.push(b'#')?;
-    let mut printed = Vec::new(rt.alloc());
-    let end = replay(rt.alloc(), road()?, &mut trace.as_slice(), &mut printed);
-    assert_eq!(rt; end, ReplayEnd::TooLong);
-    assert!(rt; printed.is_empty());
-    Ok(())
+    let trace = long(rt.alloc(), 1_048_576, b"")?;
+    ends(
+        &rt,
+        rt.alloc(),
+        &mut trace.as_slice(),
+        ReplayEnd::Done,
+        b"t S I\n",
+    )?;
+    let trace = long(rt.alloc(), 1_048_576, b"#")?;
+    ends(
+        &rt,
+        rt.alloc(),
+        &mut trace.as_slice(),
+        ReplayEnd::TooLong,
+        b"",
+    )
 }
 
 /// A reader that gives one byte at a time, and is interrupted before each.
@@ -49,21 +76,14 @@ impl Read for Slow<'_> {
 
 #[test]
 fn reads_the_longest_trace_a_byte_at_a_time(rt: HostRuntime) -> Result<(), Fail> {
-    let mut trace = Vec::from_slice(rt.alloc(), b"t SI\n#")?;
-    for _ in trace.len()..1_048_570 {
-        trace.push(b'#')?;
-    }
-    trace.extend_from_slice(b"\nt I4\n")?;
+    let trace = long(rt.alloc(), 1_048_570, b"\nt I4\n")?;
     assert_eq!(rt; trace.len(), 1_048_576);
-    let mut printed = Vec::new(rt.alloc());
     let mut reader = Slow {
         left: trace.as_slice(),
         interrupted: false,
     };
-    let end = replay(rt.alloc(), road()?, &mut reader, &mut printed);
-    assert_eq!(rt; end, ReplayEnd::Done);
-    assert_eq!(rt; printed.as_slice(), b"t S I\nt I4 A \"WB01\"\n".as_slice());
-    Ok(())
+    let printed = b"t S I\nt I4 A \"WB01\"\n";
+    ends(&rt, rt.alloc(), &mut reader, ReplayEnd::Done, printed)
 }
 
 /// A reader that is always interrupted, and counts its reads.
@@ -82,11 +102,8 @@ impl Read for Interrupted {
 #[test]
 fn gives_up_after_two_million_reads(rt: HostRuntime) -> Result<(), Fail> {
     let mut reader = Interrupted { reads: 0 };
-    let mut printed = Vec::new(rt.alloc());
-    let end = replay(rt.alloc(), road()?, &mut reader, &mut printed);
-    assert_eq!(rt; end, ReplayEnd::ReadFault);
+    ends(&rt, rt.alloc(), &mut reader, ReplayEnd::ReadFault, b"")?;
     assert_eq!(rt; reader.reads, 2_000_000);
-    assert!(rt; printed.is_empty());
     Ok(())
 }
 
@@ -110,10 +127,13 @@ impl Read for Failing {
 #[test]
 fn runs_nothing_of_a_trace_whose_reader_fails(rt: HostRuntime) -> Result<(), Fail> {
     for left in [true, false] {
-        let mut printed = Vec::new(rt.alloc());
-        let end = replay(rt.alloc(), road()?, &mut Failing { left }, &mut printed);
-        assert_eq!(rt; end, ReplayEnd::ReadFault);
-        assert!(rt; printed.is_empty());
+        ends(
+            &rt,
+            rt.alloc(),
+            &mut Failing { left },
+            ReplayEnd::ReadFault,
+            b"",
+        )?;
     }
     Ok(())
 }
@@ -140,62 +160,80 @@ impl Write for Failed {
     }
 }
 
+/// How a replay ends over a writer that fails after no write, after one, after two, and so on, and what was written by then.
+const AFTER_EACH_WRITE: &[(ReplayEnd, &str)] = &[
+    (ReplayEnd::WriteFault, ""),
+    (ReplayEnd::WriteFault, "t "),
+    (ReplayEnd::WriteFault, "t S S      18340 kg"),
+    (ReplayEnd::WriteFault, "t S S      18340 kg\n"),
+    (ReplayEnd::WriteFault, "t S S      18340 kg\nt "),
+    (
+        ReplayEnd::WriteFault,
+        "t S S      18340 kg\nt I4 A \"WB01\"",
+    ),
+    (
+        ReplayEnd::WriteFault,
+        "t S S      18340 kg\nt I4 A \"WB01\"\n",
+    ),
+    (
+        ReplayEnd::WriteFault,
+        "t S S      18340 kg\nt I4 A \"WB01\"\nt ",
+    ),
+    (
+        ReplayEnd::WriteFault,
+        "t S S      18340 kg\nt I4 A \"WB01\"\nt ES",
+    ),
+    (
+        ReplayEnd::Done,
+        "t S S      18340 kg\nt I4 A \"WB01\"\nt ES\n",
+    ),
+];
+
 #[test]
 fn keeps_what_was_written_before_a_write_fault(rt: HostRuntime) -> Result<(), Fail> {
-    let pieces: [&[u8]; 9] = [
-        b"t ",
-        b"S S      18340 kg",
-        b"\n",
-        b"t ",
-        b"I4 A \"WB01\"",
-        b"\n",
-        b"t ",
-        b"ES",
-        b"\n",
-    ];
-    for writes in 0..=pieces.len() {
-        let mut writer = Failed {
-            taken: Vec::new(rt.alloc()),
-            writes,
-        };
-        let end = replay(
-            rt.alloc(),
-            road()?,
-            &mut b"r 9170 4\nt SI\nt I4\nt x\n".as_slice(),
-            &mut writer,
-        );
-        let mut expected = Vec::new(rt.alloc());
-        for piece in &pieces[..writes] {
-            expected.extend_from_slice(piece)?;
-        }
-        let wanted = if writes == pieces.len() {
-            ReplayEnd::Done
-        } else {
-            ReplayEnd::WriteFault
-        };
-        assert_eq!(rt; end, wanted, "{writes} writes");
-        assert_eq!(rt;
-            writer.taken.as_slice(),
-            expected.as_slice(),
-            "{writes} writes"
-        );
+    for (writes, (end, printed)) in AFTER_EACH_WRITE.iter().enumerate() {
+        keeps(&rt, rt.alloc(), writes, *end, printed)?;
     }
     Ok(())
 }
 
+fn keeps(
+    rt: &impl Abort,
+    alloc: Global,
+    writes: usize,
+    wanted: ReplayEnd,
+    printed: &str,
+) -> Result<(), Fail> {
+    let mut writer = Failed {
+        taken: Vec::new(alloc),
+        writes,
+    };
+    let mut trace = b"r 9170 4\nt SI\nt I4\nt x\n".as_slice();
+    let end = replay(alloc, instrument(ROAD)?, &mut trace, &mut writer);
+    assert_eq!(rt; end, wanted, "{writes} writes");
+    assert_eq!(rt;
+        str::from_utf8(writer.taken.as_slice())?,
+        printed,
+        "{writes} writes"
+    );
+    Ok(())
+}
+
+const REPORTED: &[(ReplayEnd, &str, u8)] = &[
+    (ReplayEnd::Done, "done", 0),
+    (ReplayEnd::BadLine(2), "trace line 2 not understood", 1),
+    (ReplayEnd::TooLong, "trace too long", 1),
+    (ReplayEnd::ReadFault, "read fault", 1),
+    (ReplayEnd::WriteFault, "write fault", 1),
+    (ReplayEnd::Memory, "want of memory", 1),
+];
+
 #[test]
 fn reports_what_ended_it(rt: HostRuntime) -> Result<(), Fail> {
-    for (end, line, status) in [
-        (ReplayEnd::Done, "done", 0),
-        (ReplayEnd::BadLine(2), "trace line 2 not understood", 1),
-        (ReplayEnd::TooLong, "trace too long", 1),
-        (ReplayEnd::ReadFault, "read fault", 1),
-        (ReplayEnd::WriteFault, "write fault", 1),
-        (ReplayEnd::Memory, "want of memory", 1),
-    ] {
+    for (end, line, status) in REPORTED {
         let said = format!(in rt.alloc(); "{end}")?;
-        assert_eq!(rt; said.as_str(), line);
-        assert_eq!(rt; end.status(), status, "{line}");
+        assert_eq!(rt; said.as_str(), *line);
+        assert_eq!(rt; end.status(), *status, "{line}");
     }
     Ok(())
 }

@@ -1,12 +1,11 @@
 //! Turns of the service over sources in memory.
-use super::road;
-use sqlite::{Connection, MemStore};
+use super::{ROAD, instrument, store};
 use std::alloc::Global;
+use std::process::Abort;
 use std::test::Fail;
 use wb_journal::Moment;
 use wb_program::{Answered, Converter, HandedIn, ListSources, ListTurn, ServeEnd, serve};
 use wb_station::Station;
-use wb_store::Store;
 use wb_window::{DequeWindow, Reading};
 
 const MORNING: u64 = 1_741_593_600;
@@ -14,228 +13,326 @@ const MORNING: u64 = 1_741_593_600;
 const FIRST: &str =
     "POST /weighings HTTP/1.1\r\nContent-Length: 29\r\n\r\nkey=K1&kind=first&plate=AB-12";
 
-fn station(alloc: Global) -> Result<Station<DequeWindow, MemStore>, Fail> {
-    let instrument = road()?;
-    let conn = Connection::open_in_memory(alloc)?;
-    let store = match Store::open(conn) {
-        Ok(store) => store,
-        Err((fault, _)) => return Err(fault.into()),
-    };
-    let window = DequeWindow::new(alloc, instrument.window() as usize, instrument.band())?;
-    match Station::open(alloc, instrument, window, store) {
-        Ok(station) => Ok(station),
-        Err(_) => Err("station".into()),
-    }
-}
-
-/// A turn in which a load and these bytes come.
-fn turn(alloc: Global, load: i64, typed: &str) -> Result<ListTurn, Fail> {
-    Ok(ListTurn {
-        converter: Converter::Line(Reading::of(load)),
-        typed: Vec::from_slice(alloc, typed.as_bytes())?,
-        hung_up: false,
-        request: None,
-        moment: Moment::new(MORNING),
-    })
-}
-
-/// A turn in which a load and a request come.
-fn asking(alloc: Global, load: i64, request: &str) -> Result<ListTurn, Fail> {
-    Ok(ListTurn {
-        request: Some(Vec::from_slice(alloc, request.as_bytes())?),
-        ..turn(alloc, load, "")?
-    })
-}
-
-/// How serving these turns ended, what was handed in, and how many answers were given.
-fn served(
-    alloc: Global,
-    turns: Vec<ListTurn>,
-    limit: u64,
-) -> Result<(ServeEnd, Vec<String>, usize), Fail> {
-    let mut sources = ListSources::new(alloc, turns);
-    let end = serve(&mut station(alloc)?, &mut sources, limit);
-    if sources.has_fault() {
-        return Err("fault".into());
-    }
-    let mut handed = Vec::new(alloc);
-    for bytes in sources.handed() {
-        let bytes = match bytes {
-            HandedIn::Reply(bytes) | HandedIn::Response(bytes) => bytes.as_slice(),
-        };
-        handed.push(String::from_utf8(Vec::from_slice(alloc, bytes)?)?)?;
-    }
-    Ok((end, handed, sources.answered().len()))
-}
-
-const SLIP: &str = "HTTP/1.1 201 Created\r\n";
-
-const NO_LOAD: &str = "NO LOAD\n";
-
 const INDICATION: &str = "GET /indication HTTP/1.1\r\n\r\n";
 
+/// What comes in a turn.
+#[derive(Clone, Copy, Drop)]
+struct Turn {
+    /// In tenths of an interval; none at a fault of the converter.
+    load: Option<i64>,
+    typed: &'static str,
+    hung_up: bool,
+    request: Option<&'static str>,
+    has_moment: bool,
+}
+
+const CALM: Turn = Turn {
+    load: Some(0),
+    typed: "",
+    hung_up: false,
+    request: None,
+    has_moment: true,
+};
+
+const ASKED: Turn = Turn {
+    typed: "SI\n",
+    ..CALM
+};
+
+const LOADED: Turn = Turn {
+    load: Some(9_170),
+    ..CALM
+};
+
+const LOADED_AND_ASKED: Turn = Turn {
+    typed: "SI\r\n",
+    ..LOADED
+};
+
+const WEIGHED: Turn = Turn {
+    request: Some(FIRST),
+    ..LOADED
+};
+
+const WEIGHED_AND_ASKED: Turn = Turn {
+    typed: "SI\n",
+    ..WEIGHED
+};
+
+/// A service that ends, what was handed in, and what the sources answered: a letter for each answer.
+#[derive(Clone, Copy, Drop)]
+struct Service {
+    shows: &'static str,
+    turns: &'static [Turn],
+    limit: u64,
+    end: ServeEnd,
+    handed: &'static str,
+    answered: &'static str,
+}
+
+const SERVICES: &[Service] = &[
+    Service {
+        shows: "a reply at the turn of its command",
+        turns: &[LOADED, LOADED, LOADED, LOADED_AND_ASKED],
+        limit: 1_000,
+        end: ServeEnd::Turns(4),
+        handed: "reply: S S      18340 kg\r\n",
+        answered: "LtnLtnLtnLtne",
+    },
+    Service {
+        shows: "a weighing in its turn, after the reply, and its repetition",
+        turns: &[CALM, LOADED, LOADED, LOADED, WEIGHED_AND_ASKED, WEIGHED],
+        limit: 1_000,
+        end: ServeEnd::Turns(6),
+        handed: "reply: S S      18340 kg\r\nresponse: HTTP/1.1 201 Created\r\nDate: Mon, 10 Mar 2025 08:00:00 GMT\r\nContent-Type: text/plain; charset=utf-8\r\nContent-Length: 183\r\nConnection: close\r\n\r\nWEIGHING SLIP 1\nPLATE AB-12\nFIRST NO 1\nAT 2025-03-10 08:00:00\nG      18340 kg\nE 20 kg MAX 60000 kg SERIAL WB01\nDIGEST 1ff0f144d39a8d0890cc2c886fab380c93a9dd98d1d16ca37031b262a56fd3b3\nresponse: HTTP/1.1 201 Created\r\nDate: Mon, 10 Mar 2025 08:00:00 GMT\r\nContent-Type: text/plain; charset=utf-8\r\nContent-Length: 183\r\nConnection: close\r\n\r\nWEIGHING SLIP 1\nPLATE AB-12\nFIRST NO 1\nAT 2025-03-10 08:00:00\nG      18340 kg\nE 20 kg MAX 60000 kg SERIAL WB01\nDIGEST 1ff0f144d39a8d0890cc2c886fab380c93a9dd98d1d16ca37031b262a56fd3b3\n",
+        answered: "0tnLtnLtnLtnLtomLtome",
+    },
+    Service {
+        shows: "a hang-up after the bytes of its turn",
+        turns: &[
+            Turn {
+                typed: "SI\nS",
+                hung_up: true,
+                ..CALM
+            },
+            Turn {
+                typed: "I\n",
+                ..CALM
+            },
+        ],
+        limit: 1_000,
+        end: ServeEnd::Turns(2),
+        handed: "reply: S D          0 kg\r\nreply: ES\r\n",
+        answered: "0hn0tne",
+    },
+    Service {
+        shows: "the end at a fault of the converter",
+        turns: &[
+            ASKED,
+            Turn {
+                load: None,
+                ..ASKED
+            },
+            ASKED,
+        ],
+        limit: 1_000,
+        end: ServeEnd::ConverterFault,
+        handed: "reply: S D          0 kg\r\n",
+        answered: "0tnf",
+    },
+    Service {
+        shows: "the end at a request without a moment, and none without a request",
+        turns: &[
+            Turn {
+                has_moment: false,
+                ..ASKED
+            },
+            Turn {
+                has_moment: false,
+                request: Some(INDICATION),
+                ..ASKED
+            },
+            ASKED,
+        ],
+        limit: 1_000,
+        end: ServeEnd::ClockFault,
+        handed: "reply: S D          0 kg\r\nreply: S D          0 kg\r\n",
+        answered: "0tn0to-",
+    },
+    Service {
+        shows: "a lost reading is a turn",
+        turns: &[Turn {
+            load: Some(2_000_001),
+            request: Some(INDICATION),
+            ..CALM
+        }],
+        limit: 1_000,
+        end: ServeEnd::Turns(1),
+        handed: "response: HTTP/1.1 200 OK\r\nDate: Mon, 10 Mar 2025 08:00:00 GMT\r\nContent-Type: text/plain; charset=utf-8\r\nContent-Length: 8\r\nConnection: close\r\n\r\nNO LOAD\n",
+        answered: "xtome",
+    },
+    Service {
+        shows: "a reading, the terminal, the office, the moment, and the end",
+        turns: &[Turn {
+            load: Some(7),
+            request: Some(INDICATION),
+            ..CALM
+        }],
+        limit: 1_000,
+        end: ServeEnd::Turns(1),
+        handed: "response: HTTP/1.1 200 OK\r\nDate: Mon, 10 Mar 2025 08:00:00 GMT\r\nContent-Type: text/plain; charset=utf-8\r\nContent-Length: 39\r\nConnection: close\r\n\r\nMOVING G         20 kg N         20 kg\n",
+        answered: "7tome",
+    },
+];
+
+const FOUR_ASKED: &[Turn] = &[ASKED, ASKED, ASKED, ASKED];
+
+const LIMITED: &[Service] = &[
+    Service {
+        shows: "no turn",
+        turns: FOUR_ASKED,
+        limit: 0,
+        end: ServeEnd::Turns(0),
+        handed: "",
+        answered: "",
+    },
+    Service {
+        shows: "one of four",
+        turns: FOUR_ASKED,
+        limit: 1,
+        end: ServeEnd::Turns(1),
+        handed: "reply: S D          0 kg\r\n",
+        answered: "0tn",
+    },
+    Service {
+        shows: "three of four",
+        turns: FOUR_ASKED,
+        limit: 3,
+        end: ServeEnd::Turns(3),
+        handed: "reply: S D          0 kg\r\nreply: S D          0 kg\r\nreply: S D          0 kg\r\n",
+        answered: "0tn0tn0tn",
+    },
+    Service {
+        shows: "four of four, and the converter's end isn't asked for",
+        turns: FOUR_ASKED,
+        limit: 4,
+        end: ServeEnd::Turns(4),
+        handed: "reply: S D          0 kg\r\nreply: S D          0 kg\r\nreply: S D          0 kg\r\nreply: S S          0 kg\r\n",
+        answered: "0tn0tn0tn0tn",
+    },
+    Service {
+        shows: "four of five, at the converter's end",
+        turns: FOUR_ASKED,
+        limit: 5,
+        end: ServeEnd::Turns(4),
+        handed: "reply: S D          0 kg\r\nreply: S D          0 kg\r\nreply: S D          0 kg\r\nreply: S S          0 kg\r\n",
+        answered: "0tn0tn0tn0tne",
+    },
+];
+
 #[test]
-fn replies_at_the_turn_of_a_command(rt: HostRuntime) -> Result<(), Fail> {
-    let mut turns = Vec::new(rt.alloc());
-    for typed in ["", "", "", "SI\r\n"] {
-        turns.push(turn(rt.alloc(), 9_170, typed)?)?;
+fn serves_what_comes_in_each_turn(rt: HostRuntime) -> Result<(), Fail> {
+    for service in SERVICES {
+        serves(&rt, rt.alloc(), service)?;
     }
-    let (end, handed, answers) = served(rt.alloc(), turns, 1_000)?;
-    assert_eq!(rt; end, ServeEnd::Turns(4));
-    assert_eq!(rt; handed.len(), 1);
-    assert!(rt;
-        handed
-            .iter()
-            .all(|text| text.as_str() == "S S      18340 kg\r\n")
-    );
-    assert_eq!(rt; answers, 13);
     Ok(())
 }
 
 #[test]
 fn serves_no_more_turns_than_it_is_told(rt: HostRuntime) -> Result<(), Fail> {
-    for (limit, answers) in [(0, 0), (1, 3), (3, 9), (4, 12), (5, 13)] {
-        let mut turns = Vec::new(rt.alloc());
-        for _ in 0..4 {
-            turns.push(turn(rt.alloc(), 0, "SI\n")?)?;
-        }
-        let (end, handed, given) = served(rt.alloc(), turns, limit)?;
-        assert_eq!(rt; end, ServeEnd::Turns(limit.min(4)));
-        assert_eq!(rt; handed.len() as u64, limit.min(4));
-        assert_eq!(rt; given, answers);
+    for service in LIMITED {
+        serves(&rt, rt.alloc(), service)?;
     }
     Ok(())
 }
 
-#[test]
-fn answers_requests_in_their_turns(rt: HostRuntime) -> Result<(), Fail> {
-    let mut turns = Vec::new(rt.alloc());
-    for load in [0, 9_170, 9_170, 9_170] {
-        turns.push(turn(rt.alloc(), load, "")?)?;
+/// Serves these turns, which must end so, hand in so and be answered so.
+fn serves(rt: &impl Abort, alloc: Global, service: &Service) -> Result<(), Fail> {
+    let shows = service.shows;
+    let mut sources = ListSources::new(alloc, turns(alloc, service.turns)?);
+    let end = ended(alloc, &mut sources, service.limit)?;
+    assert_eq!(rt; end, service.end, "{shows}");
+    assert!(rt; !sources.has_fault(), "{shows}");
+    let handed = handed(alloc, sources.handed())?;
+    assert_eq!(rt; handed.as_str(), service.handed, "{shows}");
+    let answered = answered(alloc, sources.answered())?;
+    assert_eq!(rt; answered.as_str(), service.answered, "{shows}");
+    Ok(())
+}
+
+/// How a service at a fresh station ends.
+fn ended(alloc: Global, sources: &mut ListSources, limit: u64) -> Result<ServeEnd, Fail> {
+    let instrument = instrument(ROAD)?;
+    let window = DequeWindow::new(alloc, instrument.window() as usize, instrument.band())?;
+    match Station::open(alloc, instrument, window, store(alloc)?) {
+        Ok(mut station) => Ok(serve(&mut station, sources, limit)),
+        Err(_) => Err("station".into()),
     }
-    turns.push(ListTurn {
-        typed: Vec::from_slice(rt.alloc(), b"SI\n")?,
-        ..asking(rt.alloc(), 9_170, FIRST)?
-    })?;
-    turns.push(asking(rt.alloc(), 9_170, FIRST)?)?;
-    let (end, handed, answers) = served(rt.alloc(), turns, 1_000)?;
-    assert_eq!(rt; end, ServeEnd::Turns(6));
-    assert_eq!(rt; handed.len(), 3);
-    let mut handed = handed.iter();
-    assert_eq!(rt;
-        handed.next().map(|text| text.as_str()),
-        Some("S S      18340 kg\r\n")
-    );
-    let slip = handed.next().ok_or("slip")?;
-    assert!(rt; slip.starts_with(SLIP));
-    assert_eq!(rt;
-        handed.next().map(|text| text.as_str()),
-        Some(slip.as_str())
-    );
-    assert_eq!(rt; answers, 21);
-    Ok(())
 }
 
-#[test]
-fn a_hang_up_follows_the_bytes_of_its_turn(rt: HostRuntime) -> Result<(), Fail> {
-    let mut turns = Vec::new(rt.alloc());
-    turns.push(ListTurn {
-        hung_up: true,
-        ..turn(rt.alloc(), 0, "SI\nS")?
-    })?;
-    turns.push(turn(rt.alloc(), 0, "I\n")?)?;
-    let (_, handed, _) = served(rt.alloc(), turns, 1_000)?;
-    assert_eq!(rt; handed.len(), 2);
-    let mut handed = handed.iter();
-    assert_eq!(rt;
-        handed.next().map(|text| text.as_str()),
-        Some("S D          0 kg\r\n")
-    );
-    assert_eq!(rt; handed.next().map(|text| text.as_str()), Some("ES\r\n"));
-    Ok(())
-}
-
-#[test]
-fn ends_at_a_fault_of_the_converter(rt: HostRuntime) -> Result<(), Fail> {
-    let mut turns = Vec::new(rt.alloc());
-    turns.push(turn(rt.alloc(), 0, "SI\n")?)?;
-    turns.push(ListTurn {
-        converter: Converter::Fault,
-        ..turn(rt.alloc(), 0, "SI\n")?
-    })?;
-    turns.push(turn(rt.alloc(), 0, "SI\n")?)?;
-    let (end, handed, answers) = served(rt.alloc(), turns, 1_000)?;
-    assert_eq!(rt; end, ServeEnd::ConverterFault);
-    assert_eq!(rt; handed.len(), 1);
-    assert_eq!(rt; answers, 4);
-    Ok(())
-}
-
-#[test]
-fn ends_at_a_request_without_a_moment(rt: HostRuntime) -> Result<(), Fail> {
-    let mut turns = Vec::new(rt.alloc());
-    turns.push(ListTurn {
-        moment: None,
-        ..turn(rt.alloc(), 0, "SI\n")?
-    })?;
-    turns.push(ListTurn {
-        moment: None,
-        typed: Vec::from_slice(rt.alloc(), b"SI\n")?,
-        ..asking(rt.alloc(), 0, INDICATION)?
-    })?;
-    turns.push(turn(rt.alloc(), 0, "SI\n")?)?;
-    let (end, handed, answers) = served(rt.alloc(), turns, 1_000)?;
-    assert_eq!(rt; end, ServeEnd::ClockFault);
-    assert_eq!(rt; handed.len(), 2);
-    assert_eq!(rt; answers, 7);
-    Ok(())
-}
-
-#[test]
-fn a_lost_reading_is_a_turn(rt: HostRuntime) -> Result<(), Fail> {
-    let mut turns = Vec::new(rt.alloc());
-    turns.push(asking(rt.alloc(), 2_000_001, INDICATION)?)?;
-    let (end, handed, _) = served(rt.alloc(), turns, 1_000)?;
-    assert_eq!(rt; end, ServeEnd::Turns(1));
-    assert!(rt; handed.iter().all(|text| text.ends_with(NO_LOAD)));
-    assert_eq!(rt; handed.len(), 1);
-    Ok(())
-}
-
-#[test]
-fn keeps_what_was_answered_in_its_order(rt: HostRuntime) -> Result<(), Fail> {
-    let mut turns = Vec::new(rt.alloc());
-    turns.push(asking(rt.alloc(), 7, INDICATION)?)?;
-    let mut sources = ListSources::new(rt.alloc(), turns);
-    serve(&mut station(rt.alloc())?, &mut sources, 1_000);
-    let mut kinds = String::new(rt.alloc());
-    for answer in sources.answered() {
-        kinds.push(match answer {
-            Answered::Converter(Converter::Line(Reading::Load(7))) => 'l',
-            Answered::Converter(Converter::End) => 'e',
-            Answered::Converter(_) => '?',
-            Answered::Terminal { .. } => 't',
-            Answered::Office(Some(_)) => 'o',
-            Answered::Office(None) => 'n',
-            Answered::Moment(Some(_)) => 'm',
-            Answered::Moment(None) => '?',
-        })?;
+fn turns(alloc: Global, turns: &[Turn]) -> Result<Vec<ListTurn>, Fail> {
+    let mut list = Vec::new(alloc);
+    for turn in turns {
+        list.push(list_turn(alloc, turn)?)?;
     }
-    assert_eq!(rt; kinds.as_str(), "ltome");
-    Ok(())
+    Ok(list)
 }
+
+fn list_turn(alloc: Global, turn: &Turn) -> Result<ListTurn, Fail> {
+    let typed = Vec::from_slice(alloc, turn.typed.as_bytes())?;
+    let request = match turn.request {
+        Some(text) => Some(Vec::from_slice(alloc, text.as_bytes())?),
+        None => None,
+    };
+    Ok(ListTurn {
+        converter: match turn.load {
+            Some(load) => Converter::Line(Reading::of(load)),
+            None => Converter::Fault,
+        },
+        typed,
+        hung_up: turn.hung_up,
+        request,
+        moment: if turn.has_moment {
+            Moment::new(MORNING)
+        } else {
+            None
+        },
+    })
+}
+
+/// What was handed in, one after the other, each with what it is.
+fn handed(alloc: Global, handed: &[HandedIn]) -> Result<String, Fail> {
+    let mut text = String::new(alloc);
+    for bytes in handed {
+        let (kind, bytes) = match bytes {
+            HandedIn::Reply(bytes) => ("reply: ", bytes.as_slice()),
+            HandedIn::Response(bytes) => ("response: ", bytes.as_slice()),
+        };
+        text.push_str(kind)?;
+        text.push_str(std::str::from_utf8(bytes)?)?;
+    }
+    Ok(text)
+}
+
+fn answered(alloc: Global, answers: &[Answered]) -> Result<String, Fail> {
+    let mut letters = String::new(alloc);
+    for answer in answers {
+        letters.push(letter(answer))?;
+    }
+    Ok(letters)
+}
+
+fn letter(answer: &Answered) -> char {
+    match answer {
+        Answered::Converter(Converter::Line(Reading::Load(0))) => '0',
+        Answered::Converter(Converter::Line(Reading::Load(7))) => '7',
+        Answered::Converter(Converter::Line(Reading::Load(9_170))) => 'L',
+        Answered::Converter(Converter::Line(Reading::Load(_))) => '?',
+        Answered::Converter(Converter::Line(Reading::Lost)) => 'x',
+        Answered::Converter(Converter::End) => 'e',
+        Answered::Converter(Converter::Fault) => 'f',
+        Answered::Terminal { hung_up: false, .. } => 't',
+        Answered::Terminal { hung_up: true, .. } => 'h',
+        Answered::Office(Some(_)) => 'o',
+        Answered::Office(None) => 'n',
+        Answered::Moment(Some(_)) => 'm',
+        Answered::Moment(None) => '-',
+    }
+}
+
+const REPORTED: &[(ServeEnd, &str, u8)] = &[
+    (ServeEnd::Turns(0), "turns 0", 0),
+    (ServeEnd::Turns(1_000_000), "turns 1000000", 0),
+    (ServeEnd::ConverterFault, "converter fault", 1),
+    (ServeEnd::ClockFault, "clock fault", 1),
+];
 
 #[test]
 fn reports_how_serving_ended(rt: HostRuntime) -> Result<(), Fail> {
-    for (end, line, status) in [
-        (ServeEnd::Turns(0), "turns 0", 0),
-        (ServeEnd::Turns(1_000_000), "turns 1000000", 0),
-        (ServeEnd::ConverterFault, "converter fault", 1),
-        (ServeEnd::ClockFault, "clock fault", 1),
-    ] {
+    for (end, line, status) in REPORTED {
         let said = format!(in rt.alloc(); "{end}")?;
-        assert_eq!(rt; said.as_str(), line);
-        assert_eq!(rt; end.status(), status, "{line}");
+        assert_eq!(rt; said.as_str(), *line);
+        assert_eq!(rt; end.status(), *status, "{line}");
     }
     Ok(())
 }
