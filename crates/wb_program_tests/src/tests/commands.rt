@@ -7,7 +7,8 @@ use std::str;
 use std::test::Fail;
 use wb_instrument::Serial;
 use wb_journal::{Digest, Entry, EntryParts, Key, Kind, Moment, Plate};
-use wb_program::{PrintFault, What, converter_line, print_check, print_export};
+use wb_program::{PrintFault, What, print_check, print_export};
+use wb_sources::converter_line;
 use wb_store::{Store, StoreFault};
 use wb_window::Reading;
 

@@ -1,5 +1,4 @@
 //! A whole service over sockets of this machine. One thread does both ends, one after the other.
-use wb_sockets::{Converter, ConverterFault, Sockets, listen};
 use sqlite::{Connection, MemStore};
 use std::alloc::Global;
 use std::io::{Read, Write};
@@ -7,6 +6,7 @@ use std::net::{OpenListener, TcpListener, TcpStream};
 use std::test::Fail;
 use wb_instrument::{Instrument, Parts};
 use wb_program::{ServeEnd, serve};
+use wb_sockets::{Converter, ConverterFault, Sockets, listen};
 use wb_station::Station;
 use wb_store::Store;
 use wb_window::RingWindow;

@@ -4,7 +4,8 @@ use std::alloc::Global;
 use std::process::Abort;
 use std::test::Fail;
 use wb_journal::Moment;
-use wb_program::{Answered, Converter, HandedIn, ListSources, ListTurn, ServeEnd, serve};
+use wb_program::{ServeEnd, serve};
+use wb_sources::{Answered, Converter, HandedIn, ListSources, ListTurn};
 use wb_station::Station;
 use wb_window::{DequeWindow, Reading};
 

@@ -1,7 +1,7 @@
 //! Files that hold no store.
-use crate::files::{kept_store_in, store_in};
 use std::fs;
 use std::test::Fail;
+use wb_file::{kept_store_in, store_in};
 use wb_store::StoreFault;
 
 const FOLDER: &str = "weighbridge_test";
