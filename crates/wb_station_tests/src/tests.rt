@@ -13,66 +13,123 @@ mod targets;
 mod terminal;
 mod whole;
 
+use std::alloc::{AllocError, Global};
+use std::process::Abort;
 use std::test::Fail;
 use wb_office::Request;
 use wb_station::{HttpFault, Routes, request_of};
 
-/// A request that is whole with an empty body.
-const PURGE: &str = "POST /purge HTTP/1.1\r\nContent-Length: 0\r\n\r\n";
+/// A text that is asked, and what it asks, in words.
+type Row = (&'static str, &'static str);
 
-/// What bytes ask, in words; or the status and name of the fault, with the method that the route allows.
-fn asked(rt: &HostRuntime, bytes: &[u8]) -> Result<String, Fail> {
-    let routes = Routes::new(rt.alloc())?;
-    match request_of(rt.alloc(), &routes, bytes) {
-        Ok(request) => in_words(rt, &request),
-        Err(fault) => fault_in_words(rt, fault),
-    }
+/// Bytes of which some stand many times.
+#[derive(Clone, Copy, Drop)]
+struct Stretched {
+    shows: &'static str,
+    front: &'static str,
+    unit: &'static str,
+    count: u32,
+    end: &'static str,
+    /// How many bytes there are in all.
+    size: usize,
+    words: &'static str,
 }
 
-fn in_words(rt: &HostRuntime, request: &Request) -> Result<String, Fail> {
-    let alloc = rt.alloc();
-    match request {
-        Request::Weigh { key, kind, plate } => {
-            let (key, kind, plate) = (key.as_str(), kind.word(), plate.as_str());
-            Ok(format!(in alloc; "weigh {key} {kind} {plate}")?)
-        }
-        Request::VoidOpen { key, plate } => {
-            let (key, plate) = (key.as_str(), plate.as_str());
-            Ok(format!(in alloc; "void {key} {plate}")?)
-        }
-        Request::Ticket(number) => Ok(format!(in alloc; "ticket {number}")?),
-        Request::Indication => Ok(String::from_str(alloc, "indication")?),
-        Request::JournalCsv => Ok(String::from_str(alloc, "journal")?),
-        Request::TicketsCsv => Ok(String::from_str(alloc, "tickets")?),
-        Request::Purge => Ok(String::from_str(alloc, "purge")?),
-        Request::Check => Ok(String::from_str(alloc, "check")?),
-    }
-}
-
-fn fault_in_words(rt: &HostRuntime, fault: HttpFault) -> Result<String, Fail> {
-    let (status, name) = (fault.status().as_u16(), fault.name());
-    match fault {
-        HttpFault::WrongMethod(method) => {
-            let method = method.as_str();
-            Ok(format!(in rt.alloc(); "{status} {name} {method}")?)
-        }
-        _ => Ok(format!(in rt.alloc(); "{status} {name}")?),
-    }
-}
-
-/// A text, so many bytes of one kind, and another text.
-fn stretched(
-    rt: &HostRuntime,
+/// Asks each text, between a front and an end that all have.
+fn asks_each(
+    rt: &impl Abort,
+    alloc: Global,
     front: &str,
-    byte: u8,
-    count: usize,
+    rows: &[Row],
     end: &str,
-) -> Result<Vec<u8>, Fail> {
-    let mut bytes = Vec::new(rt.alloc());
-    bytes.extend_from_slice(front.as_bytes())?;
+) -> Result<(), Fail> {
+    for (text, words) in rows {
+        let bytes = joined(alloc, front, text, 1, end)?;
+        asks(rt, alloc, text, bytes.as_slice(), words)?;
+    }
+    Ok(())
+}
+
+fn asks_stretched(rt: &impl Abort, alloc: Global, rows: &[Stretched]) -> Result<(), Fail> {
+    for row in rows {
+        let bytes = joined(alloc, row.front, row.unit, row.count, row.end)?;
+        assert_eq!(rt; bytes.len(), row.size, "{}", row.shows);
+        asks(rt, alloc, row.shows, bytes.as_slice(), row.words)?;
+    }
+    Ok(())
+}
+
+/// A text, so many times a unit, and another text.
+fn joined(
+    alloc: Global,
+    front: &str,
+    unit: &str,
+    count: u32,
+    end: &str,
+) -> Result<Vec<u8>, AllocError> {
+    let mut bytes = Vec::from_slice(alloc, front.as_bytes())?;
     for _ in 0..count {
-        bytes.push(byte)?;
+        bytes.extend_from_slice(unit.as_bytes())?;
     }
     bytes.extend_from_slice(end.as_bytes())?;
     Ok(bytes)
+}
+
+/// Asks these bytes, which must ask so.
+fn asks(
+    rt: &impl Abort,
+    alloc: Global,
+    shows: &str,
+    bytes: &[u8],
+    words: &str,
+) -> Result<(), Fail> {
+    let asked = asked(alloc, bytes)?;
+    assert_eq!(rt; asked.as_str(), words, "{shows}");
+    Ok(())
+}
+
+/// What bytes ask, in words; or the status and name of the fault, with the method that the route allows.
+fn asked(alloc: Global, bytes: &[u8]) -> Result<String, Fail> {
+    let routes = Routes::new(alloc)?;
+    match request_of(alloc, &routes, bytes) {
+        Ok(request) => in_words(alloc, &request),
+        Err(fault) => fault_in_words(alloc, fault),
+    }
+}
+
+fn in_words(alloc: Global, request: &Request) -> Result<String, Fail> {
+    let words = match request {
+        Request::Weigh { key, kind, plate } => {
+            let (key, kind, plate) = (key.as_str(), kind.word(), plate.as_str());
+            format!(in alloc; "weigh {key} {kind} {plate}")
+        }
+        Request::VoidOpen { key, plate } => {
+            let (key, plate) = (key.as_str(), plate.as_str());
+            format!(in alloc; "void {key} {plate}")
+        }
+        Request::Ticket(number) => format!(in alloc; "ticket {number}"),
+        _ => format!(in alloc; "{}", name(request)),
+    };
+    Ok(words?)
+}
+
+/// The name of a request that has nothing else.
+fn name(request: &Request) -> &'static str {
+    match request {
+        Request::Indication => "indication",
+        Request::JournalCsv => "journal",
+        Request::TicketsCsv => "tickets",
+        Request::Purge => "purge",
+        Request::Check => "check",
+        Request::Weigh { .. } | Request::VoidOpen { .. } | Request::Ticket(_) => "",
+    }
+}
+
+fn fault_in_words(alloc: Global, fault: HttpFault) -> Result<String, Fail> {
+    let (status, name) = (fault.status().as_u16(), fault.name());
+    let (space, method) = match fault {
+        HttpFault::WrongMethod(method) => (" ", method.as_str()),
+        _ => ("", ""),
+    };
+    Ok(format!(in alloc; "{status} {name}{space}{method}")?)
 }

@@ -1,86 +1,116 @@
 //! Lengths of bodies.
-use super::{asked, stretched};
+use super::{Row, Stretched, asks_each, asks_stretched};
 use std::test::Fail;
 
-/// A purge with these fields and a body of five bytes.
-fn purge(rt: &HostRuntime, fields: &str) -> Result<String, Fail> {
-    let request = format!(in rt.alloc(); "POST /purge HTTP/1.1\r\n{fields}\r\n12345")?;
-    asked(rt, request.as_bytes())
-}
+/// Fields of a purge with a body of five bytes.
+const LENGTHS: &[Row] = &[
+    ("Content-Length: 5\r\n", "purge"),
+    ("content-LENGTH:5\r\n", "purge"),
+    ("Content-Length: \t5 \t\r\n", "purge"),
+    ("Content-Length: 0005\r\n", "purge"),
+    ("Content-Length: 0\r\n", "purge"),
+    ("Content-Length: 6\r\n", "400 malformed"),
+    ("Content-Length:\r\n", "400 malformed"),
+    ("Content-Length: +5\r\n", "400 malformed"),
+    ("Content-Length: -5\r\n", "400 malformed"),
+    ("Content-Length: 5, 5\r\n", "400 malformed"),
+    ("Content-Length: 5 5\r\n", "400 malformed"),
+    ("Content-Length: 0x5\r\n", "400 malformed"),
+    (
+        "Content-Length: 5\r\nContent-Length: 5\r\n",
+        "400 malformed",
+    ),
+    (
+        "Content-Length: 5\r\nTransfer-Encoding: identity\r\n",
+        "400 malformed",
+    ),
+    ("transfer-encoding: chunked\r\n", "400 malformed"),
+    ("Content-Lengths: 5\r\n", "411 no_length"),
+    ("Content-Length: 1025\r\n", "413 too_large"),
+    (
+        "Content-Length: 999999999999999999999999999999\r\n",
+        "413 too_large",
+    ),
+    ("Content-Length: 18446744073709551621\r\n", "413 too_large"),
+];
 
 #[test]
 fn a_length_is_digits_alone(rt: HostRuntime) -> Result<(), Fail> {
-    for (fields, words) in [
-        ("Content-Length: 5\r\n", "purge"),
-        ("content-LENGTH:5\r\n", "purge"),
-        ("Content-Length: \t5 \t\r\n", "purge"),
-        ("Content-Length: 0005\r\n", "purge"),
-        ("Content-Length: 0\r\n", "purge"),
-        ("Content-Length: 6\r\n", "400 malformed"),
-        ("Content-Length:\r\n", "400 malformed"),
-        ("Content-Length: +5\r\n", "400 malformed"),
-        ("Content-Length: -5\r\n", "400 malformed"),
-        ("Content-Length: 5, 5\r\n", "400 malformed"),
-        ("Content-Length: 5 5\r\n", "400 malformed"),
-        ("Content-Length: 0x5\r\n", "400 malformed"),
-        (
-            "Content-Length: 5\r\nContent-Length: 5\r\n",
-            "400 malformed",
-        ),
-        (
-            "Content-Length: 5\r\nTransfer-Encoding: identity\r\n",
-            "400 malformed",
-        ),
-        ("transfer-encoding: chunked\r\n", "400 malformed"),
-        ("Content-Lengths: 5\r\n", "411 no_length"),
-        ("Content-Length: 1025\r\n", "413 too_large"),
-        (
-            "Content-Length: 999999999999999999999999999999\r\n",
-            "413 too_large",
-        ),
-        ("Content-Length: 18446744073709551621\r\n", "413 too_large"),
-    ] {
-        assert_eq!(rt; purge(&rt, fields)?.as_str(), words);
-    }
-    Ok(())
+    asks_each(
+        &rt,
+        rt.alloc(),
+        "POST /purge HTTP/1.1\r\n",
+        LENGTHS,
+        "\r\n12345",
+    )
 }
+
+const OF_5000_DIGITS: &[Stretched] = &[
+    Stretched {
+        shows: "4,999 zeros and a five",
+        front: "POST /purge HTTP/1.1\r\nContent-Length: ",
+        unit: "0",
+        count: 4_999,
+        end: "5\r\n\r\n12345",
+        size: 5_047,
+        words: "purge",
+    },
+    Stretched {
+        shows: "4,999 zeros and a six",
+        front: "POST /purge HTTP/1.1\r\nContent-Length: ",
+        unit: "0",
+        count: 4_999,
+        end: "6\r\n\r\n12345",
+        size: 5_047,
+        words: "400 malformed",
+    },
+    Stretched {
+        shows: "4,999 nines and a five",
+        front: "POST /purge HTTP/1.1\r\nContent-Length: ",
+        unit: "9",
+        count: 4_999,
+        end: "5\r\n\r\n12345",
+        size: 5_047,
+        words: "413 too_large",
+    },
+];
 
 #[test]
 fn reads_a_length_of_5000_digits(rt: HostRuntime) -> Result<(), Fail> {
-    for (digit, last, words) in [
-        (b'0', "5", "purge"),
-        (b'0', "6", "400 malformed"),
-        (b'9', "5", "413 too_large"),
-    ] {
-        let mut request = stretched(
-            &rt,
-            "POST /purge HTTP/1.1\r\nContent-Length: ",
-            digit,
-            4_999,
-            last,
-        )?;
-        request.extend_from_slice(b"\r\n\r\n12345")?;
-        assert_eq!(rt; asked(&rt, request.as_slice())?.as_str(), words);
-    }
-    Ok(())
+    asks_stretched(&rt, rt.alloc(), OF_5000_DIGITS)
 }
+
+const LONG_BODIES: &[Stretched] = &[
+    Stretched {
+        shows: "1,024 bytes",
+        front: "POST /purge HTTP/1.1\r\nContent-Length: 1024\r\n\r\n",
+        unit: "a",
+        count: 1_024,
+        end: "",
+        size: 1_070,
+        words: "purge",
+    },
+    Stretched {
+        shows: "1,024 bytes of which one is missing",
+        front: "POST /purge HTTP/1.1\r\nContent-Length: 1024\r\n\r\n",
+        unit: "a",
+        count: 1_023,
+        end: "",
+        size: 1_069,
+        words: "400 malformed",
+    },
+    Stretched {
+        shows: "1,025 bytes",
+        front: "POST /purge HTTP/1.1\r\nContent-Length: 1025\r\n\r\n",
+        unit: "a",
+        count: 1_025,
+        end: "",
+        size: 1_071,
+        words: "413 too_large",
+    },
+];
 
 #[test]
 fn a_body_has_at_most_1024_bytes(rt: HostRuntime) -> Result<(), Fail> {
-    for (length, count, words) in [
-        ("1024", 1_024usize, "purge"),
-        ("1024", 1_023, "400 malformed"),
-        ("1025", 1_025, "413 too_large"),
-    ] {
-        let mut request = stretched(
-            &rt,
-            "POST /purge HTTP/1.1\r\nContent-Length: ",
-            b'0',
-            0,
-            length,
-        )?;
-        request.extend_from_slice(stretched(&rt, "\r\n\r\n", b'a', count, "")?.as_slice())?;
-        assert_eq!(rt; asked(&rt, request.as_slice())?.as_str(), words);
-    }
-    Ok(())
+    asks_stretched(&rt, rt.alloc(), LONG_BODIES)
 }

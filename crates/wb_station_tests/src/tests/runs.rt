@@ -2,8 +2,9 @@
 ghost use Rattle.wb_station.specs.KeptOutputs.{kept_of};
 
 use super::days::{instrument, store};
-use sqlite::Connection;
+use sqlite::{Connection, MemStore};
 use std::alloc::Global;
+use std::process::Abort;
 use std::test::Fail;
 use wb_station::{Event, OutputList, Outputs, Placed, Refused, RunStopped, Station};
 use wb_window::RingWindow;
@@ -57,49 +58,47 @@ const ASKED: [Event<'static>; 9] = [
 ];
 
 #[test]
-fn hands_on_each_reply_at_its_place(rt: HostRuntime) -> Result<(), Fail> {
+fn hands_on_each_reply_until_one_is_refused(rt: HostRuntime) -> Result<(), Fail> {
     let alloc = rt.alloc();
     let instrument = instrument(1_000)?;
     let window = RingWindow::new(alloc, instrument.window() as usize, instrument.band())?;
     let store = store(Connection::open_in_memory(alloc)?)?;
     match Station::open(alloc, instrument, window, store) {
-        Ok(station) => {
-            let mut station = station;
-            let mut outputs = OutputList::new(alloc);
-            assert_eq!(rt; station.run(&ASKED, &mut outputs), Ok(()));
-            let taken = outputs.outputs();
-            assert_eq!(rt; taken.len(), 3);
-            for (place, output) in taken.iter().enumerate() {
-                assert_eq!(rt; output.at, 3 * (place as u64 + 1));
-                assert_eq!(rt; output.bytes.as_slice(), b"S I\r\n".as_slice());
-            }
+        Ok(mut station) => {
+            hands_on_each(&rt, alloc, &mut station);
+            stops_at_the_second(&rt, alloc, &mut station);
             Ok(())
         }
         Err(_) => Err("no station".into()),
     }
 }
 
-#[test]
-fn stops_at_the_output_that_is_refused(rt: HostRuntime) -> Result<(), Fail> {
-    let alloc = rt.alloc();
-    let instrument = instrument(1_000)?;
-    let window = RingWindow::new(alloc, instrument.window() as usize, instrument.band())?;
-    let store = store(Connection::open_in_memory(alloc)?)?;
-    match Station::open(alloc, instrument, window, store) {
-        Ok(station) => {
-            let mut station = station;
-            let mut outputs = Limited {
-                alloc,
-                most: 1,
-                outputs: Vec::new(alloc),
-                refusals: 0,
-            };
-            let stopped = station.run(&ASKED, &mut outputs);
-            assert_eq!(rt; stopped, Err(RunStopped { events: 6 }));
-            assert_eq!(rt; outputs.outputs.len(), 1);
-            assert_eq!(rt; outputs.outputs[0].at, 3);
-            Ok(())
-        }
-        Err(_) => Err("no station".into()),
+/// Each of three replies is handed on at its place.
+fn hands_on_each(rt: &impl Abort, alloc: Global, station: &mut Station<RingWindow, MemStore>) {
+    let mut outputs = OutputList::new(alloc);
+    assert_eq!(rt; station.run(&ASKED, &mut outputs), Ok(()));
+    let taken = outputs.outputs();
+    assert_eq!(rt; taken.len(), 3);
+    for (place, output) in taken.iter().enumerate() {
+        assert_eq!(rt; output.at, 3 * (place as u64 + 1));
+        assert_eq!(rt; output.bytes.as_slice(), b"S I\r\n".as_slice());
     }
+}
+
+/// The run stops at the reply that is refused.
+fn stops_at_the_second(
+    rt: &impl Abort,
+    alloc: Global,
+    station: &mut Station<RingWindow, MemStore>,
+) {
+    let mut outputs = Limited {
+        alloc,
+        most: 1,
+        outputs: Vec::new(alloc),
+        refusals: 0,
+    };
+    let stopped = station.run(&ASKED, &mut outputs);
+    assert_eq!(rt; stopped, Err(RunStopped { events: 6 }));
+    assert_eq!(rt; outputs.outputs.len(), 1);
+    assert_eq!(rt; outputs.outputs[0].at, 3);
 }

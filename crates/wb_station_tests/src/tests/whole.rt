@@ -1,5 +1,5 @@
 //! Whole requests.
-use super::{PURGE, stretched};
+use super::joined;
 use std::test::Fail;
 use wb_station::{Routes, is_whole};
 
@@ -17,31 +17,36 @@ fn whole_at(routes: &Routes, bytes: &[u8]) -> usize {
     }
 }
 
+/// Bytes, and how many of the first make a whole request; one more than there are if none do.
+const ENDS: &[(&str, usize)] = &[
+    ("GET /check HTTP/1.1\r\n\r\nmore", 23),
+    ("POST /purge HTTP/1.1\r\nContent-Length: 0\r\n\r\n", 43),
+    ("POST /voids HTTP/1.1\r\nContent-Length: 2\r\n\r\nabc", 45),
+    ("POST /voids HTTP/1.1\r\nContent-Length: 2\r\n\r\na", 45),
+    ("POST /nowhere HTTP/1.1\r\nContent-Length: 2\r\n\r\nab", 45),
+    ("POST /check HTTP/1.1\r\nContent-Length: 2\r\n\r\nab", 43),
+    ("POST /voids HTTP/1.1\r\nContent-Length: x\r\n\r\nab", 43),
+    ("POST /voids HTTP/1.1\r\n\r\nab", 24),
+    ("POST /voids HTTP/1.1\r\nContent-Length: 1025\r\n\r\nab", 46),
+];
+
 #[test]
 fn tells_where_a_request_ends(rt: HostRuntime) -> Result<(), Fail> {
     let routes = Routes::new(rt.alloc())?;
-    for (request, count) in [
-        ("GET /check HTTP/1.1\r\n\r\nmore", 23usize),
-        (PURGE, 43),
-        ("POST /voids HTTP/1.1\r\nContent-Length: 2\r\n\r\nabc", 45),
-        ("POST /voids HTTP/1.1\r\nContent-Length: 2\r\n\r\na", 45),
-        ("POST /nowhere HTTP/1.1\r\nContent-Length: 2\r\n\r\nab", 45),
-        ("POST /check HTTP/1.1\r\nContent-Length: 2\r\n\r\nab", 43),
-        ("POST /voids HTTP/1.1\r\nContent-Length: x\r\n\r\nab", 43),
-        ("POST /voids HTTP/1.1\r\n\r\nab", 24),
-        ("POST /voids HTTP/1.1\r\nContent-Length: 1025\r\n\r\nab", 46),
-    ] {
-        assert_eq!(rt; whole_at(&routes, request.as_bytes()), count);
+    for (request, count) in ENDS {
+        assert_eq!(rt; whole_at(&routes, request.as_bytes()), *count, "{request}");
     }
     Ok(())
 }
 
+const RUBBISH: &[(u32, bool)] = &[(8_192, false), (8_193, true)];
+
 #[test]
 fn gives_up_on_a_head_past_8192_bytes(rt: HostRuntime) -> Result<(), Fail> {
-    let routes = Routes::new(rt.alloc())?;
-    for (count, whole) in [(8_192usize, false), (8_193, true)] {
-        let rubbish = stretched(&rt, "", b'a', count, "")?;
-        assert_eq!(rt; is_whole(&routes, rubbish.as_slice()), whole);
+    for (count, whole) in RUBBISH {
+        let routes = Routes::new(rt.alloc())?;
+        let rubbish = joined(rt.alloc(), "", "a", *count, "")?;
+        assert_eq!(rt; is_whole(&routes, rubbish.as_slice()), *whole, "{count}");
     }
     Ok(())
 }
