@@ -29,14 +29,43 @@ pub struct Service {
     pub is_verbose: bool,
 }
 
-/// A text that has to be given.
-fn text<'a>(alloc: Global, name: &'a str, value: &'a str, help: &'a str) -> Arg<'a> {
+/// A text that has to be given: its name, what it stands for, and its help.
+struct Text(&'static str, &'static str, &'static str);
+
+static TEXTS: [Text; 3] = [
+    Text(
+        "terminal",
+        "ADDRESS",
+        "address of the terminal: an IPv4 address of 127.0.0.0/8, a colon and a port",
+    ),
+    Text(
+        "office",
+        "ADDRESS",
+        "address of the office, of the same form",
+    ),
+    Text(
+        "converter",
+        "SOURCE",
+        "file or device of the converter, or tcp: and the address to connect to",
+    ),
+];
+
+fn text_argument<'a>(alloc: Global, text: &Text) -> Arg<'a> {
+    let Text(name, value, help) = *text;
     Arg::new(alloc, name)
         .long(name)
         .value_name(value)
         .required(true)
         .action(ArgAction::Set)
         .help(help)
+}
+
+fn with_texts<'a>(alloc: Global, command: Command<'a>) -> Result<Command<'a>, AllocError> {
+    let mut command = command;
+    for text in TEXTS.as_slice() {
+        command = command.arg(text_argument(alloc, text))?;
+    }
+    Ok(command)
 }
 
 /// The subcommand `serve`.
@@ -54,27 +83,8 @@ pub(crate) fn serve_command<'a>(alloc: Global) -> Result<Command<'a>, AllocError
     let serve = Command::new(alloc, "serve")
         .about("serves a weighbridge: its converter, its terminal and its office")
         .after_help(EXAMPLE)
-        .arg(file_argument(alloc, "file of the journal, made if it isn't there"))?
-        .arg(text(
-            alloc,
-            "terminal",
-            "ADDRESS",
-            "address of the terminal: an IPv4 address of 127.0.0.0/8, a colon and a port",
-        ))?
-        .arg(text(
-            alloc,
-            "office",
-            "ADDRESS",
-            "address of the office, of the same form",
-        ))?
-        .arg(text(
-            alloc,
-            "converter",
-            "SOURCE",
-            "file or device of the converter, or tcp: and the address to connect to",
-        ))?
-        .arg(turns)?
-        .arg(verbose)?;
+        .arg(file_argument(alloc, "file of the journal, made if it isn't there"))?;
+    let serve = with_texts(alloc, serve)?.arg(turns)?.arg(verbose)?;
     with_setup(alloc, serve)
 }
 

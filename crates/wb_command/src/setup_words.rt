@@ -17,66 +17,93 @@ impl SetupFault {
     }
 }
 
-/// A part of the setup that is a number.
-fn number<'a>(alloc: Global, name: &'a str, default: &'a str, help: &'a str) -> Arg<'a> {
-    Arg::new(alloc, name)
-        .long(name)
-        .action(ArgAction::Set)
-        .value_parser(value_parser!(u32))
-        .default_value(default)
-        .help(help)
+/// What the value of a part of the setup is.
+#[derive(Clone, Copy)]
+enum Value {
+    Number,
+    Text,
 }
 
-/// The nine parts of the setup, with the setup of a road weighbridge as defaults.
+/// A part of the setup: its name, its value, the default of a road weighbridge, and its help.
+struct Part(&'static str, Value, &'static str, &'static str);
+
+/// The parts of the setup, in the order in which help shows them.
+static PARTS: [Part; 9] = [
+    Part(
+        "interval",
+        Value::Number,
+        "20",
+        "verification scale interval e in kg: 1, 2, 5, 10, 20 or 50",
+    ),
+    Part(
+        "max",
+        Value::Number,
+        "60000",
+        "greatest load Max in kg: 500 to 10000 times e",
+    ),
+    Part(
+        "window",
+        Value::Number,
+        "4",
+        "readings of the stability window: 4 to 64",
+    ),
+    Part(
+        "band",
+        Value::Number,
+        "2",
+        "stability band in tenths of e: 1 or 2",
+    ),
+    Part("pace", Value::Number, "10", "readings a second: 2 to 50"),
+    Part(
+        "wait",
+        Value::Number,
+        "20",
+        "readings that a waiting command waits: 1 to 600",
+    ),
+    Part(
+        "serial",
+        Value::Text,
+        "WB01",
+        "serial of the instrument: 1 to 16 of A-Z and 0-9",
+    ),
+    Part(
+        "retention",
+        Value::Number,
+        "90",
+        "days that an entry is kept: 1 to 3650",
+    ),
+    Part(
+        "capacity",
+        Value::Number,
+        "1000",
+        "places of the journal: 2 to 100000",
+    ),
+];
+
+/// The option that gives a part of the setup.
+fn option<'a>(alloc: Global, part: &Part) -> Arg<'a> {
+    let Part(name, value, default, help) = *part;
+    let option = Arg::new(alloc, name)
+        .long(name)
+        .action(ArgAction::Set)
+        .default_value(default)
+        .help(help);
+    match value {
+        Value::Number => option.value_parser(value_parser!(u32)),
+        Value::Text => option,
+    }
+}
+
+/// The command with the nine parts of the setup.
 pub(crate) fn with_setup<'a>(
     alloc: Global,
     command: Command<'a>,
 ) -> Result<Command<'a>, AllocError> {
-    let serial = Arg::new(alloc, "serial")
-        .long("serial")
-        .action(ArgAction::Set)
-        .default_value("WB01")
-        .help("serial of the instrument: 1 to 16 of A-Z and 0-9");
-    command
-        .arg(number(
-            alloc,
-            "interval",
-            "20",
-            "verification scale interval e in kg: 1, 2, 5, 10, 20 or 50",
-        ))?
-        .arg(number(
-            alloc,
-            "max",
-            "60000",
-            "greatest load Max in kg: 500 to 10000 times e",
-        ))?
-        .arg(number(
-            alloc,
-            "window",
-            "4",
-            "readings of the stability window: 4 to 64",
-        ))?
-        .arg(number(alloc, "band", "2", "stability band in tenths of e: 1 or 2"))?
-        .arg(number(alloc, "pace", "10", "readings a second: 2 to 50"))?
-        .arg(number(
-            alloc,
-            "wait",
-            "20",
-            "readings that a waiting command waits: 1 to 600",
-        ))?
-        .arg(serial)?
-        .arg(number(
-            alloc,
-            "retention",
-            "90",
-            "days that an entry is kept: 1 to 3650",
-        ))?
-        .arg(number(
-            alloc,
-            "capacity",
-            "1000",
-            "places of the journal: 2 to 100000",
-        ))
+    let mut command = command;
+    for part in PARTS.as_slice() {
+        command = command.arg(option(alloc, part))?;
+    }
+    Ok(command)
 }
 
 /// The instrument that the words set up. None if a part is missing, which `clap` doesn't let through.

@@ -303,7 +303,7 @@ fn prints_its_version_and_the_kit_that_proved_it(rt: HostRuntime) -> Result<(), 
         let (said, status) = said_to(rt.alloc(), line)?;
         assert_eq!(rt;
             said.as_str(),
-            "weighbridge 1.0.0\nproved by rattle-kit-13b logic dac8208d650f15bf\n",
+            "weighbridge 1.0.0\nproved by rattle-kit-13f logic dac8208d650f15bf\n",
             "{line}"
         );
         assert_eq!(rt; status, 0, "{line}");
