@@ -7,7 +7,7 @@ use crate::service::serve_bridge;
 use std::io;
 use std::process::ExitCode;
 use wb_command::{Asked, REFUSED, Service, read_words};
-use wb_file::kept_store_in;
+use wb_file::JournalFile;
 use wb_instrument::Instrument;
 use wb_program::{PrintFault, ReplayEnd, ServeEnd, What, print_check, print_export, replay};
 
@@ -80,8 +80,8 @@ fn run_check(rt: &HostRuntime, path: &str) -> io::Result<ExitCode> {
 }
 
 fn check_file(rt: &HostRuntime, path: &str) -> Result<bool, PrintFault> {
-    match kept_store_in(rt, path) {
-        Ok(mut store) => print_check(rt.alloc(), &mut store, &mut io::writer(rt)),
+    match JournalFile::open_kept(rt, path) {
+        Ok(mut journal) => print_check(rt.alloc(), journal.store(), &mut io::writer(rt)),
         Err(fault) => Err(PrintFault::Store(fault)),
     }
 }
@@ -95,8 +95,8 @@ fn run_export(rt: &HostRuntime, path: &str, what: What) -> io::Result<ExitCode> 
 }
 
 fn export_file(rt: &HostRuntime, path: &str, what: What) -> Result<(), PrintFault> {
-    match kept_store_in(rt, path) {
-        Ok(mut store) => print_export(rt.alloc(), &mut store, what, &mut io::writer(rt)),
+    match JournalFile::open_kept(rt, path) {
+        Ok(mut journal) => print_export(rt.alloc(), journal.store(), what, &mut io::writer(rt)),
         Err(fault) => Err(PrintFault::Store(fault)),
     }
 }

@@ -2,12 +2,11 @@
 use sqlite::{File, FileStore};
 use thiserror::Error;
 use wb_command::Service;
-use wb_file::store_in;
+use wb_file::JournalFile;
 use wb_instrument::Instrument;
 use wb_program::{PrintFault, ServeEnd, serve};
 use wb_sockets::{AddressFault, Converter, ConverterFault, Sockets, StartFault, listen};
 use wb_station::Station;
-use wb_store::Store;
 use wb_window::DequeWindow;
 
 /// Why a service didn't start, in the order in which it is found.
@@ -57,7 +56,7 @@ pub(crate) fn serve_bridge(
     instrument: Instrument,
     service: &Service,
 ) -> Result<ServeEnd, ServiceFault> {
-    let mut station = station_in(rt, instrument, service)?;
+    let mut station = FileStation::open(rt, instrument, service.file.as_str())?;
     serve_station(rt, service, &mut station)
 }
 
@@ -65,40 +64,56 @@ pub(crate) fn serve_bridge(
 fn serve_station(
     rt: &HostRuntime,
     service: &Service,
-    station: &mut Station<DequeWindow, FileStore<File>>,
+    station: &mut FileStation,
 ) -> Result<ServeEnd, ServiceFault> {
     let terminal = listen(rt, service.terminal.as_str())?;
     let office = listen(rt, service.office.as_str())?;
     let converter = Converter::open(rt, service.converter.as_str())?;
     let mut sources = Sockets::new(rt, terminal, office, converter, service.is_verbose)?;
-    let end = serve(station, &mut sources, service.turns);
+    let end = serve(&mut station.station, &mut sources, service.turns);
     sources.finish();
     Ok(end)
 }
 
-/// A station over the journal in the file.
-fn station_in(
-    rt: &HostRuntime,
-    instrument: Instrument,
-    service: &Service,
-) -> Result<Station<DequeWindow, FileStore<File>>, ServiceFault> {
-    match store_in(rt, service.file.as_str()) {
-        Ok(store) => station_over(rt, instrument, store),
-        Err(fault) => Err(ServiceFault::Journal(PrintFault::Store(fault))),
+/// A station over the journal in a file. Like the journal's file it lets go by hand what it holds.
+struct FileStation {
+    station: Station<DequeWindow, FileStore<File>>,
+}
+
+impl Drop for FileStation {
+    fn drop(self) {
+        let FileStation { station } = self;
+        drop(station);
     }
 }
 
-fn station_over(
-    rt: &HostRuntime,
-    instrument: Instrument,
-    store: Store<FileStore<File>>,
-) -> Result<Station<DequeWindow, FileStore<File>>, ServiceFault> {
-    let Ok(window) = DequeWindow::new(rt.alloc(), instrument.window() as usize, instrument.band())
-    else {
-        return Err(ServiceFault::Memory);
-    };
-    match Station::open(rt.alloc(), instrument, window, store) {
-        Ok(station) => Ok(station),
-        Err(_) => Err(ServiceFault::Memory),
+impl FileStation {
+    fn open(
+        rt: &HostRuntime,
+        instrument: Instrument,
+        path: &str,
+    ) -> Result<FileStation, ServiceFault> {
+        match JournalFile::open(rt, path) {
+            Ok(journal) => FileStation::over(rt, instrument, journal),
+            Err(fault) => Err(ServiceFault::Journal(PrintFault::Store(fault))),
+        }
+    }
+
+    fn over(
+        rt: &HostRuntime,
+        instrument: Instrument,
+        journal: JournalFile,
+    ) -> Result<FileStation, ServiceFault> {
+        let Ok(window) = DequeWindow::new(
+            rt.alloc(),
+            instrument.window() as usize,
+            instrument.band(),
+        ) else {
+            return Err(ServiceFault::Memory);
+        };
+        match Station::open(rt.alloc(), instrument, window, journal.into_store()) {
+            Ok(station) => Ok(FileStation { station }),
+            Err(_) => Err(ServiceFault::Memory),
+        }
     }
 }

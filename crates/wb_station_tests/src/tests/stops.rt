@@ -228,15 +228,29 @@ fn asked_over<D: Alter + Drop>(
     }
 }
 
+/// The steps at a station on these disks: the disks as they were left, and whether all were answered.
+fn asked_on<D: Disk + Drop>(
+    alloc: Global,
+    disks: Files<D>,
+    cache_pages: usize,
+    steps: &[Step],
+) -> Result<(Files<D>, bool), Fail> {
+    match connected(alloc, disks, cache_pages) {
+        Ok(conn) => {
+            let (conn, all) = asked_over(alloc, conn, steps)?;
+            Ok((conn.into_store().close(), all))
+        }
+        Err(left) => Ok((left, false)),
+    }
+}
+
 /// Disks in memory on which these steps were answered.
 fn prepared(alloc: Global, steps: &[Step]) -> Result<Files<Memory>, Fail> {
     let disks = Files {
         log: Memory::new(alloc),
         db: Memory::new(alloc),
     };
-    let conn = connected(alloc, disks, ALL_PAGES).ok().ok_or("connected")?;
-    let (conn, all) = asked_over(alloc, conn, steps)?;
-    let disks = conn.into_store().close();
+    let (disks, all) = asked_on(alloc, disks, ALL_PAGES, steps)?;
     if all {
         Ok(disks)
     } else {
@@ -270,17 +284,6 @@ fn both_fused(
     })
 }
 
-/// The steps on these disks: the disks as they were left, and whether all were answered.
-fn stopped(alloc: Global, disks: Fused, steps: &[Step]) -> Result<(Fused, bool), Fail> {
-    match connected(alloc, disks, ONE_PAGE) {
-        Ok(conn) => {
-            let (conn, all) = asked_over(alloc, conn, steps)?;
-            Ok((conn.into_store().close(), all))
-        }
-        Err(left) => Ok((left, false)),
-    }
-}
-
 /// Whether the stopped request was made, as a fresh station answers.
 fn is_made<W: Window, D: Alter>(
     alloc: Global,
@@ -307,12 +310,11 @@ fn starts<W: Window, D: Alter>(
     }
 }
 
-/// Asks a fresh station over a connection whether the stopped request was made.
-fn asked_again<D: Alter + Drop>(
-    alloc: Global,
-    conn: Connection<D>,
-    stop: &Stop,
-) -> Result<bool, Fail> {
+/// Opens the disks, and asks a fresh station whether the stopped request was made.
+fn asked_again<D: Disk + Drop>(alloc: Global, disks: Files<D>, stop: &Stop) -> Result<bool, Fail> {
+    let conn = connected(alloc, disks, ALL_PAGES)
+        .ok()
+        .ok_or("connected again")?;
     let mut station = station(alloc, store(conn)?)?;
     is_made(alloc, &mut station, stop)
 }
@@ -322,10 +324,7 @@ fn was_made(alloc: Global, disks: Fused, stop: &Stop) -> Result<bool, Fail> {
     let mut disks = disks;
     disks.log.crash();
     disks.db.crash();
-    let conn = connected(alloc, disks, ALL_PAGES)
-        .ok()
-        .ok_or("connected again")?;
-    asked_again(alloc, conn, stop)
+    asked_again(alloc, disks, stop)
 }
 
 /// How many calls of one file an opening takes: fewer than 1,024.
@@ -334,7 +333,8 @@ fn opening_calls(alloc: Global, disks: &Files<Memory>, of_log: bool) -> Result<u
     let mut enough = 1_024u64;
     for _ in 0..10 {
         let calls = too_few.saturating_add(enough) / 2;
-        let (_, opened) = stopped(alloc, both_fused(alloc, disks, of_log, calls)?, &[])?;
+        let fused = both_fused(alloc, disks, of_log, calls)?;
+        let (_, opened) = asked_on(alloc, fused, ONE_PAGE, &[])?;
         if opened {
             enough = calls;
         } else {
@@ -353,7 +353,7 @@ fn stops(alloc: Global, stop: &Stop, of_log: bool) -> Result<Count, Fail> {
     for more in 0..1_000u64 {
         let calls = opened.saturating_add(more);
         let fused = both_fused(alloc, &disks, of_log, calls)?;
-        let (left, all) = stopped(alloc, fused, stop.during)?;
+        let (left, all) = asked_on(alloc, fused, ONE_PAGE, stop.during)?;
         match (all, was_made(alloc, left, stop)?) {
             (true, false) => return Err("answered and not made".into()),
             (_, true) => count.made = count.made.saturating_add(1),

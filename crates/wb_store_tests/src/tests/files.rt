@@ -1,14 +1,14 @@
 //! Files that hold no store.
 use std::fs;
 use std::test::Fail;
-use wb_file::{kept_store_in, store_in};
+use wb_file::JournalFile;
 use wb_store::StoreFault;
 
 const FOLDER: &str = "weighbridge_test";
 
 /// What refuses the file, if anything does.
 fn refusal(rt: &HostRuntime, path: &str) -> Option<StoreFault> {
-    kept_store_in(rt, path).err()
+    JournalFile::open_kept(rt, path).err()
 }
 
 #[test]
@@ -18,7 +18,7 @@ fn makes_no_file_that_is_not_there(rt: HostRuntime) -> Result<(), Fail> {
     let path = "weighbridge_test/journal.db";
     assert_eq!(rt; refusal(&rt, path), Some(StoreFault::Disk));
     assert!(rt; !fs::exists(&rt, path)?);
-    assert!(rt; store_in(&rt, path).is_ok());
+    assert!(rt; JournalFile::open(&rt, path).is_ok());
     assert_eq!(rt; refusal(&rt, path), None);
     fs::write(&rt, "weighbridge_test/note", "r 9170 4\n")?;
     assert_eq!(rt;
