@@ -3,6 +3,7 @@ use sqlite::{Connection, MemStore};
 use std::alloc::Global;
 use std::io::{Read, Write};
 use std::net::{OpenListener, TcpListener, TcpStream};
+use std::process::Abort;
 use std::test::Fail;
 use wb_instrument::{Instrument, Parts};
 use wb_program::{ServeEnd, serve};
@@ -34,40 +35,86 @@ fn road(alloc: Global) -> Result<Station<RingWindow, MemStore>, Fail> {
     }
 }
 
+/// The other ends of a service: its converter, a client of its office, and a typist at its terminal.
+#[derive(Drop)]
+struct Ends {
+    converter: TcpStream,
+    client: TcpStream,
+    typist: TcpStream,
+}
+
+impl Ends {
+    /// Sends ten readings, a request for the indication, and a command that waits for a stable load.
+    fn send(&mut self) -> Result<(), Fail> {
+        for _ in 0..10 {
+            self.converter.write_all(b"9170\r\n")?;
+        }
+        self.client.write_all(b"GET /indication HTTP/1.1\r\n\r\n")?;
+        self.typist.write_all(b"S\r\n")?;
+        Ok(())
+    }
+
+    fn typist_is_answered(&mut self, rt: &impl Abort) -> Result<(), Fail> {
+        let mut room = [0u8; 512];
+        let count = self.typist.read(&mut room)?;
+        let answer = room.get(..count).unwrap_or(&[]);
+        assert_eq!(rt; answer, b"S S      18340 kg\r\n".as_slice());
+        Ok(())
+    }
+
+    fn client_is_answered(&mut self, rt: &impl Abort) -> Result<(), Fail> {
+        let mut room = [0u8; 512];
+        let count = self.client.read(&mut room)?;
+        let answer = room.get(..count).unwrap_or(&[]);
+        let is_answered = answer.starts_with(b"HTTP/1.1 200 OK\r\nDate: ")
+            && answer.ends_with(
+                b"\r\nConnection: close\r\n\r\nMOVING G      18340 kg N      18340 kg\n",
+            );
+        assert!(rt; is_answered, "{answer:?}");
+        Ok(())
+    }
+
+    /// Whether the client has nothing more to read.
+    fn client_has_all(&mut self) -> Result<bool, Fail> {
+        Ok(self.client.read(&mut [0u8; 512])? == 0)
+    }
+}
+
+/// A service that listens on ports of its own, and its other ends.
+fn connected(rt: &HostRuntime) -> Result<(Sockets<'_, HostRuntime, TcpListener>, Ends), Fail> {
+    let terminal = listen(rt, "127.0.0.1:0")?;
+    let office = listen(rt, "127.0.0.1:0")?;
+    let client = TcpStream::connect(rt, office.local_addr()?)?;
+    let typist = TcpStream::connect(rt, terminal.local_addr()?)?;
+    let (source, converter) = played(rt)?;
+    let sockets = Sockets::new(rt, terminal, office, source, false)?;
+    let ends = Ends {
+        converter,
+        client,
+        typist,
+    };
+    Ok((sockets, ends))
+}
+
+/// A converter that is played over a connection.
+fn played(rt: &HostRuntime) -> Result<(Converter<TcpStream>, TcpStream), Fail> {
+    let player = TcpListener::bind(rt, "127.0.0.1:0")?;
+    let text = format!(in rt.alloc(); "tcp:{}", player.local_addr()?)?;
+    let source = Converter::open(rt, text.as_str())?;
+    let (stream, _) = player.accept()?;
+    Ok((source, stream))
+}
+
 #[test]
 fn serves_ten_turns(rt: HostRuntime) -> Result<(), Fail> {
     let mut station = road(rt.alloc())?;
-    let terminal = listen(&rt, "127.0.0.1:0")?;
-    let office = listen(&rt, "127.0.0.1:0")?;
-    let played = TcpListener::bind(&rt, "127.0.0.1:0")?;
-    let text = format!(in rt.alloc(); "tcp:{}", played.local_addr()?)?;
-    let converter = Converter::open(&rt, text.as_str())?;
-    let (mut played, _) = played.accept()?;
-    let mut client = TcpStream::connect(&rt, office.local_addr()?)?;
-    let mut typist = TcpStream::connect(&rt, terminal.local_addr()?)?;
-    for _ in 0..10 {
-        played.write_all(b"9170\r\n")?;
-    }
-    client.write_all(b"GET /indication HTTP/1.1\r\n\r\n")?;
-    typist.write_all(b"S\r\n")?;
-    let mut sockets = Sockets::new(&rt, terminal, office, converter, false)?;
+    let (mut sockets, mut ends) = connected(&rt)?;
+    ends.send()?;
     assert_eq!(rt; serve(&mut station, &mut sockets, 10), ServeEnd::Turns(10));
-    let mut room = [0u8; 512];
-    let count = typist.read(&mut room)?;
-    assert_eq!(rt;
-        room.get(..count),
-        Some(b"S S      18340 kg\r\n".as_slice())
-    );
-    let count = client.read(&mut room)?;
-    let answer = room.get(..count).unwrap_or(&[]);
-    assert!(rt; answer.starts_with(b"HTTP/1.1 200 OK\r\nDate: "));
-    assert!(rt;
-        answer.ends_with(b"\r\nConnection: close\r\n\r\nMOVING G      18340 kg N      18340 kg\n"),
-        "{answer:?}"
-    );
-    assert_eq!(rt; client.read(&mut room)?, 0, "it is the whole answer");
-    drop(client);
-    drop(typist);
+    ends.typist_is_answered(&rt)?;
+    ends.client_is_answered(&rt)?;
+    assert!(rt; ends.client_has_all()?, "it is the whole answer");
+    drop(ends);
     sockets.finish();
     Ok(())
 }
