@@ -22,7 +22,7 @@ const ROAD: Parts<'static> = Parts {
 };
 
 /// A window that can be made.
-trait Fresh: Window + Drop {
+pub(super) trait Fresh: Window + Drop {
     fn fresh(alloc: Global, size: usize, band: u32) -> Result<Self, AllocError>
         ensures { IfOk result (λ w. Self.held w
             ≡ record { size = size; band = band; readings = [] }) };
@@ -41,7 +41,7 @@ impl Fresh for DequeWindow {
 }
 
 /// A fresh scale that takes so many readings a second.
-fn scale_at<W: Fresh>(alloc: Global, pace: u32) -> Result<Scale<W>, Fail> {
+pub(super) fn scale_at<W: Fresh>(alloc: Global, pace: u32) -> Result<Scale<W>, Fail> {
     let instrument = Instrument::new(Parts { pace, ..ROAD })?;
     let window = W::fresh(alloc, instrument.window() as usize, instrument.band())?;
     Ok(Scale::new(instrument, window))
