@@ -1,9 +1,11 @@
 //! The words of the command line: defaults, refusals and statuses.
+use super::instrument::numbers;
+use super::{assert_text, push};
 use std::alloc::Global;
 use std::fmt::Write;
 use std::process::Abort;
 use std::test::Fail;
-use wb_command::{Asked, Service, read_words};
+use wb_command::{Asked, Service, SetupFault, read_words};
 use wb_instrument::Instrument;
 
 /// The words of a command line, and how they are understood (or a part of it).
@@ -256,28 +258,24 @@ static HELP: [Row; 34] = [
     ),
 ];
 
-fn asked_by(alloc: Global, line: &str) -> Result<Asked, Fail> {
-    let mut words = Vec::new(alloc);
+fn cut(alloc: Global, line: &str, words: &mut Vec<String>) -> Result<(), Fail> {
     for word in line.split(' ') {
         words.push(String::from_str(alloc, word)?)?;
     }
+    Ok(())
+}
+
+fn asked_by(alloc: Global, line: &str) -> Result<Asked, Fail> {
+    let mut words = Vec::new(alloc);
+    cut(alloc, line, &mut words)?;
     Ok(read_words(alloc, words.as_slice())?)
 }
 
 /// The serial, and the other parts in the order of the options.
 fn write_instrument(instrument: &Instrument, text: &mut String) -> Result<(), Fail> {
     text.push_str(instrument.serial().as_str())?;
-    for part in [
-        instrument.interval_kg(),
-        instrument.max_kg(),
-        instrument.window(),
-        instrument.band(),
-        instrument.pace(),
-        instrument.wait(),
-        instrument.retention_days(),
-        instrument.capacity(),
-    ] {
-        write!(text, " {part}")?;
+    for number in numbers(instrument) {
+        write!(text, " {number}")?;
     }
     Ok(())
 }
@@ -310,19 +308,30 @@ fn write_serve(instrument: &Instrument, service: &Service, text: &mut String) ->
     write_service(service, text)
 }
 
+fn write_both(what: &str, file: &str, text: &mut String) -> Result<(), Fail> {
+    push(what, text)?;
+    push(file, text)
+}
+
+fn write_fault(fault: &SetupFault, text: &mut String) -> Result<(), Fail> {
+    Ok(write!(text, "status {}: {fault}", fault.status())?)
+}
+
+fn write_error(error: &clap::Error, text: &mut String) -> Result<(), Fail> {
+    Ok(write!(text, "words, status {}: {error}", error.exit_code())?)
+}
+
 /// How words are understood, in one text.
 fn write_asked(asked: &Asked, text: &mut String) -> Result<(), Fail> {
     match asked {
         Asked::Replay(instrument) => write_setup("replay: ", instrument, text),
         Asked::Serve(instrument, service) => write_serve(instrument, service, text),
-        Asked::Check(file) => Ok(write!(text, "check: {file}")?),
-        Asked::ExportJournal(file) => Ok(write!(text, "export journal: {file}")?),
-        Asked::ExportTickets(file) => Ok(write!(text, "export tickets: {file}")?),
-        Asked::SetupRefused(fault) => Ok(write!(text, "status {}: {fault}", fault.status())?),
-        Asked::WordsRefused(error) => {
-            Ok(write!(text, "words, status {}: {error}", error.exit_code())?)
-        }
-        Asked::Nothing => Ok(text.push_str("nothing")?),
+        Asked::Check(file) => write_both("check: ", file.as_str(), text),
+        Asked::ExportJournal(file) => write_both("export journal: ", file.as_str(), text),
+        Asked::ExportTickets(file) => write_both("export tickets: ", file.as_str(), text),
+        Asked::SetupRefused(fault) => write_fault(fault, text),
+        Asked::WordsRefused(error) => write_error(error, text),
+        Asked::Nothing => write_both("nothing", "", text),
     }
 }
 
@@ -331,23 +340,40 @@ fn understand(alloc: Global, line: &str, text: &mut String) -> Result<(), Fail> 
     write_asked(&asked, text)
 }
 
-/// Whether the words of each row are understood as it says.
+fn is_understood(rt: &impl Abort, alloc: Global, row: &Row) -> Result<(), Fail> {
+    let Row(line, wanted) = row;
+    let mut text = String::new(alloc);
+    understand(alloc, line, &mut text)?;
+    assert_text(rt, line, text.as_str(), wanted);
+    Ok(())
+}
+
+/// The words of each row are understood as it says.
 fn are_understood(rt: &impl Abort, alloc: Global, rows: &[Row]) -> Result<(), Fail> {
-    for Row(line, wanted) in rows {
-        let mut text = String::new(alloc);
-        understand(alloc, line, &mut text)?;
-        assert_eq!(rt; text.as_str(), *wanted, "{line}");
+    for row in rows {
+        is_understood(rt, alloc, row)?;
     }
     Ok(())
 }
 
-/// Whether the text for the words of each row begins with these words, and holds what the row says.
+fn assert_answer(rt: &impl Abort, row: &Row, begin: &str, text: &str) {
+    let Row(line, holds) = row;
+    let is_right = text.starts_with(begin) && text.contains(*holds);
+    assert!(rt; is_right, "{line}: {text}");
+}
+
+fn is_answered(rt: &impl Abort, alloc: Global, begin: &str, row: &Row) -> Result<(), Fail> {
+    let Row(line, _) = row;
+    let mut text = String::new(alloc);
+    understand(alloc, line, &mut text)?;
+    assert_answer(rt, row, begin, text.as_str());
+    Ok(())
+}
+
+/// The text for the words of each row begins with these words, and holds what the row says.
 fn are_answered(rt: &impl Abort, alloc: Global, begin: &str, rows: &[Row]) -> Result<(), Fail> {
-    for Row(line, holds) in rows {
-        let mut text = String::new(alloc);
-        understand(alloc, line, &mut text)?;
-        let is_right = text.as_str().starts_with(begin) && text.as_str().contains(*holds);
-        assert!(rt; is_right, "{line}: {text}");
+    for row in rows {
+        is_answered(rt, alloc, begin, row)?;
     }
     Ok(())
 }

@@ -2,24 +2,13 @@
 //! windows.
 ghost use Rattle.std.specs.Prelude.{◌≡◌, IfOk, []};
 
+use super::instrument::ROAD;
 use std::alloc::{AllocError, Global};
 use std::process::Abort;
 use std::test::Fail;
 use wb_instrument::{Instrument, Parts};
 use wb_scale::{Indicated, PresetAnswer, Scale, TareAnswer, TareNow, ZeroAnswer};
 use wb_window::{DequeWindow, Reading, RingWindow, Window};
-
-const ROAD: Parts<'static> = Parts {
-    interval_kg: 20,
-    max_kg: 60_000,
-    window: 4,
-    band: 2,
-    pace: 10,
-    wait: 20,
-    serial: "WB01",
-    retention_days: 90,
-    capacity: 1_000,
-};
 
 /// A window that can be made.
 pub(super) trait Fresh: Window + Drop {
