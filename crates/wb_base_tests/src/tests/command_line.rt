@@ -1,312 +1,419 @@
 //! The words of the command line: defaults, refusals and statuses.
+use super::instrument::numbers;
+use super::{assert_text, push};
 use std::alloc::Global;
+use std::fmt::Write;
+use std::process::Abort;
 use std::test::Fail;
-use wb_command::{Asked, read_words};
+use wb_command::{Asked, Service, SetupFault, read_words};
 use wb_instrument::Instrument;
 
-fn asked_by(alloc: Global, line: &str) -> Result<Asked, Fail> {
-    let mut words = Vec::new(alloc);
+/// The words of a command line, and how they are understood (or a part of it).
+struct Row(&'static str, &'static str);
+
+static SETUPS: [Row; 10] = [
+    Row(
+        "weighbridge replay",
+        "replay: WB01 20 60000 4 2 10 20 90 1000",
+    ),
+    Row(
+        "weighbridge replay --interval 50",
+        "replay: WB01 50 60000 4 2 10 20 90 1000",
+    ),
+    Row(
+        "weighbridge replay --max 30000",
+        "replay: WB01 20 30000 4 2 10 20 90 1000",
+    ),
+    Row(
+        "weighbridge replay --window 64",
+        "replay: WB01 20 60000 64 2 10 20 90 1000",
+    ),
+    Row(
+        "weighbridge replay --band 1",
+        "replay: WB01 20 60000 4 1 10 20 90 1000",
+    ),
+    Row(
+        "weighbridge replay --pace 50",
+        "replay: WB01 20 60000 4 2 50 20 90 1000",
+    ),
+    Row(
+        "weighbridge replay --wait 600",
+        "replay: WB01 20 60000 4 2 10 600 90 1000",
+    ),
+    Row(
+        "weighbridge replay --serial A7",
+        "replay: A7 20 60000 4 2 10 20 90 1000",
+    ),
+    Row(
+        "weighbridge replay --retention 3650",
+        "replay: WB01 20 60000 4 2 10 20 3650 1000",
+    ),
+    Row(
+        "weighbridge replay --capacity 100000",
+        "replay: WB01 20 60000 4 2 10 20 90 100000",
+    ),
+];
+
+static FAULTS: [Row; 10] = [
+    Row(
+        "weighbridge replay --interval 3",
+        "status 2: setup refused: 1 Interval",
+    ),
+    Row(
+        "weighbridge replay --max 60010",
+        "status 2: setup refused: 2 Max",
+    ),
+    Row(
+        "weighbridge replay --window 3",
+        "status 2: setup refused: 3 Window",
+    ),
+    Row(
+        "weighbridge replay --band 3",
+        "status 2: setup refused: 4 Band",
+    ),
+    Row(
+        "weighbridge replay --pace 1",
+        "status 2: setup refused: 5 Pace",
+    ),
+    Row(
+        "weighbridge replay --wait 0",
+        "status 2: setup refused: 6 Wait",
+    ),
+    Row(
+        "weighbridge replay --serial wb01",
+        "status 2: setup refused: 7 Serial",
+    ),
+    Row(
+        "weighbridge replay --retention 3651",
+        "status 2: setup refused: 8 Retention",
+    ),
+    Row(
+        "weighbridge replay --capacity 1",
+        "status 2: setup refused: 9 Capacity",
+    ),
+    Row(
+        "weighbridge replay --capacity 1 --wait 0",
+        "status 2: setup refused: 6 Wait",
+    ),
+];
+
+static SERVICES: [Row; 4] = [
+    Row(
+        "weighbridge serve --file f.db --terminal 127.0.0.1:1 --office 127.0.0.1:2 --converter tcp:127.0.0.1:3",
+        "serve: WB01 20 60000 4 2 10 20 90 1000, f.db 127.0.0.1:1 127.0.0.1:2 tcp:127.0.0.1:3 1000000 quiet",
+    ),
+    Row(
+        "weighbridge serve --file f.db --terminal 127.0.0.1:1 --office 127.0.0.1:2 --converter tcp:127.0.0.1:3 --turns 1",
+        "serve: WB01 20 60000 4 2 10 20 90 1000, f.db 127.0.0.1:1 127.0.0.1:2 tcp:127.0.0.1:3 1 quiet",
+    ),
+    Row(
+        "weighbridge serve --file f.db --terminal 127.0.0.1:1 --office 127.0.0.1:2 --converter tcp:127.0.0.1:3 --turns 1000000000 --verbose",
+        "serve: WB01 20 60000 4 2 10 20 90 1000, f.db 127.0.0.1:1 127.0.0.1:2 tcp:127.0.0.1:3 1000000000 verbose",
+    ),
+    Row(
+        "weighbridge serve --file f.db --terminal 127.0.0.1:1 --office 127.0.0.1:2 --converter tcp:127.0.0.1:3 --verbose --interval 10",
+        "serve: WB01 10 60000 4 2 10 20 90 1000, f.db 127.0.0.1:1 127.0.0.1:2 tcp:127.0.0.1:3 1000000 verbose",
+    ),
+];
+
+static CHECKS: [Row; 2] = [
+    Row("weighbridge check --file journal.db", "check: journal.db"),
+    Row("weighbridge check --file=journal.db", "check: journal.db"),
+];
+
+static EXPORTS: [Row; 2] = [
+    Row(
+        "weighbridge export --file journal.db --what journal",
+        "export journal: journal.db",
+    ),
+    Row(
+        "weighbridge export --what tickets --file journal.db",
+        "export tickets: journal.db",
+    ),
+];
+
+static VERSIONS: [Row; 2] = [
+    Row(
+        "weighbridge --version",
+        "words, status 0: weighbridge 1.0.0\nproved by rattle-kit-13f logic dac8208d650f15bf\n",
+    ),
+    Row(
+        "weighbridge -V",
+        "words, status 0: weighbridge 1.0.0\nproved by rattle-kit-13f logic dac8208d650f15bf\n",
+    ),
+];
+
+/// Words, and what their refusal holds.
+static REFUSALS: [Row; 28] = [
+    Row("weighbridge", "replay"),
+    Row("weighbridge weigh", "weigh"),
+    Row("weighbridge replay --load 1", "--load"),
+    Row("weighbridge replay --max", "--max"),
+    Row("weighbridge replay --max 60t", "60t"),
+    Row("weighbridge replay --max -1", "-1"),
+    Row("weighbridge replay --max 4294967296", "4294967296"),
+    Row("weighbridge replay --max 1 --max 2", "--max"),
+    Row("weighbridge replay --file journal.db", "--file"),
+    Row("weighbridge serve", "--file"),
+    Row(
+        "weighbridge serve --file a --terminal b --office c",
+        "--converter",
+    ),
+    Row(
+        "weighbridge serve --file a --terminal b --converter d",
+        "--office",
+    ),
+    Row(
+        "weighbridge serve --file a --office c --converter d",
+        "--terminal",
+    ),
+    Row(
+        "weighbridge serve --terminal b --office c --converter d",
+        "--file",
+    ),
+    Row(
+        "weighbridge serve --file a --terminal b --office c --converter d --turns 0",
+        "--turns",
+    ),
+    Row(
+        "weighbridge serve --file a --terminal b --office c --converter d --turns 1000000001",
+        "1000000001",
+    ),
+    Row(
+        "weighbridge serve --file a --terminal b --office c --converter d --turns many",
+        "many",
+    ),
+    Row(
+        "weighbridge serve --file a --terminal b --office c --converter d --verbose=yes",
+        "--verbose",
+    ),
+    Row("weighbridge check", "--file"),
+    Row("weighbridge check --file", "--file"),
+    Row("weighbridge check journal.db", "journal.db"),
+    Row("weighbridge check --file a.db --file b.db", "--file"),
+    Row("weighbridge check --file a.db --max 60000", "--max"),
+    Row("weighbridge export --what journal", "--file"),
+    Row("weighbridge export --file journal.db", "--what"),
+    Row(
+        "weighbridge export --file journal.db --what entries",
+        "entries",
+    ),
+    Row(
+        "weighbridge export --file journal.db --what Journal",
+        "Journal",
+    ),
+    Row("weighbridge export --file journal.db --what", "tickets"),
+];
+
+/// Words, and what their help holds.
+static HELP: [Row; 34] = [
+    Row(
+        "weighbridge --help",
+        "terminal and office of a public weighbridge",
+    ),
+    Row("weighbridge --help", "\n  replay "),
+    Row("weighbridge --help", "\n  serve "),
+    Row("weighbridge --help", "\n  check "),
+    Row("weighbridge --help", "\n  export "),
+    Row("weighbridge replay --help", "replays a trace"),
+    Row("weighbridge replay --help", "--interval"),
+    Row("weighbridge replay --help", "--max"),
+    Row("weighbridge replay --help", "--window"),
+    Row("weighbridge replay --help", "--band"),
+    Row("weighbridge replay --help", "--pace"),
+    Row("weighbridge replay --help", "--wait"),
+    Row("weighbridge replay --help", "--serial"),
+    Row("weighbridge replay --help", "--retention"),
+    Row("weighbridge replay --help", "--capacity"),
+    Row(
+        "weighbridge replay --help",
+        "  printf 'r 9170 4\\nt SI\\n' | weighbridge replay\n",
+    ),
+    Row("weighbridge serve --help", "serves a weighbridge"),
+    Row("weighbridge serve --help", "--file <FILE>"),
+    Row("weighbridge serve --help", "--terminal <ADDRESS>"),
+    Row("weighbridge serve --help", "--office <ADDRESS>"),
+    Row("weighbridge serve --help", "--converter <SOURCE>"),
+    Row("weighbridge serve --help", "--turns"),
+    Row("weighbridge serve --help", "1000000]"),
+    Row("weighbridge serve --help", "--verbose"),
+    Row("weighbridge serve --help", "--capacity"),
+    Row(
+        "weighbridge serve --help",
+        "  weighbridge serve --file journal.db --terminal 127.0.0.1:4001",
+    ),
+    Row("weighbridge check --help", "checks the journal"),
+    Row("weighbridge check --help", "--file <FILE>"),
+    Row(
+        "weighbridge check --help",
+        "  weighbridge check --file journal.db\n",
+    ),
+    Row("weighbridge export --help", "as CSV"),
+    Row("weighbridge export --help", "--file <FILE>"),
+    Row("weighbridge export --help", "--what <WHAT>"),
+    Row("weighbridge export --help", "journal, tickets"),
+    Row(
+        "weighbridge export --help",
+        "  weighbridge export --file journal.db --what tickets",
+    ),
+];
+
+fn cut(alloc: Global, line: &str, words: &mut Vec<String>) -> Result<(), Fail> {
     for word in line.split(' ') {
         words.push(String::from_str(alloc, word)?)?;
     }
+    Ok(())
+}
+
+fn asked_by(alloc: Global, line: &str) -> Result<Asked, Fail> {
+    let mut words = Vec::new(alloc);
+    cut(alloc, line, &mut words)?;
     Ok(read_words(alloc, words.as_slice())?)
 }
 
-fn parts_of(instrument: &Instrument) -> [u32; 8] {
-    [
-        instrument.interval_kg(),
-        instrument.max_kg(),
-        instrument.window(),
-        instrument.band(),
-        instrument.pace(),
-        instrument.wait(),
-        instrument.retention_days(),
-        instrument.capacity(),
-    ]
+/// The serial, and the other parts in the order of the options.
+fn write_instrument(instrument: &Instrument, text: &mut String) -> Result<(), Fail> {
+    text.push_str(instrument.serial().as_str())?;
+    for number in numbers(instrument) {
+        write!(text, " {number}")?;
+    }
+    Ok(())
+}
+
+fn write_service(service: &Service, text: &mut String) -> Result<(), Fail> {
+    for word in [
+        &service.file,
+        &service.terminal,
+        &service.office,
+        &service.converter,
+    ] {
+        write!(text, " {word}")?;
+    }
+    let reports = if service.is_verbose {
+        "verbose"
+    } else {
+        "quiet"
+    };
+    Ok(write!(text, " {} {reports}", service.turns)?)
+}
+
+fn write_setup(what: &str, instrument: &Instrument, text: &mut String) -> Result<(), Fail> {
+    text.push_str(what)?;
+    write_instrument(instrument, text)
+}
+
+fn write_serve(instrument: &Instrument, service: &Service, text: &mut String) -> Result<(), Fail> {
+    write_setup("serve: ", instrument, text)?;
+    text.push_str(",")?;
+    write_service(service, text)
+}
+
+fn write_both(what: &str, file: &str, text: &mut String) -> Result<(), Fail> {
+    push(what, text)?;
+    push(file, text)
+}
+
+fn write_fault(fault: &SetupFault, text: &mut String) -> Result<(), Fail> {
+    Ok(write!(text, "status {}: {fault}", fault.status())?)
+}
+
+fn write_error(error: &clap::Error, text: &mut String) -> Result<(), Fail> {
+    Ok(write!(text, "words, status {}: {error}", error.exit_code())?)
+}
+
+/// How words are understood, in one text.
+fn write_asked(asked: &Asked, text: &mut String) -> Result<(), Fail> {
+    match asked {
+        Asked::Replay(instrument) => write_setup("replay: ", instrument, text),
+        Asked::Serve(instrument, service) => write_serve(instrument, service, text),
+        Asked::Check(file) => write_both("check: ", file.as_str(), text),
+        Asked::ExportJournal(file) => write_both("export journal: ", file.as_str(), text),
+        Asked::ExportTickets(file) => write_both("export tickets: ", file.as_str(), text),
+        Asked::SetupRefused(fault) => write_fault(fault, text),
+        Asked::WordsRefused(error) => write_error(error, text),
+        Asked::Nothing => write_both("nothing", "", text),
+    }
+}
+
+fn understand(alloc: Global, line: &str, text: &mut String) -> Result<(), Fail> {
+    let asked = asked_by(alloc, line)?;
+    write_asked(&asked, text)
+}
+
+fn is_understood(rt: &impl Abort, alloc: Global, row: &Row) -> Result<(), Fail> {
+    let Row(line, wanted) = row;
+    let mut text = String::new(alloc);
+    understand(alloc, line, &mut text)?;
+    assert_text(rt, line, text.as_str(), wanted);
+    Ok(())
+}
+
+/// The words of each row are understood as it says.
+fn are_understood(rt: &impl Abort, alloc: Global, rows: &[Row]) -> Result<(), Fail> {
+    for row in rows {
+        is_understood(rt, alloc, row)?;
+    }
+    Ok(())
+}
+
+fn assert_answer(rt: &impl Abort, row: &Row, begin: &str, text: &str) {
+    let Row(line, holds) = row;
+    let is_right = text.starts_with(begin) && text.contains(*holds);
+    assert!(rt; is_right, "{line}: {text}");
+}
+
+fn is_answered(rt: &impl Abort, alloc: Global, begin: &str, row: &Row) -> Result<(), Fail> {
+    let Row(line, _) = row;
+    let mut text = String::new(alloc);
+    understand(alloc, line, &mut text)?;
+    assert_answer(rt, row, begin, text.as_str());
+    Ok(())
+}
+
+/// The text for the words of each row begins with these words, and holds what the row says.
+fn are_answered(rt: &impl Abort, alloc: Global, begin: &str, rows: &[Row]) -> Result<(), Fail> {
+    for row in rows {
+        is_answered(rt, alloc, begin, row)?;
+    }
+    Ok(())
 }
 
 #[test]
 fn sets_up_a_road_weighbridge_and_each_part_that_is_given(rt: HostRuntime) -> Result<(), Fail> {
-    for (options, serial, parts) in [
-        ("", "WB01", [20, 60_000, 4, 2, 10, 20, 90, 1_000]),
-        (
-            " --interval 50",
-            "WB01",
-            [50, 60_000, 4, 2, 10, 20, 90, 1_000],
-        ),
-        (
-            " --max 30000",
-            "WB01",
-            [20, 30_000, 4, 2, 10, 20, 90, 1_000],
-        ),
-        (
-            " --window 64",
-            "WB01",
-            [20, 60_000, 64, 2, 10, 20, 90, 1_000],
-        ),
-        (" --band 1", "WB01", [20, 60_000, 4, 1, 10, 20, 90, 1_000]),
-        (" --pace 50", "WB01", [20, 60_000, 4, 2, 50, 20, 90, 1_000]),
-        (
-            " --wait 600",
-            "WB01",
-            [20, 60_000, 4, 2, 10, 600, 90, 1_000],
-        ),
-        (" --serial A7", "A7", [20, 60_000, 4, 2, 10, 20, 90, 1_000]),
-        (
-            " --retention 3650",
-            "WB01",
-            [20, 60_000, 4, 2, 10, 20, 3_650, 1_000],
-        ),
-        (
-            " --capacity 100000",
-            "WB01",
-            [20, 60_000, 4, 2, 10, 20, 90, 100_000],
-        ),
-    ] {
-        let line = format!(in rt.alloc(); "weighbridge replay{options}")?;
-        match asked_by(rt.alloc(), line.as_str())? {
-            Asked::Replay(instrument) => {
-                assert_eq!(rt; instrument.serial().as_str(), serial, "{line}");
-                assert_eq!(rt; parts_of(&instrument), parts, "{line}");
-            }
-            _ => return Err(Fail::from("refused")),
-        }
-    }
-    Ok(())
+    are_understood(&rt, rt.alloc(), &SETUPS)
 }
 
 #[test]
 fn refuses_a_setup_by_number_and_name(rt: HostRuntime) -> Result<(), Fail> {
-    for (options, text) in [
-        ("--interval 3", "setup refused: 1 Interval"),
-        ("--max 60010", "setup refused: 2 Max"),
-        ("--window 3", "setup refused: 3 Window"),
-        ("--band 3", "setup refused: 4 Band"),
-        ("--pace 1", "setup refused: 5 Pace"),
-        ("--wait 0", "setup refused: 6 Wait"),
-        ("--serial wb01", "setup refused: 7 Serial"),
-        ("--retention 3651", "setup refused: 8 Retention"),
-        ("--capacity 1", "setup refused: 9 Capacity"),
-        ("--capacity 1 --wait 0", "setup refused: 6 Wait"),
-    ] {
-        let line = format!(in rt.alloc(); "weighbridge replay {options}")?;
-        match asked_by(rt.alloc(), line.as_str())? {
-            Asked::SetupRefused(fault) => {
-                let said = format!(in rt.alloc(); "{fault}")?;
-                assert_eq!(rt; said.as_str(), text);
-                assert_eq!(rt; fault.status(), 2);
-            }
-            _ => return Err(Fail::from("not refused for its setup")),
-        }
-    }
-    Ok(())
+    are_understood(&rt, rt.alloc(), &FAULTS)
 }
 
 #[test]
 fn asks_for_a_service_over_a_file_and_addresses(rt: HostRuntime) -> Result<(), Fail> {
-    for (options, interval_kg, turns, is_verbose) in [
-        ("", 20, 1_000_000, false),
-        (" --turns 1", 20, 1, false),
-        (" --turns 1000000000 --verbose", 20, 1_000_000_000, true),
-        (" --verbose --interval 10", 10, 1_000_000, true),
-    ] {
-        let line = format!(in rt.alloc();
-            "weighbridge serve --file f.db --terminal 127.0.0.1:1 --office 127.0.0.1:2 --converter tcp:127.0.0.1:3{options}"
-        )?;
-        match asked_by(rt.alloc(), line.as_str())? {
-            Asked::Serve(instrument, service) => {
-                assert_eq!(rt; instrument.interval_kg(), interval_kg, "{options}");
-                assert_eq!(rt; service.file.as_str(), "f.db");
-                assert_eq!(rt; service.terminal.as_str(), "127.0.0.1:1");
-                assert_eq!(rt; service.office.as_str(), "127.0.0.1:2");
-                assert_eq!(rt; service.converter.as_str(), "tcp:127.0.0.1:3");
-                assert_eq!(rt; service.turns, turns, "{options}");
-                assert_eq!(rt; service.is_verbose, is_verbose, "{options}");
-            }
-            _ => return Err(Fail::from("no service")),
-        }
-    }
-    Ok(())
+    are_understood(&rt, rt.alloc(), &SERVICES)
 }
 
 #[test]
 fn asks_for_the_check_of_a_file(rt: HostRuntime) -> Result<(), Fail> {
-    for line in [
-        "weighbridge check --file journal.db",
-        "weighbridge check --file=journal.db",
-    ] {
-        match asked_by(rt.alloc(), line)? {
-            Asked::Check(file) => assert_eq!(rt; file.as_str(), "journal.db", "{line}"),
-            _ => return Err(Fail::from("no check")),
-        }
-    }
-    Ok(())
+    are_understood(&rt, rt.alloc(), &CHECKS)
 }
 
 #[test]
 fn asks_for_either_export_of_a_file(rt: HostRuntime) -> Result<(), Fail> {
-    let journal = "weighbridge export --file journal.db --what journal";
-    let tickets = "weighbridge export --what tickets --file journal.db";
-    match (
-        asked_by(rt.alloc(), journal)?,
-        asked_by(rt.alloc(), tickets)?,
-    ) {
-        (Asked::ExportJournal(of_journal), Asked::ExportTickets(of_tickets)) => {
-            assert_eq!(rt; of_journal.as_str(), "journal.db");
-            assert_eq!(rt; of_tickets.as_str(), "journal.db");
-            Ok(())
-        }
-        _ => Err(Fail::from("no export")),
-    }
-}
-
-/// The text and status that these words are refused or answered with.
-fn said_to(alloc: Global, line: &str) -> Result<(String, i32), Fail> {
-    match asked_by(alloc, line)? {
-        Asked::WordsRefused(error) => Ok((format!(in alloc; "{error}")?, error.exit_code())),
-        _ => Err(Fail::from("not refused for its words")),
-    }
+    are_understood(&rt, rt.alloc(), &EXPORTS)
 }
 
 #[test]
 fn refuses_words(rt: HostRuntime) -> Result<(), Fail> {
-    for (line, holds) in [
-        ("weighbridge", "replay"),
-        ("weighbridge weigh", "weigh"),
-        ("weighbridge replay --load 1", "--load"),
-        ("weighbridge replay --max", "--max"),
-        ("weighbridge replay --max 60t", "60t"),
-        ("weighbridge replay --max -1", "-1"),
-        ("weighbridge replay --max 4294967296", "4294967296"),
-        ("weighbridge replay --max 1 --max 2", "--max"),
-        ("weighbridge replay --file journal.db", "--file"),
-        ("weighbridge serve", "--file"),
-        (
-            "weighbridge serve --file a --terminal b --office c",
-            "--converter",
-        ),
-        (
-            "weighbridge serve --file a --terminal b --converter d",
-            "--office",
-        ),
-        (
-            "weighbridge serve --file a --office c --converter d",
-            "--terminal",
-        ),
-        (
-            "weighbridge serve --terminal b --office c --converter d",
-            "--file",
-        ),
-        (
-            "weighbridge serve --file a --terminal b --office c --converter d --turns 0",
-            "--turns",
-        ),
-        (
-            "weighbridge serve --file a --terminal b --office c --converter d --turns 1000000001",
-            "1000000001",
-        ),
-        (
-            "weighbridge serve --file a --terminal b --office c --converter d --turns many",
-            "many",
-        ),
-        (
-            "weighbridge serve --file a --terminal b --office c --converter d --verbose=yes",
-            "--verbose",
-        ),
-        ("weighbridge check", "--file"),
-        ("weighbridge check --file", "--file"),
-        ("weighbridge check journal.db", "journal.db"),
-        ("weighbridge check --file a.db --file b.db", "--file"),
-        ("weighbridge check --file a.db --max 60000", "--max"),
-        ("weighbridge export --what journal", "--file"),
-        ("weighbridge export --file journal.db", "--what"),
-        (
-            "weighbridge export --file journal.db --what entries",
-            "entries",
-        ),
-        (
-            "weighbridge export --file journal.db --what Journal",
-            "Journal",
-        ),
-        ("weighbridge export --file journal.db --what", "tickets"),
-    ] {
-        let (said, status) = said_to(rt.alloc(), line)?;
-        assert!(rt; said.as_str().contains(holds), "{line}: {said}");
-        assert_eq!(rt; status, 2, "{line}");
-    }
-    Ok(())
+    are_answered(&rt, rt.alloc(), "words, status 2: ", &REFUSALS)
 }
 
 #[test]
 fn helps_with_each_subcommand_and_its_options(rt: HostRuntime) -> Result<(), Fail> {
-    for (line, holds) in [
-        (
-            "weighbridge --help",
-            "terminal and office of a public weighbridge",
-        ),
-        ("weighbridge --help", "\n  replay "),
-        ("weighbridge --help", "\n  serve "),
-        ("weighbridge --help", "\n  check "),
-        ("weighbridge --help", "\n  export "),
-        ("weighbridge replay --help", "replays a trace"),
-        ("weighbridge replay --help", "--interval"),
-        ("weighbridge replay --help", "--max"),
-        ("weighbridge replay --help", "--window"),
-        ("weighbridge replay --help", "--band"),
-        ("weighbridge replay --help", "--pace"),
-        ("weighbridge replay --help", "--wait"),
-        ("weighbridge replay --help", "--serial"),
-        ("weighbridge replay --help", "--retention"),
-        ("weighbridge replay --help", "--capacity"),
-        (
-            "weighbridge replay --help",
-            "  printf 'r 9170 4\\nt SI\\n' | weighbridge replay\n",
-        ),
-        ("weighbridge serve --help", "serves a weighbridge"),
-        ("weighbridge serve --help", "--file <FILE>"),
-        ("weighbridge serve --help", "--terminal <ADDRESS>"),
-        ("weighbridge serve --help", "--office <ADDRESS>"),
-        ("weighbridge serve --help", "--converter <SOURCE>"),
-        ("weighbridge serve --help", "--turns"),
-        ("weighbridge serve --help", "1000000]"),
-        ("weighbridge serve --help", "--verbose"),
-        ("weighbridge serve --help", "--capacity"),
-        (
-            "weighbridge serve --help",
-            "  weighbridge serve --file journal.db --terminal 127.0.0.1:4001",
-        ),
-        ("weighbridge check --help", "checks the journal"),
-        ("weighbridge check --help", "--file <FILE>"),
-        (
-            "weighbridge check --help",
-            "  weighbridge check --file journal.db\n",
-        ),
-        ("weighbridge export --help", "as CSV"),
-        ("weighbridge export --help", "--file <FILE>"),
-        ("weighbridge export --help", "--what <WHAT>"),
-        ("weighbridge export --help", "journal, tickets"),
-        (
-            "weighbridge export --help",
-            "  weighbridge export --file journal.db --what tickets",
-        ),
-    ] {
-        let (said, status) = said_to(rt.alloc(), line)?;
-        assert!(rt; said.as_str().contains(holds), "{line}: {said}");
-        assert_eq!(rt; status, 0, "{line}");
-    }
-    Ok(())
+    are_answered(&rt, rt.alloc(), "words, status 0: ", &HELP)
 }
 
 #[test]
 fn prints_its_version_and_the_kit_that_proved_it(rt: HostRuntime) -> Result<(), Fail> {
-    for line in ["weighbridge --version", "weighbridge -V"] {
-        let (said, status) = said_to(rt.alloc(), line)?;
-        assert_eq!(rt;
-            said.as_str(),
-            "weighbridge 1.0.0\nproved by rattle-kit-13f logic dac8208d650f15bf\n",
-            "{line}"
-        );
-        assert_eq!(rt; status, 0, "{line}");
-    }
-    Ok(())
+    are_understood(&rt, rt.alloc(), &VERSIONS)
 }

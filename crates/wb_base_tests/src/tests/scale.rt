@@ -2,6 +2,7 @@
 //! windows.
 ghost use Rattle.std.specs.Prelude.{◌≡◌, IfOk, []};
 
+use super::instrument::ROAD;
 use std::alloc::{AllocError, Global};
 use std::process::Abort;
 use std::test::Fail;
@@ -9,20 +10,8 @@ use wb_instrument::{Instrument, Parts};
 use wb_scale::{Indicated, PresetAnswer, Scale, TareAnswer, TareNow, ZeroAnswer};
 use wb_window::{DequeWindow, Reading, RingWindow, Window};
 
-const ROAD: Parts<'static> = Parts {
-    interval_kg: 20,
-    max_kg: 60_000,
-    window: 4,
-    band: 2,
-    pace: 10,
-    wait: 20,
-    serial: "WB01",
-    retention_days: 90,
-    capacity: 1_000,
-};
-
 /// A window that can be made.
-trait Fresh: Window + Drop {
+pub(super) trait Fresh: Window + Drop {
     fn fresh(alloc: Global, size: usize, band: u32) -> Result<Self, AllocError>
         ensures { IfOk result (λ w. Self.held w
             ≡ record { size = size; band = band; readings = [] }) };
@@ -41,7 +30,7 @@ impl Fresh for DequeWindow {
 }
 
 /// A fresh scale that takes so many readings a second.
-fn scale_at<W: Fresh>(alloc: Global, pace: u32) -> Result<Scale<W>, Fail> {
+pub(super) fn scale_at<W: Fresh>(alloc: Global, pace: u32) -> Result<Scale<W>, Fail> {
     let instrument = Instrument::new(Parts { pace, ..ROAD })?;
     let window = W::fresh(alloc, instrument.window() as usize, instrument.band())?;
     Ok(Scale::new(instrument, window))

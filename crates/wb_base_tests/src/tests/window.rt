@@ -4,40 +4,55 @@ use std::process::Abort;
 use std::test::Fail;
 use wb_window::{DequeWindow, Reading, RingWindow, Window};
 
+/// A number of a converter, and the reading that it is.
+static READINGS: [(i64, Reading); 7] = [
+    (0, Reading::Load(0)),
+    (2_000_000, Reading::Load(2_000_000)),
+    (-2_000_000, Reading::Load(-2_000_000)),
+    (2_000_001, Reading::Lost),
+    (-2_000_001, Reading::Lost),
+    (i64::MIN, Reading::Lost),
+    (i64::MAX, Reading::Lost),
+];
+
 #[test]
 fn takes_numbers_in_range_as_loads(rt: HostRuntime) {
-    for (tenths, reading) in [
-        (0, Reading::Load(0)),
-        (2_000_000, Reading::Load(2_000_000)),
-        (-2_000_000, Reading::Load(-2_000_000)),
-        (2_000_001, Reading::Lost),
-        (-2_000_001, Reading::Lost),
-        (i64::MIN, Reading::Lost),
-        (i64::MAX, Reading::Lost),
-    ] {
-        assert_eq!(rt; Reading::of(tenths), reading, "{tenths} tenths");
+    for (tenths, reading) in READINGS.as_slice() {
+        let found = Reading::of(*tenths);
+        assert!(rt; found == *reading, "{tenths} tenths: {found:?}");
     }
+}
+
+/// Readings of a window of four and a band of two tenths, and whether it is stable after each.
+static STEPS: [(Reading, bool); 10] = [
+    (Reading::Load(9_170), false),
+    (Reading::Load(9_172), false),
+    (Reading::Load(9_171), false),
+    (Reading::Load(9_170), true),
+    (Reading::Load(9_173), false),
+    (Reading::Lost, false),
+    (Reading::Load(9_173), false),
+    (Reading::Load(9_173), false),
+    (Reading::Load(9_172), false),
+    (Reading::Load(9_171), true),
+];
+
+fn is_fresh<W: Window>(window: &W) -> bool {
+    window.size() == 4 && window.band() == 2 && window.last().is_none()
+}
+
+/// Takes a reading. Whether the window is then as stable as is wanted, and has it as its last.
+fn is_as_wanted<W: Window>(window: &mut W, reading: Reading, stable: bool) -> bool {
+    window.read(reading);
+    window.stable() == stable && window.last() == Some(reading)
 }
 
 /// Of a fresh window of four readings and a band of two tenths.
 fn stable_of_as_many_loads_within_the_band<W: Window>(rt: &impl Abort, window: &mut W) {
-    assert_eq!(rt; (window.size(), window.band()), (4, 2));
-    assert_eq!(rt; window.last(), None);
-    for (reading, stable) in [
-        (Reading::Load(9_170), false),
-        (Reading::Load(9_172), false),
-        (Reading::Load(9_171), false),
-        (Reading::Load(9_170), true),
-        (Reading::Load(9_173), false),
-        (Reading::Lost, false),
-        (Reading::Load(9_173), false),
-        (Reading::Load(9_173), false),
-        (Reading::Load(9_172), false),
-        (Reading::Load(9_171), true),
-    ] {
-        window.read(reading);
-        assert_eq!(rt; window.stable(), stable, "at {reading:?}");
-        assert_eq!(rt; window.last(), Some(reading));
+    assert!(rt; is_fresh(window));
+    for (place, (reading, stable)) in STEPS.iter().enumerate() {
+        let is_right = is_as_wanted(window, *reading, *stable);
+        assert!(rt; is_right, "at {place}");
     }
 }
 
@@ -110,41 +125,41 @@ impl Bridge {
     }
 }
 
-/// Both windows over 100,000 readings.
-fn answer_alike(rt: &impl Abort, alloc: Global, size: usize, band: u32) -> Result<(), Fail> {
+/// Whether both windows answer the same once they have a reading: then whether they are stable.
+fn both_after(ring: &mut RingWindow, deque: &mut DequeWindow, reading: Reading) -> Option<bool> {
+    ring.read(reading);
+    deque.read(reading);
+    if ring.stable() == deque.stable() && ring.last() == deque.last() {
+        Some(ring.stable())
+    } else {
+        None
+    }
+}
+
+/// How often both windows are stable over 100,000 readings, or the place at which they don't answer alike.
+fn times_stable(ring: &mut RingWindow, deque: &mut DequeWindow) -> Result<u32, u32> {
     let mut bridge = Bridge::new();
+    let mut times = 0u32;
+    for place in 0..100_000u32 {
+        let is_stable = both_after(ring, deque, bridge.reading()).ok_or(place)?;
+        times = times.saturating_add(u32::from(is_stable));
+    }
+    Ok(times)
+}
+
+fn answer_alike(alloc: Global, size: usize, band: u32) -> Result<Result<u32, u32>, Fail> {
     let mut ring = RingWindow::new(alloc, size, band)?;
     let mut deque = DequeWindow::new(alloc, size, band)?;
-    let mut stable = 0u32;
-    for place in 0..100_000u32 {
-        let reading = bridge.reading();
-        ring.read(reading);
-        deque.read(reading);
-        let is_stable = ring.stable();
-        assert_eq!(rt;
-            deque.stable(),
-            is_stable,
-            "{size} readings, {band} tenths, at {place}"
-        );
-        assert_eq!(rt;
-            deque.last(),
-            ring.last(),
-            "{size} readings, {band} tenths, at {place}"
-        );
-        stable = stable.saturating_add(u32::from(is_stable));
-    }
-    assert!(rt;
-        5_000 < stable && stable < 95_000,
-        "{stable} of {size} readings, {band} tenths"
-    );
-    Ok(())
+    Ok(times_stable(&mut ring, &mut deque))
 }
 
 #[test]
 fn both_windows_answer_alike(rt: HostRuntime) -> Result<(), Fail> {
     for size in [4, 5, 16, 64] {
         for band in [1, 2] {
-            answer_alike(&rt, rt.alloc(), size, band)?;
+            let stable = answer_alike(rt.alloc(), size, band)?;
+            let is_mixed = matches!(&stable, Ok(times) if 5_000 < *times && *times < 95_000);
+            assert!(rt; is_mixed, "{size} readings, {band} tenths: {stable:?}");
         }
     }
     Ok(())
