@@ -77,13 +77,13 @@ where
 
     /// Takes the response to the request that was handed out, and gives who it goes to.
     pub fn respond(&mut self, alloc: Global, now: Instant, bytes: &[u8]) -> Option<SocketAddr> {
-        for connection in self.connections.iter_mut() {
-            if matches!(connection.stage, Stage::Asked) {
-                connection.respond(alloc, now, bytes);
-                return Some(connection.peer);
-            }
-        }
-        None
+        let asked = self
+            .connections
+            .iter()
+            .position(|connection| matches!(connection.stage, Stage::Asked))?;
+        let connection = self.connections.get_mut(asked)?;
+        connection.respond(alloc, now, bytes);
+        Some(connection.peer)
     }
 
     /// Closes what has no response: it isn't judged any more.
@@ -106,10 +106,10 @@ where
 
     /// Closes what is still kept.
     pub fn close_all<R: Eprint>(&mut self, report: &Report<'_, R>) {
-        for connection in self.connections.iter_mut() {
-            connection.close(Why::ServiceEnds);
+        for connection in self.connections.iter() {
+            tell_closed(report, connection.peer, Why::ServiceEnds);
         }
-        self.close(report);
+        self.connections.clear();
     }
 
     /// Accepts connections while there is a place for them.

@@ -79,16 +79,16 @@ const ROOMS: usize = ENDLESS_LINE / CONVERTER_ROOM - 1;
 
 /// How often these bytes come, which reading there is each time, and whether the line is then without an end.
 #[derive(Clone, Copy, Drop)]
-struct Fill(usize, &'static [u8], Option<Reading>, bool);
+struct Filling(usize, &'static [u8], Option<Reading>, bool);
 
-static FILLS: [Fill; 6] = [
-    Fill(ROOMS, &[b'x'; CONVERTER_ROOM], None, false),
-    Fill(1, &[b'x'; CONVERTER_ROOM - 1], None, false),
+static FILLS: [Filling; 6] = [
+    Filling(ROOMS, &[b'x'; CONVERTER_ROOM], None, false),
+    Filling(1, &[b'x'; CONVERTER_ROOM - 1], None, false),
     // one byte less, and its end
-    Fill(1, b"\n", Some(Lost), false),
-    Fill(ROOMS, &[b'x'; CONVERTER_ROOM], None, false),
-    Fill(1, &[b'x'; CONVERTER_ROOM - 1], None, false),
-    Fill(1, b"x\n", None, true),
+    Filling(1, b"\n", Some(Lost), false),
+    Filling(ROOMS, &[b'x'; CONVERTER_ROOM], None, false),
+    Filling(1, &[b'x'; CONVERTER_ROOM - 1], None, false),
+    Filling(1, b"x\n", None, true),
 ];
 
 #[test]
@@ -99,8 +99,8 @@ fn gives_up_a_line_of_1_048_576_bytes(rt: HostRuntime) {
     }
 }
 
-fn fill_often(rt: &impl Abort, lines: &mut Lines, row: &Fill) {
-    let Fill(times, bytes, reading, is_endless) = row;
+fn fill_often(rt: &impl Abort, lines: &mut Lines, row: &Filling) {
+    let Filling(times, bytes, reading, is_endless) = row;
     for _ in 0..*times {
         fill(lines, bytes);
         assert_eq!(rt;
