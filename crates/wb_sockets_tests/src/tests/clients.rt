@@ -1,6 +1,5 @@
 //! What clients do in a test, and what they must find.
-use super::memory::{Bench, Wire};
-use std::alloc::{AllocError, Global};
+use super::memory::Wire;
 
 /// One byte more than a request has room for.
 static MANY: [u8; 9_217] = [b'x'; 9_217];
@@ -46,17 +45,4 @@ pub(crate) fn plays(wires: &[Wire<'_>], at: usize, client: &Client) -> bool {
         Some(wire) => wire.plays(client),
         None => false,
     }
-}
-
-/// So many connections on which nothing is sent yet.
-pub(crate) fn wires(
-    alloc: Global,
-    bench: &Bench,
-    count: usize,
-) -> Result<Vec<Wire<'_>>, AllocError> {
-    let mut wires = Vec::new(alloc);
-    for _ in 0..count {
-        wires.push(Wire::new(bench))?;
-    }
-    Ok(wires)
 }

@@ -1,7 +1,7 @@
 //! Connections of the office over turns.
 use self::Step::{Answer, Turn, WithoutRequest};
 use super::clients::Client::{Ends, Got, IsClosed, Sends, SendsMany, Takes};
-use super::clients::{Client, plays, wires};
+use super::clients::{Client, plays};
 use super::memory::{Bench, Door, Wire, after};
 use std::alloc::Global;
 use std::process::Abort;
@@ -171,8 +171,21 @@ impl<'a> Desk<'a> {
 /// Takes steps at an office with so many clients.
 fn play(rt: &(impl AllocGlobal + Abort), clients: usize, steps: &[Step]) -> Result<(), Fail> {
     let bench = Bench::new(rt.alloc());
-    let wires = wires(rt.alloc(), &bench, clients)?;
-    let mut desk = Desk::new(rt.alloc(), &bench, wires.as_slice())?;
+    let mut wires = Vec::new(rt.alloc());
+    for _ in 0..clients {
+        wires.push(Wire::new(&bench))?;
+    }
+    play_over(rt, &bench, wires.as_slice(), steps)
+}
+
+/// Takes steps over these connections.
+fn play_over(
+    rt: &(impl AllocGlobal + Abort),
+    bench: &Bench,
+    wires: &[Wire<'_>],
+    steps: &[Step],
+) -> Result<(), Fail> {
+    let mut desk = Desk::new(rt.alloc(), bench, wires)?;
     take_steps(rt, &mut desk, steps);
     Ok(())
 }

@@ -1,7 +1,7 @@
 //! Sources over connections in memory: what comes first after a long exchange, the end, and what is told.
 use self::Step::{Finish, Told, Turn};
 use super::clients::Client::{Ends, Got, Sends, Takes};
-use super::clients::{Client, plays, wires};
+use super::clients::{Client, plays};
 use super::memory::{Bench, Door, Plug, Wire};
 use std::process::Abort;
 use std::test::Fail;
@@ -141,8 +141,8 @@ impl<'a> Desk<'a> {
 fn play(rt: &(impl AllocGlobal + Abort), course: &Course) -> Result<(), Fail> {
     let bench = Bench::new(rt.alloc());
     let converter = Wire::playing(&bench, course.times, course.script);
-    let wires = wires(rt.alloc(), &bench, 3)?;
-    let mut desk = Desk::new(&bench, &converter, wires.as_slice(), course)?;
+    let wires = [Wire::new(&bench), Wire::new(&bench), Wire::new(&bench)];
+    let mut desk = Desk::new(&bench, &converter, &wires, course)?;
     take_steps(rt, &mut desk, course.steps);
     Ok(())
 }

@@ -1,7 +1,7 @@
 //! The terminal's connection over turns.
 use self::Step::{HangsUp, Replies, Reply, Turn};
 use super::clients::Client::{Ends, Got, IsClosed, IsOpen, Sends, SendsMany, Takes};
-use super::clients::{Client, plays, wires};
+use super::clients::{Client, plays};
 use super::memory::{Bench, Door, Wire, after};
 use std::alloc::Global;
 use std::process::Abort;
@@ -123,8 +123,21 @@ impl<'a> Desk<'a> {
 /// Takes steps at a listener on which so many terminals connect, one after the other.
 fn play(rt: &(impl AllocGlobal + Abort), terminals: usize, steps: &[Step]) -> Result<(), Fail> {
     let bench = Bench::new(rt.alloc());
-    let wires = wires(rt.alloc(), &bench, terminals)?;
-    let mut desk = Desk::new(rt.alloc(), &bench, wires.as_slice())?;
+    let mut wires = Vec::new(rt.alloc());
+    for _ in 0..terminals {
+        wires.push(Wire::new(&bench))?;
+    }
+    play_over(rt, &bench, wires.as_slice(), steps)
+}
+
+/// Takes steps over these connections.
+fn play_over(
+    rt: &(impl AllocGlobal + Abort),
+    bench: &Bench,
+    wires: &[Wire<'_>],
+    steps: &[Step],
+) -> Result<(), Fail> {
+    let mut desk = Desk::new(rt.alloc(), bench, wires)?;
     take_steps(rt, &mut desk, steps);
     Ok(())
 }
