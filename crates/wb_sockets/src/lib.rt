@@ -1,23 +1,12 @@
 //! The sources of the service over real sockets and files: a load converter, a terminal's listener, an office's listener, a clock.
 //!
-//! A turn takes its pace from the converter alone. No client makes it wait: connections are kept over turns, read as they send and
-//! written as they take, and each has its time. What that is worth in seconds, bytes and connections stands in one place.
+//! A turn takes its pace from the converter alone. No client makes it wait: `wb_connections` keeps their connections over turns.
 #![tactic(auto)]
 
-mod address;
-mod connection;
-mod converter;
-mod limits;
-mod lines;
-mod office;
-mod ready;
-mod report;
+mod clients;
+mod requests;
 mod sockets;
-mod source;
-mod terminal;
-#[cfg(test)]
-mod tests;
 
-pub use address::{AddressFault, listen, loopback};
-pub use converter::{Converter, ConverterFault};
+pub use requests::StationRequests;
 pub use sockets::{Sockets, StartFault};
+pub use wb_connections::{AddressFault, Converter, ConverterFault, listen, loopback};

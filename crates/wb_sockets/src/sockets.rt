@@ -1,21 +1,19 @@
 //! The sources of a service, over real sockets and files.
-ghost use Rattle.std.specs.Prelude.{None};
+ghost use Rattle.std.specs.Prelude.{◌≤◌, IfSome, None};
 
-use crate::converter::Converter;
-use crate::limits::{FINISH_SECONDS, LONG_EXCHANGE_MILLIS, PAUSE_MILLIS};
-use crate::office::Office;
-use crate::ready::is_past;
-use crate::report::Report;
-use crate::terminal::Terminal;
+use crate::clients::Clients;
 use std::alloc::AllocError;
 use std::io::{Read, Write};
-use std::net::{OpenListener, OpenStream};
+use std::net::{OpenListener, OpenStream, SocketAddr};
 use std::time::{Clock, Duration, Instant, SystemTime, UNIX_EPOCH};
 use std::{str, thread};
 use thiserror::Error;
+use wb_connections::{
+    Converter, FINISH_SECONDS, LONG_EXCHANGE_MILLIS, Office, PAUSE_MILLIS, Report, Terminal,
+    is_past,
+};
 use wb_journal::Moment;
 use wb_sources::{Converter as Said, REQUEST_ROOM, Sources, TERMINAL_ROOM, Taken};
-use wb_station::Routes;
 
 /// How often what waits for clients is looked at at the end.
 const FINISH_STEPS: u64 = FINISH_SECONDS * 1_000 / PAUSE_MILLIS;
@@ -46,10 +44,8 @@ where
 {
     rt: &'a R,
     report: Report<'a, R>,
-    routes: Routes,
     converter: Converter<L::Stream>,
-    terminal: Terminal<L>,
-    office: Office<L>,
+    clients: Clients<L>,
     /// When the clock was last read.
     now: Instant,
     /// When the request that isn't answered yet was handed out.
@@ -79,32 +75,28 @@ where
             return Err(StartFault::Clock);
         };
         let report = Report::new(rt, verbose);
-        if let Ok(address) = terminal.local_addr() {
-            report.line(format_args!("terminal: listens on {address}"));
+        tell_listener(&report, "terminal", &terminal);
+        tell_listener(&report, "office", &office);
+        match Clients::new(rt.alloc(), terminal, office) {
+            Ok(clients) => Ok(Sockets {
+                rt,
+                report,
+                converter,
+                clients,
+                now,
+                asked: None,
+                is_behind: false,
+            }),
+            Err(error) => Err(StartFault::from(error)),
         }
-        if let Ok(address) = office.local_addr() {
-            report.line(format_args!("office: listens on {address}"));
-        }
-        Ok(Sockets {
-            rt,
-            report,
-            routes: Routes::new(rt.alloc())?,
-            converter,
-            terminal: Terminal::new(rt.alloc(), terminal)?,
-            office: Office::new(rt.alloc(), office)?,
-            now,
-            asked: None,
-            is_behind: false,
-        })
     }
 
     /// Writes what still waits for clients, reads their connections to their end, and closes them, all within five seconds.
     /// A request that wasn't judged is closed at once.
     pub fn finish(&mut self) {
-        self.office.refuse(&self.report);
+        self.clients.office.refuse(&self.report);
         self.take_leave();
-        self.office.close_all(&self.report);
-        self.terminal.hang_up(&self.report, "the service ends");
+        self.clients.close_all(&self.report);
     }
 
     /// Waits until each client has what waits for it and is gone, or the time is over.
@@ -112,9 +104,7 @@ where
         let start = self.look_at_clock();
         for _ in 0..FINISH_STEPS {
             let now = self.look_at_clock();
-            let is_terminal_done = self.terminal.finish(now, &self.report);
-            let is_office_done = self.office.finish(now, &self.report);
-            if (is_terminal_done && is_office_done) || is_past(start, FINISH_SECONDS, now) {
+            if self.clients.finish(now, &self.report) || is_past(start, FINISH_SECONDS, now) {
                 return;
             }
             thread::sleep(self.rt, Duration::from_millis(PAUSE_MILLIS));
@@ -129,12 +119,37 @@ where
         self.now
     }
 
+    /// A turn of the office's connections.
+    fn step(&mut self) {
+        let now = self.look_at_clock();
+        self.clients.step(self.rt.alloc(), now, &self.report);
+    }
+
     /// Whether an exchange may follow: after a long one, only once the lines were read that came meanwhile.
     fn has_caught_up(&mut self) -> bool {
         if self.is_behind && self.converter.has_waited() {
             self.is_behind = false;
         }
         !self.is_behind
+    }
+
+    /// Hands out the next request, with which an exchange begins.
+    fn hand_out(&mut self, room: &mut [u8; REQUEST_ROOM]) -> Option<usize>
+        ensures { IfSome result (λ count. count ≤ 9216) }
+    {
+        let count = self.clients.office.take(room)?;
+        self.asked = Some(self.look_at_clock());
+        Some(count)
+    }
+
+    /// How long the exchange took that has ended. After a long one the converter's lines come first.
+    fn end_exchange(&mut self) -> Duration {
+        let now = self.look_at_clock();
+        let took = now.duration_since(self.asked.take().unwrap_or(now));
+        if took > Duration::from_millis(LONG_EXCHANGE_MILLIS) {
+            self.is_behind = self.converter.is_live();
+        }
+        took
     }
 }
 
@@ -154,24 +169,21 @@ where
 
     fn terminal(&mut self, room: &mut [u8; TERMINAL_ROOM]) -> Taken {
         let now = self.look_at_clock();
-        self.terminal.take(now, &self.report, room)
+        self.clients.terminal.take(now, &self.report, room)
     }
 
     fn reply(&mut self, bytes: &[u8]) {
         let now = self.look_at_clock();
-        self.terminal.reply(now, &self.report, bytes);
+        self.clients.terminal.reply(now, &self.report, bytes);
     }
 
     fn office(&mut self, room: &mut [u8; REQUEST_ROOM]) -> Option<usize> {
-        let now = self.look_at_clock();
-        self.office
-            .step(self.rt.alloc(), &self.routes, now, &self.report);
-        if !self.has_caught_up() {
-            return None;
+        self.step();
+        if self.has_caught_up() {
+            self.hand_out(room)
+        } else {
+            None
         }
-        let count = self.office.take(room)?;
-        self.asked = Some(self.look_at_clock());
-        Some(count)
     }
 
     fn moment(&mut self) -> Option<Moment> {
@@ -181,19 +193,31 @@ where
 
     fn respond(&mut self, bytes: &[u8]) {
         let now = self.look_at_clock();
-        let peer = self.office.respond(self.rt.alloc(), now, bytes);
-        let now = self.look_at_clock();
-        let took = now.duration_since(self.asked.take().unwrap_or(now));
-        if took > Duration::from_millis(LONG_EXCHANGE_MILLIS) {
-            self.is_behind = self.converter.is_live();
-        }
+        let peer = self.clients.office.respond(self.rt.alloc(), now, bytes);
+        let took = self.end_exchange();
         if let Some(peer) = peer {
-            let millis = took.as_millis();
-            let status = status_of(bytes);
-            self.report
-                .line(format_args!("office {peer}: {status} in {millis} ms"));
+            tell_response(&self.report, peer, bytes, took);
         }
     }
+}
+
+/// Tells on which address a listener listens, if it has one.
+fn tell_listener<R: Eprint, L: OpenListener>(report: &Report<'_, R>, whose: &str, listener: &L) {
+    if let Ok(address) = listener.local_addr() {
+        report.line(format_args!("{whose}: listens on {address}"));
+    }
+}
+
+/// Tells to whom a response goes, its status, and how long the exchange took.
+fn tell_response<R: Eprint>(
+    report: &Report<'_, R>,
+    peer: SocketAddr,
+    response: &[u8],
+    took: Duration,
+) {
+    let millis = took.as_millis();
+    let status = status_of(response);
+    report.line(format_args!("office {peer}: {status} in {millis} ms"));
 }
 
 /// The three digits of a response's status.

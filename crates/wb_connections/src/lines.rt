@@ -7,16 +7,16 @@ use wb_sources::converter_line;
 use wb_window::Reading;
 
 /// How many bytes are read at once: some fifty lines, so that what came during an exchange takes few reads.
-pub(crate) const ROOM: usize = 512;
+pub const CONVERTER_ROOM: usize = 512;
 
 /// A line and the CR before its LF.
 const LINE_AND_CR: usize = LINE + 1;
 
 /// Bytes that came and are not used yet, and the beginning of the line that they are part of.
 #[derive(Drop)]
-pub(crate) struct Lines {
+pub struct Lines {
     /// Where the next bytes are put, once all that came are used.
-    pub(crate) room: [u8; ROOM],
+    pub room: [u8; CONVERTER_ROOM],
     next: usize,
     end: usize,
     line: [u8; LINE_AND_CR],
@@ -25,9 +25,10 @@ pub(crate) struct Lines {
 }
 
 impl Lines {
-    pub(crate) fn new() -> Self {
+    /// Before any byte came.
+    pub fn new() -> Self {
         Lines {
-            room: [0; ROOM],
+            room: [0; CONVERTER_ROOM],
             next: 0,
             end: 0,
             line: [0; LINE_AND_CR],
@@ -36,21 +37,21 @@ impl Lines {
     }
 
     /// Takes so many bytes that were put into the room.
-    pub(crate) fn fill(&mut self, count: usize) {
+    pub fn fill(&mut self, count: usize) {
         self.next = 0;
         self.end = count;
     }
 
     /// Whether the line that has begun is too long to ever end.
-    pub(crate) fn is_endless(&self) -> bool {
+    pub fn is_endless(&self) -> bool {
         self.count >= ENDLESS_LINE
     }
 
     /// The reading of the next line whose end came. None once all bytes are used.
-    pub(crate) fn next_reading(&mut self) -> Option<Reading>
+    pub fn next_reading(&mut self) -> Option<Reading>
         ensures { IfSome result IsReading }
     {
-        for _ in 0..ROOM {
+        for _ in 0..CONVERTER_ROOM {
             if self.next >= self.end || self.is_endless() {
                 return None;
             }

@@ -1,13 +1,13 @@
 //! Reads and writes that don't wait, and how long ago something was.
 ghost use Rattle.std.specs.Prelude.{◌≤◌, IfSome, length};
-ghost use Rattle.wb_sockets.specs.Ready.{IsWithin};
+ghost use Rattle.wb_connections.specs.Ready.{IsWithin};
 
 use std::io;
 use std::io::{ErrorKind, Read, Write};
 use std::time::{Duration, Instant};
 
 /// What a read found.
-#[derive(Clone, Copy, Debug, PartialEq, Eq)]
+#[derive(Clone, Copy)]
 pub(crate) enum Ready {
     /// So many bytes.
     Bytes(usize),
@@ -54,6 +54,6 @@ pub(crate) fn write_ready<S: Write>(stream: &mut S, bytes: &[u8]) -> Option<usiz
 }
 
 /// Whether so many seconds have passed since then.
-pub(crate) fn is_past(then: Instant, seconds: u64, now: Instant) -> bool {
+pub fn is_past(then: Instant, seconds: u64, now: Instant) -> bool {
     now.duration_since(then) >= Duration::from_secs(seconds)
 }

@@ -29,7 +29,7 @@ pub(crate) const DEAF_SECONDS: u64 = 5;
 pub(crate) const WAITING_REPLIES: usize = 65_536;
 
 /// For so many seconds at most, what waits for clients is still written at the end. A client that reads has it long before.
-pub(crate) const FINISH_SECONDS: u64 = 5;
+pub const FINISH_SECONDS: u64 = 5;
 
 /// A converter that sends no whole line for so many seconds hands in a lost reading. The slowest converters send twice a second,
 /// so a second without a line is a fault, and nobody is shown an older weight.
@@ -37,17 +37,17 @@ pub(crate) const SILENCE_SECONDS: u64 = 1;
 
 /// After an exchange that took longer than so many milliseconds, the converter's lines come first. At ten readings a second that
 /// is one reading, so shorter exchanges leave nothing behind.
-pub(crate) const LONG_EXCHANGE_MILLIS: u64 = 100;
+pub const LONG_EXCHANGE_MILLIS: u64 = 100;
 
 /// For so many milliseconds, a device or a client that has nothing now is left alone. At 200 looks a second a line is read at
 /// once, and the processor does next to nothing.
-pub(crate) const PAUSE_MILLIS: u64 = 5;
+pub const PAUSE_MILLIS: u64 = 5;
 
 /// The most bytes of a converter's line without its end; a longer one is a lost reading.
 pub(crate) const LINE: usize = 20;
 
 /// So many bytes of a converter without the end of a line are a fault.
-pub(crate) const ENDLESS_LINE: usize = 1_048_576;
+pub const ENDLESS_LINE: usize = 1_048_576;
 
 /// How often a connection is read in a turn at most: once for a request, once for the end behind it, and twice for a request in
 /// pieces. More would let one client that sends without end hold up a turn.

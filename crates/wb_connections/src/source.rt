@@ -1,9 +1,9 @@
 //! What a converter's bytes are read from.
-ghost use Rattle.wb_sockets.specs.Ready.{IsWithin};
+ghost use Rattle.wb_connections.specs.Ready.{IsWithin};
 
 use crate::address::loopback;
 use crate::limits::PAUSE_MILLIS;
-use crate::lines::ROOM;
+use crate::lines::CONVERTER_ROOM;
 use crate::ready::{Ready, read_ready};
 use std::fs::{File, Files, OpenOptions};
 use std::io::Read;
@@ -15,7 +15,8 @@ use std::{fs, io, thread};
 
 /// What a converter's bytes are read from.
 #[derive(Drop)]
-pub(crate) enum Source<S: Read + OpenStream + Drop> {
+pub enum Source<S: Read + OpenStream + Drop> {
+    /// A connection.
     Stream(S),
     /// A FIFO, or a device such as a serial line, which is set to not wait.
     Device(File),
@@ -34,7 +35,7 @@ impl<S: Read + OpenStream + Drop> Source<S> {
                 let address = loopback(address)?;
                 Some(Source::Stream(TcpStream::connect(rt, address).ok()?))
             }
-            None => open_file(rt, text).ok()?,
+            None => open_file(rt, text),
         }
     }
 
@@ -47,7 +48,7 @@ impl<S: Read + OpenStream + Drop> Source<S> {
     }
 
     /// A read that doesn't wait.
-    pub(crate) fn read_now(&mut self, room: &mut [u8; ROOM]) -> Ready
+    pub(crate) fn read_now(&mut self, room: &mut [u8; CONVERTER_ROOM]) -> Ready
         ensures { IsWithin result 512 }
     {
         match self {
@@ -65,7 +66,7 @@ impl<S: Read + OpenStream + Drop> Source<S> {
         &mut self,
         clock: &impl Clock,
         left: Duration,
-        room: &mut [u8; ROOM],
+        room: &mut [u8; CONVERTER_ROOM],
     ) -> Ready
         ensures { IsWithin result 512 }
     {
@@ -89,22 +90,26 @@ fn set_to_wait<S: OpenStream>(stream: &S, left: Duration) -> io::Result<()> {
     stream.set_read_timeout(Some(left.max(Duration::from_millis(1))))
 }
 
-/// Opens a file by its path; None if it is a directory. A FIFO or a device is opened for writing too, so that opening waits for
-/// no writer.
+/// Opens a file by its path. None if it is a directory, or can't be opened.
 fn open_file<R: Files<File = File>, S: Read + OpenStream + Drop>(
     rt: &R,
     path: &str,
-) -> io::Result<Option<Source<S>>> {
-    let kind = fs::metadata(rt, path)?.file_type();
+) -> Option<Source<S>> {
+    let kind = fs::metadata(rt, path).ok()?.file_type();
     if kind.is_dir() {
-        return Ok(None);
+        None
+    } else if kind.is_fifo() || kind.is_char_device() {
+        Some(Source::Device(open_device(rt, path).ok()?))
+    } else {
+        Some(Source::Plain(File::open(rt, path).ok()?))
     }
-    if !kind.is_fifo() && !kind.is_char_device() {
-        return Ok(Some(Source::Plain(File::open(rt, path)?)));
-    }
+}
+
+/// Opens a FIFO or a device, for writing too, so that opening waits for no writer.
+fn open_device<R: Files<File = File>>(rt: &R, path: &str) -> io::Result<File> {
     let file = OpenOptions::new().read(true).write(true).open(rt, path)?;
     stop_waiting(&file)?;
-    Ok(Some(Source::Device(file)))
+    Ok(file)
 }
 
 /// Sets a file to not wait. std sets this mode on sockets alone, but it belongs to the open file, which a second descriptor shares.

@@ -1,5 +1,6 @@
 //! What no clause speaks of, over streams and a clock in memory, and once over sockets of this machine.
 mod addresses;
+mod clients;
 mod converter;
 mod lines;
 mod memory;

@@ -1,7 +1,7 @@
 //! The converter, which alone is waited for.
 ghost use Rattle.std.specs.Prelude.{IfSome};
 ghost use Rattle.wb_sources.specs.SourceAnswers.{IsConverted};
-ghost use Rattle.wb_sockets.specs.Ready.{IsWithin};
+ghost use Rattle.wb_connections.specs.Ready.{IsWithin};
 
 use crate::limits::{ENDLESS_LINE, SILENCE_SECONDS};
 use crate::lines::Lines;
@@ -51,7 +51,7 @@ impl<S: Read + OpenStream + Drop> Converter<S> {
     }
 
     /// Over a source that is open, from this time on.
-    pub(crate) fn over(source: Source<S>, now: Instant) -> Self {
+    pub fn over(source: Source<S>, now: Instant) -> Self {
         Converter {
             source,
             lines: Lines::new(),
@@ -61,17 +61,17 @@ impl<S: Read + OpenStream + Drop> Converter<S> {
     }
 
     /// Whether its lines come in their own time, whoever reads them. Those of a plain file don't.
-    pub(crate) fn is_live(&self) -> bool {
+    pub fn is_live(&self) -> bool {
         self.source.is_live()
     }
 
     /// Whether nothing was ready at some time before the last line: then all that had come was read.
-    pub(crate) fn has_waited(&self) -> bool {
+    pub fn has_waited(&self) -> bool {
         self.has_waited
     }
 
     /// The reading of the next line, or what came in its place: a lost reading for a second without a line, the end or a fault.
-    pub(crate) fn next(&mut self, clock: &impl Clock) -> Said
+    pub fn next(&mut self, clock: &impl Clock) -> Said
         ensures { IsConverted result }
     {
         self.has_waited = false;
@@ -106,7 +106,7 @@ impl<S: Read + OpenStream + Drop> Converter<S> {
         ensures { IfSome result (λ ready. IsWithin ready 512) }
     {
         let ready = self.source.read_now(&mut self.lines.room);
-        if ready != Ready::Nothing || !self.is_live() {
+        if !matches!(ready, Ready::Nothing) || !self.is_live() {
             return Some(ready);
         }
         self.has_waited = true;

@@ -1,7 +1,7 @@
 -- What a read found.
 use Rattle.std.specs.Prelude.{ℕ, ◌≤◌}
-use Rattle.wb_sockets.specs.declared.ready.Ready.{Ready}
-use Rattle.wb_sockets.specs.declared.ready.Ready.TheVariants.{Bytes, Nothing, End, Fault}
+use Rattle.wb_connections.specs.declared.ready.Ready.{Ready}
+use Rattle.wb_connections.specs.declared.ready.Ready.TheVariants.{Bytes, Nothing, End, Fault}
 
 -- it found no more bytes than there is room
 abbrev pub IsWithin : Ready → ℕ → Type 0

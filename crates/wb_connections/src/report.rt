@@ -3,18 +3,19 @@ use std::fmt::Display;
 
 /// Tells of the service, a line for each thing that happened, or nothing at all.
 #[derive(Drop)]
-pub(crate) struct Report<'a, R> {
+pub struct Report<'a, R> {
     rt: &'a R,
     is_on: bool,
 }
 
 impl<'a, R: Eprint> Report<'a, R> {
-    pub(crate) fn new(rt: &'a R, is_on: bool) -> Self {
+    /// To the standard error of `rt`, if it is on.
+    pub fn new(rt: &'a R, is_on: bool) -> Self {
         Report { rt, is_on }
     }
 
     /// Writes a line. An error of standard error is ignored: it is no fault of the service.
-    pub(crate) fn line<D: Display + Drop>(&self, line: D) {
+    pub fn line<D: Display + Drop>(&self, line: D) {
         if self.is_on {
             let _ = self.rt.eprintln(line);
         }

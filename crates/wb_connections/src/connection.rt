@@ -1,4 +1,6 @@
 //! A connection of the office, from its first byte to its end. No call here waits.
+ghost use Rattle.std.specs.Prelude.{◌≤◌};
+
 use crate::limits::{
     LEAVING_SECONDS, READS_A_TURN, SILENT_SECONDS, UNTAKEN_SECONDS, WHOLE_WITHIN_SECONDS,
 };
@@ -10,7 +12,12 @@ use std::io::{Read, Write};
 use std::net::{OpenStream, Shutdown, SocketAddr};
 use std::time::Instant;
 use wb_sources::REQUEST_ROOM;
-use wb_station::{Routes, is_whole};
+
+/// What requests are. A connection of the office asks nothing else of their bytes.
+pub trait Requests {
+    /// Whether no further byte can change how a request is judged that begins with these.
+    fn is_whole(&self, bytes: &[u8]) -> bool;
+}
 
 /// What a connection is doing.
 #[derive(Drop)]
@@ -30,7 +37,7 @@ pub(crate) enum Stage {
 }
 
 /// Why a connection was closed.
-#[derive(Clone, Copy, Debug, PartialEq, Eq)]
+#[derive(Clone, Copy)]
 pub(crate) enum Why {
     /// It has its response, and ended.
     Done,
@@ -73,7 +80,7 @@ pub(crate) struct Connection<S: Drop> {
 }
 
 impl<S: Read + Write + OpenStream + Drop> Connection<S> {
-    /// Over a stream that doesn't wait, which was accepted now.
+    /// Over a stream that was accepted now.
     pub(crate) fn new(alloc: Global, stream: S, peer: SocketAddr, now: Instant) -> Self {
         Connection {
             stream,
@@ -85,15 +92,60 @@ impl<S: Read + Write + OpenStream + Drop> Connection<S> {
         }
     }
 
-    /// The bytes of its request, at most 9,216.
-    pub(crate) fn request(&self) -> &[u8] {
-        self.request.as_slice()
+    /// Sets its stream to not wait. False if that is refused.
+    pub(crate) fn stops_waiting(&self) -> bool {
+        self.stream.set_nonblocking(true).is_ok()
+    }
+
+    /// A turn of it. True once its request is to be judged.
+    pub(crate) fn turn<Q: Requests>(
+        &mut self,
+        requests: &Q,
+        now: Instant,
+        room: &mut [u8; REQUEST_ROOM],
+    ) -> bool {
+        if matches!(self.stage, Stage::Asks) {
+            return self.read(requests, now, room);
+        }
+        self.go_on(now, room);
+        false
+    }
+
+    /// Goes on with its response, if it has one: writes it, or reads what still comes after it.
+    pub(crate) fn go_on(&mut self, now: Instant, room: &mut [u8; REQUEST_ROOM]) {
+        match &self.stage {
+            Stage::Takes(_, _) => self.write(now),
+            Stage::Leaves => self.leave(now, room),
+            Stage::Asks | Stage::Waits(_) | Stage::Asked | Stage::Closed(_) => {}
+        }
+    }
+
+    /// Hands out its request, of at most 9,216 bytes.
+    pub(crate) fn hand_out(&mut self, room: &mut [u8; REQUEST_ROOM]) -> usize
+        ensures { result ≤ 9216 }
+    {
+        self.stage = Stage::Asked;
+        let count = self.request.len().min(REQUEST_ROOM);
+        room[..count].copy_from_slice(&self.request[..count]);
+        count
+    }
+
+    /// Closes it if it has no response.
+    pub(crate) fn refuse(&mut self) {
+        if matches!(self.stage, Stage::Asks | Stage::Waits(_) | Stage::Asked) {
+            self.close(Why::ServiceEnds);
+        }
+    }
+
+    /// Lets it be closed before the turn is over.
+    pub(crate) fn close(&mut self, why: Why) {
+        self.stage = Stage::Closed(why);
     }
 
     /// Reads what came of the request. True once it is to be judged: it is whole, or nothing more of it will come.
-    pub(crate) fn read(
+    fn read<Q: Requests>(
         &mut self,
-        routes: &Routes,
+        requests: &Q,
         now: Instant,
         room: &mut [u8; REQUEST_ROOM],
     ) -> bool {
@@ -103,10 +155,10 @@ impl<S: Read + Write + OpenStream + Drop> Connection<S> {
                 Ready::Bytes(count) => {
                     self.moved = now;
                     if self.request.extend_from_slice(&room[..count]).is_err() {
-                        self.stage = Stage::Closed(Why::Memory);
+                        self.close(Why::Memory);
                         return false;
                     }
-                    if self.is_whole(routes) {
+                    if self.is_whole(requests) {
                         return true;
                     }
                 }
@@ -122,14 +174,14 @@ impl<S: Read + Write + OpenStream + Drop> Connection<S> {
         false
     }
 
-    fn is_whole(&self, routes: &Routes) -> bool {
-        self.request.len() >= REQUEST_ROOM || is_whole(routes, self.request.as_slice())
+    fn is_whole<Q: Requests>(&self, requests: &Q) -> bool {
+        self.request.len() >= REQUEST_ROOM || requests.is_whole(self.request.as_slice())
     }
 
     /// True if a byte came; otherwise it is closed.
     fn is_judged_as_it_stands(&mut self) -> bool {
         if self.request.is_empty() {
-            self.stage = Stage::Closed(Why::NoRequest);
+            self.close(Why::NoRequest);
             return false;
         }
         true
@@ -139,31 +191,31 @@ impl<S: Read + Write + OpenStream + Drop> Connection<S> {
     pub(crate) fn respond(&mut self, alloc: Global, now: Instant, bytes: &[u8]) {
         self.moved = now;
         let Some(count) = write_ready(&mut self.stream, bytes) else {
-            self.stage = Stage::Closed(Why::Broken);
+            self.close(Why::Broken);
             return;
         };
         if count >= bytes.len() {
             self.shut(now);
             return;
         }
-        self.stage = match Vec::from_slice(alloc, &bytes[count..]) {
-            Ok(rest) => Stage::Takes(rest, 0),
-            Err(_) => Stage::Closed(Why::Memory),
-        };
+        match Vec::from_slice(alloc, &bytes[count..]) {
+            Ok(rest) => self.stage = Stage::Takes(rest, 0),
+            Err(_) => self.close(Why::Memory),
+        }
     }
 
     /// Writes as much of the rest of its response as the socket takes.
-    pub(crate) fn write(&mut self, now: Instant) {
+    fn write(&mut self, now: Instant) {
         let Stage::Takes(rest, written) = &mut self.stage else {
             return;
         };
         let left = rest.as_slice().get(*written..).unwrap_or(&[]);
         let length = left.len();
         match write_ready(&mut self.stream, left) {
-            None => self.stage = Stage::Closed(Why::Broken),
+            None => self.close(Why::Broken),
             Some(0) => {
                 if is_past(self.moved, UNTAKEN_SECONDS, now) {
-                    self.stage = Stage::Closed(Why::TookNothing);
+                    self.close(Why::TookNothing);
                 }
             }
             Some(count) => {
@@ -179,30 +231,30 @@ impl<S: Read + Write + OpenStream + Drop> Connection<S> {
     /// Shuts it for writing, which tells the client that this was the whole response.
     fn shut(&mut self, now: Instant) {
         self.moved = now;
-        self.stage = match self.stream.shutdown(Shutdown::Write) {
-            Ok(()) => Stage::Leaves,
-            Err(_) => Stage::Closed(Why::Broken),
-        };
+        match self.stream.shutdown(Shutdown::Write) {
+            Ok(()) => self.stage = Stage::Leaves,
+            Err(_) => self.close(Why::Broken),
+        }
     }
 
     /// Reads and drops what still comes, so that no reset can overtake the response.
-    pub(crate) fn leave(&mut self, now: Instant, room: &mut [u8; REQUEST_ROOM]) {
+    fn leave(&mut self, now: Instant, room: &mut [u8; REQUEST_ROOM]) {
         for _ in 0..READS_A_TURN {
             match read_ready(&mut self.stream, room) {
                 Ready::Bytes(_) => {}
                 Ready::Nothing => break,
                 Ready::End => {
-                    self.stage = Stage::Closed(Why::Done);
+                    self.close(Why::Done);
                     return;
                 }
                 Ready::Fault => {
-                    self.stage = Stage::Closed(Why::Broken);
+                    self.close(Why::Broken);
                     return;
                 }
             }
         }
         if is_past(self.moved, LEAVING_SECONDS, now) {
-            self.stage = Stage::Closed(Why::Stayed);
+            self.close(Why::Stayed);
         }
     }
 }

@@ -21,7 +21,7 @@ struct Connection<S: Drop> {
 
 /// The listener, and the connection if there is one.
 #[derive(Drop)]
-pub(crate) struct Terminal<L: OpenListener + Drop>
+pub struct Terminal<L: OpenListener + Drop>
 where
     L::Stream: Read + Write + OpenStream,
 {
@@ -39,7 +39,7 @@ where
     L::Stream: Read + Write + OpenStream,
 {
     /// Over a listener that doesn't wait, with the room for replies. Refuses for want of memory alone.
-    pub(crate) fn new(alloc: Global, listener: L) -> Result<Self, AllocError> {
+    pub fn new(alloc: Global, listener: L) -> Result<Self, AllocError> {
         Ok(Terminal {
             listener,
             connection: None,
@@ -50,7 +50,7 @@ where
     }
 
     /// The bytes that came, and whether the connection ended after them. Where there is no connection, it accepts one.
-    pub(crate) fn take<R: Eprint>(
+    pub fn take<R: Eprint>(
         &mut self,
         now: Instant,
         report: &Report<'_, R>,
@@ -82,7 +82,7 @@ where
     }
 
     /// Takes the replies of an event, and writes what its socket takes. A terminal for which too many would wait is hung up.
-    pub(crate) fn reply<R: Eprint>(&mut self, now: Instant, report: &Report<'_, R>, bytes: &[u8]) {
+    pub fn reply<R: Eprint>(&mut self, now: Instant, report: &Report<'_, R>, bytes: &[u8]) {
         let waits = self.waits();
         let Some(connection) = &mut self.connection else {
             return;
@@ -98,7 +98,7 @@ where
     }
 
     /// A step of the end: what waits is written, and the connection is read to its end. True once nothing is left to do.
-    pub(crate) fn finish<R: Eprint>(&mut self, now: Instant, report: &Report<'_, R>) -> bool {
+    pub fn finish<R: Eprint>(&mut self, now: Instant, report: &Report<'_, R>) -> bool {
         self.write(now, report);
         let waits = self.waits();
         let Some(connection) = &mut self.connection else {
@@ -190,7 +190,7 @@ where
     }
 
     /// Closes the connection, if there is one, and forgets the replies that wait for it.
-    pub(crate) fn hang_up<R: Eprint>(&mut self, report: &Report<'_, R>, why: &str) {
+    pub fn hang_up<R: Eprint>(&mut self, report: &Report<'_, R>, why: &str) {
         if let Some(connection) = &self.connection {
             report.line(format_args!("terminal {}: hung up, {why}", connection.peer));
         }

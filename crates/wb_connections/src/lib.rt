@@ -1,0 +1,27 @@
+//! The connections of a service, over any stream: a load converter, a terminal and its listener, an office's clients and their listener.
+//!
+//! The converter alone is waited for. No client makes a turn wait: connections are kept over turns, read as they send and written as they
+//! take, and each has its time. What that is worth in seconds, bytes and connections stands in one place.
+#![tactic(auto)]
+
+mod address;
+mod connection;
+mod converter;
+mod limits;
+mod lines;
+mod office;
+mod ready;
+mod report;
+mod source;
+mod terminal;
+
+pub use address::{AddressFault, listen, loopback};
+pub use connection::Requests;
+pub use converter::{Converter, ConverterFault};
+pub use limits::{ENDLESS_LINE, FINISH_SECONDS, LONG_EXCHANGE_MILLIS, PAUSE_MILLIS};
+pub use lines::{CONVERTER_ROOM, Lines};
+pub use office::Office;
+pub use ready::is_past;
+pub use report::Report;
+pub use source::Source;
+pub use terminal::Terminal;

@@ -1,0 +1,48 @@
+//! What clients do in a test, and what they must find.
+use super::memory::Wire;
+
+/// One byte more than a request has room for.
+static MANY: [u8; 9_217] = [b'x'; 9_217];
+
+/// What a client does, or what it must find.
+#[derive(Clone, Copy, Drop)]
+pub(crate) enum Client {
+    /// It sends these bytes; those that it sent before were read.
+    Sends(&'static [u8]),
+    /// It sends so many bytes, each an x.
+    SendsMany(usize),
+    /// It sends nothing more.
+    Ends,
+    /// Its socket takes so many bytes more.
+    Takes(usize),
+    /// It was sent so many bytes, and these are all or not.
+    Got(usize, bool),
+    /// The service didn't close it.
+    IsOpen,
+    /// The service closed it.
+    IsClosed,
+}
+
+impl Wire<'_> {
+    /// Does what a client does. False if it finds anything else than it must.
+    pub(crate) fn plays(&self, client: &Client) -> bool {
+        match client {
+            Client::Sends(bytes) => self.send(bytes),
+            Client::SendsMany(count) => self.send(MANY.get(..*count).unwrap_or(&MANY)),
+            Client::Ends => self.end(),
+            Client::Takes(count) => self.take(*count),
+            Client::Got(count, is_all) => return self.got() == (*count, *is_all),
+            Client::IsOpen => return self.is_open(),
+            Client::IsClosed => return !self.is_open(),
+        }
+        true
+    }
+}
+
+/// Does what one of some clients does. False if it finds anything else than it must, or isn't there.
+pub(crate) fn plays(wires: &[Wire<'_>], at: usize, client: &Client) -> bool {
+    match wires.get(at) {
+        Some(wire) => wire.plays(client),
+        None => false,
+    }
+}

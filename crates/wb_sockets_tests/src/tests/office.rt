@@ -1,0 +1,222 @@
+//! Connections of the office over turns.
+use self::Step::{Answer, Turn, WithoutRequest};
+use super::clients::Client::{Ends, Got, IsClosed, Sends, SendsMany, Takes};
+use super::clients::{Client, plays};
+use super::memory::{Bench, Door, Wire, after};
+use std::alloc::Global;
+use std::process::Abort;
+use std::test::Fail;
+use std::time::Instant;
+use wb_connections::{Office, Report};
+use wb_sockets::StationRequests;
+use wb_sources::REQUEST_ROOM;
+
+const ANSWER: &[u8] = b"HTTP/1.1 200 OK\r\n\r\nNO LOAD\n";
+
+/// What happens at an office, and what must be seen then.
+#[derive(Clone, Copy, Drop)]
+enum Step {
+    /// What one of its clients does or finds.
+    Client(usize, Client),
+    /// A turn at so many seconds: how many bytes a request has that is handed out, and how many connections are kept.
+    Turn(u64, usize, usize),
+    /// The request that was handed out is answered at so many seconds.
+    Answer(u64),
+    /// So many connections were closed without a byte of a request.
+    WithoutRequest(u64),
+}
+
+static IN_PIECES: [Step; 11] = [
+    Step::Client(0, Sends(b"GET /indi")),
+    Turn(0, 0, 1),
+    Step::Client(0, Sends(b"cation HTTP/1.1\r\n\r\n")),
+    Turn(1, 28, 1),
+    Answer(1),
+    Step::Client(0, Got(27, true)),
+    // it is read to its end
+    Turn(5, 0, 1),
+    Step::Client(0, Sends(b"more")),
+    Step::Client(0, Ends),
+    Turn(5, 0, 0),
+    Step::Client(0, IsClosed),
+];
+
+static IN_ORDER: [Step; 11] = [
+    Step::Client(0, Sends(b"GET /indi")),
+    Step::Client(1, Sends(b"GET /ind")),
+    Turn(0, 0, 3),
+    Step::Client(2, SendsMany(9_217)),
+    Step::Client(1, Ends),
+    // as it stands
+    Turn(1, 8, 3),
+    Answer(1),
+    Step::Client(0, Sends(b"cation HTTP/1.1\r\n\r\n")),
+    Turn(2, 9_216, 2),
+    Answer(2),
+    Turn(3, 28, 2),
+];
+
+static SILENT: [Step; 7] = [
+    Turn(0, 0, 16),
+    Turn(4, 0, 16),
+    Turn(5, 0, 0),
+    Turn(6, 0, 1),
+    Turn(10, 0, 1),
+    Turn(11, 0, 0),
+    WithoutRequest(17),
+];
+
+static SLOW: [Step; 28] = [
+    Step::Client(0, Sends(b"GET /")),
+    Step::Client(1, Sends(b"G")),
+    Turn(0, 0, 2),
+    Step::Client(1, Sends(b"G")),
+    Turn(1, 0, 2),
+    Step::Client(1, Sends(b"G")),
+    Turn(2, 0, 2),
+    Step::Client(1, Sends(b"G")),
+    Turn(3, 0, 2),
+    Step::Client(1, Sends(b"G")),
+    Turn(4, 0, 2),
+    Step::Client(1, Sends(b"G")),
+    Turn(5, 5, 2),
+    Step::Client(1, Sends(b"G")),
+    Turn(6, 0, 2),
+    Step::Client(1, Sends(b"G")),
+    Turn(7, 0, 2),
+    Step::Client(1, Sends(b"G")),
+    Turn(8, 0, 2),
+    Step::Client(1, Sends(b"G")),
+    Turn(9, 0, 2),
+    Answer(9),
+    Step::Client(1, Sends(b"G")),
+    Turn(10, 11, 2),
+    Answer(10),
+    // five seconds after its response
+    Turn(13, 0, 2),
+    Turn(14, 0, 1),
+    Turn(15, 0, 0),
+];
+
+static REST: [Step; 16] = [
+    Step::Client(0, Takes(4)),
+    Step::Client(0, Sends(b"GET /indication HTTP/1.1\r\n\r\n")),
+    Step::Client(1, Takes(4)),
+    Step::Client(1, Sends(b"GET /indication HTTP/1.1\r\n\r\n")),
+    Turn(0, 28, 2),
+    Answer(0),
+    Turn(0, 28, 2),
+    Answer(0),
+    Step::Client(0, Takes(10)),
+    Turn(29, 0, 2),
+    // the other one took nothing for thirty seconds
+    Turn(30, 0, 1),
+    Step::Client(0, Got(14, false)),
+    Step::Client(1, Got(4, false)),
+    Step::Client(0, Takes(100)),
+    Turn(58, 0, 1),
+    Step::Client(0, Got(27, true)),
+];
+
+/// An office, and what its turns take.
+#[derive(Drop)]
+struct Desk<'a> {
+    alloc: Global,
+    start: Instant,
+    requests: StationRequests,
+    office: Office<Door<'a>>,
+    wires: &'a [Wire<'a>],
+    report: Report<'a, Bench>,
+}
+
+impl<'a> Desk<'a> {
+    fn new(alloc: Global, bench: &'a Bench, wires: &'a [Wire<'a>]) -> Result<Self, Fail> {
+        Ok(Desk {
+            alloc,
+            start: Instant::now(bench)?,
+            requests: StationRequests::new(alloc)?,
+            office: Office::new(alloc, Door::new(wires))?,
+            wires,
+            report: Report::new(bench, false),
+        })
+    }
+
+    /// Takes a step. False if anything else is seen than must be.
+    fn plays(&mut self, step: &Step) -> bool {
+        match step {
+            Step::Client(at, client) => plays(self.wires, *at, client),
+            Turn(seconds, count, kept) => self.turn(*seconds) == (*count, *kept),
+            Answer(seconds) => self.answer(*seconds),
+            WithoutRequest(count) => self.office.without_request() == *count,
+        }
+    }
+
+    /// A turn at so many seconds: how many bytes a request has that is handed out, and how many connections are kept.
+    fn turn(&mut self, seconds: u64) -> (usize, usize) {
+        let now = after(self.start, seconds);
+        self.office
+            .step(self.alloc, &self.requests, now, &self.report);
+        let mut room = [0u8; REQUEST_ROOM];
+        let count = self.office.take(&mut room).unwrap_or(0);
+        (count, self.office.len())
+    }
+
+    /// Answers the request that was handed out. False if none was.
+    fn answer(&mut self, seconds: u64) -> bool {
+        let now = after(self.start, seconds);
+        self.office.respond(self.alloc, now, ANSWER).is_some()
+    }
+}
+
+/// Takes steps at an office with so many clients.
+fn play(rt: &(impl AllocGlobal + Abort), clients: usize, steps: &[Step]) -> Result<(), Fail> {
+    let bench = Bench::new(rt.alloc());
+    let mut wires = Vec::new(rt.alloc());
+    for _ in 0..clients {
+        wires.push(Wire::new(&bench))?;
+    }
+    play_over(rt, &bench, wires.as_slice(), steps)
+}
+
+/// Takes steps over these connections.
+fn play_over(
+    rt: &(impl AllocGlobal + Abort),
+    bench: &Bench,
+    wires: &[Wire<'_>],
+    steps: &[Step],
+) -> Result<(), Fail> {
+    let mut desk = Desk::new(rt.alloc(), bench, wires)?;
+    take_steps(rt, &mut desk, steps);
+    Ok(())
+}
+
+fn take_steps(rt: &impl Abort, desk: &mut Desk<'_>, steps: &[Step]) {
+    for (index, step) in steps.iter().enumerate() {
+        assert!(rt; desk.plays(step), "step {index}");
+    }
+}
+
+#[test]
+fn answers_a_request_that_came_in_pieces(rt: HostRuntime) -> Result<(), Fail> {
+    play(&rt, 1, &IN_PIECES)
+}
+
+#[test]
+fn judges_in_the_order_in_which_they_became_whole(rt: HostRuntime) -> Result<(), Fail> {
+    play(&rt, 3, &IN_ORDER)
+}
+
+#[test]
+fn closes_sixteen_silent_ones_for_the_next(rt: HostRuntime) -> Result<(), Fail> {
+    play(&rt, 17, &SILENT)
+}
+
+#[test]
+fn judges_as_it_stands_what_comes_too_slowly(rt: HostRuntime) -> Result<(), Fail> {
+    play(&rt, 2, &SLOW)
+}
+
+#[test]
+fn keeps_the_rest_of_a_response(rt: HostRuntime) -> Result<(), Fail> {
+    play(&rt, 2, &REST)
+}

@@ -1,0 +1,164 @@
+//! The terminal's connection over turns.
+use self::Step::{HangsUp, Replies, Reply, Turn};
+use super::clients::Client::{Ends, Got, IsClosed, IsOpen, Sends, SendsMany, Takes};
+use super::clients::{Client, plays};
+use super::memory::{Bench, Door, Wire, after};
+use std::alloc::Global;
+use std::process::Abort;
+use std::test::Fail;
+use std::time::Instant;
+use wb_connections::{Report, Terminal};
+use wb_sources::{TERMINAL_ROOM, Taken};
+
+/// What happens at a terminal's listener, and what must be seen then.
+#[derive(Clone, Copy, Drop)]
+enum Step {
+    /// What one of the terminals that connect does or finds.
+    Client(usize, Client),
+    /// A turn at so many seconds takes so many bytes, and the connection goes on.
+    Turn(u64, usize),
+    /// A turn at so many seconds takes nothing, and the connection ended.
+    HangsUp(u64),
+    /// Replies at so many seconds.
+    Reply(u64, &'static [u8]),
+    /// 1,024 replies of 64 bytes each, at so many seconds.
+    Replies(u64),
+}
+
+static ALL_BYTES: [Step; 12] = [
+    Step::Client(0, SendsMany(300)),
+    Step::Client(0, Ends),
+    Turn(0, 256),
+    Turn(1, 44),
+    Reply(1, b"ES\r\n"),
+    Step::Client(0, Got(4, false)),
+    HangsUp(2),
+    Step::Client(0, IsClosed),
+    Reply(2, b"ES\r\n"),
+    Step::Client(1, Sends(b"SI\r\n")),
+    // the next one is accepted in a later turn
+    Turn(3, 4),
+    // it gets no reply of the one before
+    Step::Client(1, Got(0, false)),
+];
+
+static DEAF: [Step; 10] = [
+    Turn(0, 0),
+    Step::Client(0, Takes(5)),
+    Reply(0, b"ES\r\n"),
+    Reply(10, b"ES\r\n"),
+    Reply(14, b"ES\r\n"),
+    Turn(14, 0),
+    Step::Client(0, Got(5, false)),
+    Step::Client(0, Sends(b"SI")),
+    HangsUp(15),
+    Step::Client(0, IsClosed),
+];
+
+static TOO_MANY: [Step; 9] = [
+    Turn(0, 0),
+    Step::Client(0, Takes(1)),
+    Replies(1),
+    Reply(1, b"x"),
+    // 65,536 bytes wait, and one was taken
+    Step::Client(0, IsOpen),
+    Reply(1, b"x"),
+    Step::Client(0, IsClosed),
+    HangsUp(2),
+    Turn(2, 0),
+];
+
+/// A terminal, and what its turns take.
+#[derive(Drop)]
+struct Desk<'a> {
+    start: Instant,
+    terminal: Terminal<Door<'a>>,
+    wires: &'a [Wire<'a>],
+    report: Report<'a, Bench>,
+}
+
+impl<'a> Desk<'a> {
+    fn new(alloc: Global, bench: &'a Bench, wires: &'a [Wire<'a>]) -> Result<Self, Fail> {
+        Ok(Desk {
+            start: Instant::now(bench)?,
+            terminal: Terminal::new(alloc, Door::new(wires))?,
+            wires,
+            report: Report::new(bench, false),
+        })
+    }
+
+    /// Takes a step. False if anything else is seen than must be.
+    fn plays(&mut self, step: &Step) -> bool {
+        match step {
+            Step::Client(at, client) => return plays(self.wires, *at, client),
+            Turn(seconds, count) => return self.turn(*seconds) == (*count, false),
+            HangsUp(seconds) => return self.turn(*seconds) == (0, true),
+            Reply(seconds, bytes) => self.reply(*seconds, bytes),
+            Replies(seconds) => self.reply_often(*seconds),
+        }
+        true
+    }
+
+    /// A turn at so many seconds: how many bytes it takes, and whether the connection ended after them.
+    fn turn(&mut self, seconds: u64) -> (usize, bool) {
+        let mut room = [0u8; TERMINAL_ROOM];
+        let now = after(self.start, seconds);
+        let Taken { count, hung_up } = self.terminal.take(now, &self.report, &mut room);
+        (count, hung_up)
+    }
+
+    fn reply(&mut self, seconds: u64, bytes: &[u8]) {
+        let now = after(self.start, seconds);
+        self.terminal.reply(now, &self.report, bytes);
+    }
+
+    /// 1,024 replies of 64 bytes each.
+    fn reply_often(&mut self, seconds: u64) {
+        for _ in 0..1_024 {
+            self.reply(seconds, &[b'x'; 64]);
+        }
+    }
+}
+
+/// Takes steps at a listener on which so many terminals connect, one after the other.
+fn play(rt: &(impl AllocGlobal + Abort), terminals: usize, steps: &[Step]) -> Result<(), Fail> {
+    let bench = Bench::new(rt.alloc());
+    let mut wires = Vec::new(rt.alloc());
+    for _ in 0..terminals {
+        wires.push(Wire::new(&bench))?;
+    }
+    play_over(rt, &bench, wires.as_slice(), steps)
+}
+
+/// Takes steps over these connections.
+fn play_over(
+    rt: &(impl AllocGlobal + Abort),
+    bench: &Bench,
+    wires: &[Wire<'_>],
+    steps: &[Step],
+) -> Result<(), Fail> {
+    let mut desk = Desk::new(rt.alloc(), bench, wires)?;
+    take_steps(rt, &mut desk, steps);
+    Ok(())
+}
+
+fn take_steps(rt: &impl Abort, desk: &mut Desk<'_>, steps: &[Step]) {
+    for (index, step) in steps.iter().enumerate() {
+        assert!(rt; desk.plays(step), "step {index}");
+    }
+}
+
+#[test]
+fn hands_in_all_bytes_before_the_hang_up(rt: HostRuntime) -> Result<(), Fail> {
+    play(&rt, 2, &ALL_BYTES)
+}
+
+#[test]
+fn hangs_up_one_that_takes_nothing_for_five_seconds(rt: HostRuntime) -> Result<(), Fail> {
+    play(&rt, 1, &DEAF)
+}
+
+#[test]
+fn hangs_up_one_for_which_too_many_replies_wait(rt: HostRuntime) -> Result<(), Fail> {
+    play(&rt, 1, &TOO_MANY)
+}
