@@ -32,20 +32,23 @@ pub(crate) fn check_command<'a>(alloc: Global) -> Result<Command<'a>, AllocError
         .arg(file_argument(alloc, "file of the journal, which has to be there"))
 }
 
-/// The subcommand `export`.
-pub(crate) fn export_command<'a>(alloc: Global) -> Result<Command<'a>, AllocError> {
-    let what = Arg::new(alloc, "what")
+fn what_argument<'a>(alloc: Global) -> Arg<'a> {
+    Arg::new(alloc, "what")
         .long("what")
         .value_name("WHAT")
         .required(true)
         .action(ArgAction::Set)
         .value_parser(EXPORTS.as_slice())
-        .help("what to print");
-    Command::new(alloc, "export")
+        .help("what to print")
+}
+
+/// The subcommand `export`.
+pub(crate) fn export_command<'a>(alloc: Global) -> Result<Command<'a>, AllocError> {
+    let export = Command::new(alloc, "export")
         .about("prints the journal in a file, or its tickets, as CSV")
         .after_help(EXPORT_EXAMPLE)
-        .arg(file_argument(alloc, "file of the journal, which has to be there"))?
-        .arg(what)
+        .arg(file_argument(alloc, "file of the journal, which has to be there"))?;
+    export.arg(what_argument(alloc))
 }
 
 /// The file that the words name. None if they name none, which `clap` doesn't let through.

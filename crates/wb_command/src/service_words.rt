@@ -68,23 +68,31 @@ fn with_texts<'a>(alloc: Global, command: Command<'a>) -> Result<Command<'a>, Al
     Ok(command)
 }
 
-/// The subcommand `serve`.
-pub(crate) fn serve_command<'a>(alloc: Global) -> Result<Command<'a>, AllocError> {
-    let turns = Arg::new(alloc, "turns")
+fn turns_argument<'a>(alloc: Global) -> Arg<'a> {
+    Arg::new(alloc, "turns")
         .long("turns")
         .action(ArgAction::Set)
         .value_parser(value_parser!(u64).range(1..=MOST_TURNS))
         .default_value("1000000")
-        .help("turns after which it ends, each with a line of the converter: 1 to 1000000000");
-    let verbose = Arg::new(alloc, "verbose")
+        .help("turns after which it ends, each with a line of the converter: 1 to 1000000000")
+}
+
+fn verbose_argument<'a>(alloc: Global) -> Arg<'a> {
+    Arg::new(alloc, "verbose")
         .long("verbose")
         .action(ArgAction::SetTrue)
-        .help("report connections, requests and faults on standard error");
+        .help("report connections, requests and faults on standard error")
+}
+
+/// The subcommand `serve`.
+pub(crate) fn serve_command<'a>(alloc: Global) -> Result<Command<'a>, AllocError> {
     let serve = Command::new(alloc, "serve")
         .about("serves a weighbridge: its converter, its terminal and its office")
         .after_help(EXAMPLE)
         .arg(file_argument(alloc, "file of the journal, made if it isn't there"))?;
-    let serve = with_texts(alloc, serve)?.arg(turns)?.arg(verbose)?;
+    let serve = with_texts(alloc, serve)?;
+    let serve = serve.arg(turns_argument(alloc))?;
+    let serve = serve.arg(verbose_argument(alloc))?;
     with_setup(alloc, serve)
 }
 

@@ -86,18 +86,49 @@ fn check_of(alloc: Global, words: &ArgMatches<'_>) -> Result<Asked, AllocError> 
     }
 }
 
-/// The whole command line.
-fn command<'a>(alloc: Global) -> Result<Command<'a>, AllocError> {
+/// The subcommand `replay`.
+fn replay_command<'a>(alloc: Global) -> Result<Command<'a>, AllocError> {
     let replay = Command::new(alloc, "replay")
         .about("replays a trace from standard input, and prints the replies")
         .after_help(REPLAY_EXAMPLE);
-    Command::new(alloc, "weighbridge")
+    with_setup(alloc, replay)
+}
+
+/// What the program can be asked to do.
+#[derive(Clone, Copy)]
+enum Subcommand {
+    Replay,
+    Serve,
+    Check,
+    Export,
+}
+
+/// The subcommands, in the order in which help shows them.
+static SUBCOMMANDS: [Subcommand; 4] = [
+    Subcommand::Replay,
+    Subcommand::Serve,
+    Subcommand::Check,
+    Subcommand::Export,
+];
+
+fn subcommand_of<'a>(alloc: Global, name: Subcommand) -> Result<Command<'a>, AllocError> {
+    match name {
+        Subcommand::Replay => replay_command(alloc),
+        Subcommand::Serve => serve_command(alloc),
+        Subcommand::Check => check_command(alloc),
+        Subcommand::Export => export_command(alloc),
+    }
+}
+
+/// The whole command line.
+fn command<'a>(alloc: Global) -> Result<Command<'a>, AllocError> {
+    let mut command = Command::new(alloc, "weighbridge")
         .about("terminal and office of a public weighbridge")
         .version(VERSION)
         .subcommand_required(true)
-        .arg_required_else_help(true)
-        .subcommand(with_setup(alloc, replay)?)?
-        .subcommand(serve_command(alloc)?)?
-        .subcommand(check_command(alloc)?)?
-        .subcommand(export_command(alloc)?)
+        .arg_required_else_help(true);
+    for name in SUBCOMMANDS.as_slice() {
+        command = command.subcommand(subcommand_of(alloc, *name)?)?;
+    }
+    Ok(command)
 }

@@ -71,14 +71,22 @@ fn stable_after<W: Window>(window: &mut W, loads: &[i32]) -> bool {
     window.stable()
 }
 
+static ENDS: [i32; 5] = [9_172, 9_172, 9_170, 9_170, 9_169];
+
+fn stable_after_ends(alloc: Global, size: usize) -> Result<[bool; 2], Fail> {
+    let mut ring = RingWindow::new(alloc, size, 2)?;
+    let mut deque = DequeWindow::new(alloc, size, 2)?;
+    Ok([
+        stable_after(&mut ring, &ENDS),
+        stable_after(&mut deque, &ENDS),
+    ])
+}
+
 #[test]
 fn ends_that_agree_do_not_make_it_stable(rt: HostRuntime) -> Result<(), Fail> {
-    let loads = [9_172, 9_172, 9_170, 9_170, 9_169];
     for size in [4, 5] {
-        let mut ring = RingWindow::new(rt.alloc(), size, 2)?;
-        assert!(rt; !stable_after(&mut ring, &loads), "{size} readings");
-        let mut deque = DequeWindow::new(rt.alloc(), size, 2)?;
-        assert!(rt; !stable_after(&mut deque, &loads), "{size} readings");
+        let stable = stable_after_ends(rt.alloc(), size)?;
+        assert!(rt; stable == [false, false], "{size} readings: {stable:?}");
     }
     Ok(())
 }
