@@ -1,5 +1,5 @@
 //! The routes of the office.
-ghost use Rattle.std.specs.Prelude.{◌≡◌, IfErr, IfOk, IsUtf8};
+ghost use Rattle.std.specs.Prelude.{◌≡◌, [], IfErr, IfOk, IsUtf8, OnOk};
 ghost use Rattle.matchit.specs.declared.error.InsertError.TheVariants.{OutOfMemory};
 ghost use Rattle.wb_station.specs.Router.{table};
 ghost use Rattle.wb_text.specs.Digits.{digits};
@@ -96,6 +96,16 @@ fn router(alloc: Global) -> Result<Router<Route>, InsertError>
     ensures memory { IfErr result (λ e. e ≡ OutOfMemory) }
 {
     let mut router = Router::new(alloc);
+    add_routes(&mut router)?;
+    Ok(router)
+}
+
+/// Adds the routes to a router that has none.
+fn add_routes(router: &mut Router<Route>) -> Result<(), InsertError>
+    requires { router.old ≡ [] }
+    ensures value { OnOk result (router.new ≡ table) }
+    ensures memory { IfErr result (λ e. e ≡ OutOfMemory) }
+{
     router.insert("/weighings", Route::Weighings)?;
     router.insert("/voids", Route::Voids)?;
     router.insert("/purge", Route::Purge)?;
@@ -104,7 +114,7 @@ fn router(alloc: Global) -> Result<Router<Route>, InsertError>
     router.insert("/journal.csv", Route::JournalCsv)?;
     router.insert("/tickets.csv", Route::TicketsCsv)?;
     router.insert("/check", Route::Check)?;
-    Ok(router)
+    Ok(())
 }
 
 /// The route of a target.
