@@ -4,12 +4,14 @@
 mod service;
 
 use crate::service::serve_bridge;
+use sqlite::Alter;
 use std::io;
 use std::process::ExitCode;
 use wb_command::{Asked, REFUSED, Service, read_words};
 use wb_file::JournalFile;
 use wb_instrument::Instrument;
 use wb_program::{PrintFault, ReplayEnd, ServeEnd, What, print_check, print_export, replay};
+use wb_store::Store;
 
 /// The status of a damaged journal, and of any fault but refused words or a refused setup.
 const FAULT: u8 = 1;
@@ -22,9 +24,9 @@ fn main(rt: HostRuntime) -> io::Result<ExitCode> {
     match read_words(rt.alloc(), words.as_slice())? {
         Asked::Replay(instrument) => run_replay(&rt, instrument),
         Asked::Serve(instrument, service) => run_serve(&rt, instrument, &service),
-        Asked::Check(path) => run_check(&rt, path.as_str()),
-        Asked::ExportJournal(path) => run_export(&rt, path.as_str(), What::Journal),
-        Asked::ExportTickets(path) => run_export(&rt, path.as_str(), What::Tickets),
+        Asked::Check(path) => run_print(&rt, path.as_str(), Print::Check),
+        Asked::ExportJournal(path) => run_print(&rt, path.as_str(), Print::Export(What::Journal)),
+        Asked::ExportTickets(path) => run_print(&rt, path.as_str(), Print::Export(What::Tickets)),
         Asked::SetupRefused(fault) => {
             eprintln!(rt; "{fault}")?;
             Ok(ExitCode::from(fault.status()))
@@ -70,39 +72,44 @@ fn end_service(rt: &HostRuntime, end: ServeEnd) -> io::Result<ExitCode> {
     Ok(ExitCode::from(end.status()))
 }
 
-/// Prints what the check of the journal in the file finds.
-fn run_check(rt: &HostRuntime, path: &str) -> io::Result<ExitCode> {
-    match check_file(rt, path) {
+/// What is printed of a journal.
+#[derive(Clone, Copy)]
+enum Print {
+    Check,
+    Export(What),
+}
+
+/// Prints this of the journal in the file, or reports the fault that was met.
+fn run_print(rt: &HostRuntime, path: &str, print: Print) -> io::Result<ExitCode> {
+    match print_file(rt, path, print) {
         Ok(true) => Ok(ExitCode::SUCCESS),
         Ok(false) => Ok(ExitCode::from(FAULT)),
-        Err(fault) => report(rt, fault),
+        Err(fault) => {
+            eprintln!(rt; "{fault}")?;
+            Ok(ExitCode::from(FAULT))
+        }
     }
 }
 
-fn check_file(rt: &HostRuntime, path: &str) -> Result<bool, PrintFault> {
+fn print_file(rt: &HostRuntime, path: &str, print: Print) -> Result<bool, PrintFault> {
     match JournalFile::open_kept(rt, path) {
-        Ok(mut journal) => print_check(rt.alloc(), journal.store(), &mut io::writer(rt)),
+        Ok(mut journal) => print_from(rt, journal.store(), print),
         Err(fault) => Err(PrintFault::Store(fault)),
     }
 }
 
-/// Prints an export of the journal in the file.
-fn run_export(rt: &HostRuntime, path: &str, what: What) -> io::Result<ExitCode> {
-    match export_file(rt, path, what) {
-        Ok(()) => Ok(ExitCode::SUCCESS),
-        Err(fault) => report(rt, fault),
+/// Answers whether no damage was found; an export looks for none.
+fn print_from<D: Alter>(
+    rt: &HostRuntime,
+    store: &mut Store<D>,
+    print: Print,
+) -> Result<bool, PrintFault> {
+    let out = &mut io::writer(rt);
+    match print {
+        Print::Check => print_check(rt.alloc(), store, out),
+        Print::Export(what) => {
+            print_export(rt.alloc(), store, what, out)?;
+            Ok(true)
+        }
     }
-}
-
-fn export_file(rt: &HostRuntime, path: &str, what: What) -> Result<(), PrintFault> {
-    match JournalFile::open_kept(rt, path) {
-        Ok(mut journal) => print_export(rt.alloc(), journal.store(), what, &mut io::writer(rt)),
-        Err(fault) => Err(PrintFault::Store(fault)),
-    }
-}
-
-/// Reports a fault by its line.
-fn report(rt: &HostRuntime, fault: PrintFault) -> io::Result<ExitCode> {
-    eprintln!(rt; "{fault}")?;
-    Ok(ExitCode::from(FAULT))
 }

@@ -1,5 +1,6 @@
 //! The service of a bridge, over files and sockets.
-use sqlite::{File, FileStore};
+use sqlite::{Alter, File, FileStore};
+use std::net::TcpListener;
 use thiserror::Error;
 use wb_command::Service;
 use wb_file::JournalFile;
@@ -7,6 +8,7 @@ use wb_instrument::Instrument;
 use wb_program::{PrintFault, ServeEnd, serve};
 use wb_sockets::{AddressFault, Converter, ConverterFault, Sockets, StartFault, listen};
 use wb_station::Station;
+use wb_store::Store;
 use wb_window::DequeWindow;
 
 /// Why a service didn't start, in the order in which it is found.
@@ -57,22 +59,22 @@ pub(crate) fn serve_bridge(
     service: &Service,
 ) -> Result<ServeEnd, ServiceFault> {
     let mut station = FileStation::open(rt, instrument, service.file.as_str())?;
-    serve_station(rt, service, &mut station)
-}
-
-/// Serves a station over the sockets and the converter of the service.
-fn serve_station(
-    rt: &HostRuntime,
-    service: &Service,
-    station: &mut FileStation,
-) -> Result<ServeEnd, ServiceFault> {
-    let terminal = listen(rt, service.terminal.as_str())?;
-    let office = listen(rt, service.office.as_str())?;
-    let converter = Converter::open(rt, service.converter.as_str())?;
-    let mut sources = Sockets::new(rt, terminal, office, converter, service.is_verbose)?;
+    let mut sources = open_sources(rt, service)?;
     let end = serve(&mut station.station, &mut sources, service.turns);
     sources.finish();
     Ok(end)
+}
+
+/// The sockets and the converter of the service.
+fn open_sources<'a>(
+    rt: &'a HostRuntime,
+    service: &Service,
+) -> Result<Sockets<'a, HostRuntime, TcpListener>, ServiceFault> {
+    let terminal = listen(rt, service.terminal.as_str())?;
+    let office = listen(rt, service.office.as_str())?;
+    let converter = Converter::open(rt, service.converter.as_str())?;
+    let sources = Sockets::new(rt, terminal, office, converter, service.is_verbose)?;
+    Ok(sources)
 }
 
 /// A station over the journal in a file. Like the journal's file it lets go by hand what it holds.
@@ -94,26 +96,27 @@ impl FileStation {
         path: &str,
     ) -> Result<FileStation, ServiceFault> {
         match JournalFile::open(rt, path) {
-            Ok(journal) => FileStation::over(rt, instrument, journal),
+            Ok(journal) => match station_over(rt, instrument, journal.into_store()) {
+                Ok(station) => Ok(FileStation { station }),
+                Err(fault) => Err(fault),
+            },
             Err(fault) => Err(ServiceFault::Journal(PrintFault::Store(fault))),
         }
     }
+}
 
-    fn over(
-        rt: &HostRuntime,
-        instrument: Instrument,
-        journal: JournalFile,
-    ) -> Result<FileStation, ServiceFault> {
-        let Ok(window) = DequeWindow::new(
-            rt.alloc(),
-            instrument.window() as usize,
-            instrument.band(),
-        ) else {
-            return Err(ServiceFault::Memory);
-        };
-        match Station::open(rt.alloc(), instrument, window, journal.into_store()) {
-            Ok(station) => Ok(FileStation { station }),
-            Err(_) => Err(ServiceFault::Memory),
-        }
+/// A station over the store.
+fn station_over<D: Alter + Drop>(
+    rt: &HostRuntime,
+    instrument: Instrument,
+    store: Store<D>,
+) -> Result<Station<DequeWindow, D>, ServiceFault> {
+    let Ok(window) = DequeWindow::new(rt.alloc(), instrument.window() as usize, instrument.band())
+    else {
+        return Err(ServiceFault::Memory);
+    };
+    match Station::open(rt.alloc(), instrument, window, store) {
+        Ok(station) => Ok(station),
+        Err(_) => Err(ServiceFault::Memory),
     }
 }
