@@ -98,7 +98,7 @@ fn print_file(rt: &HostRuntime, path: &str, print: Print) -> Result<bool, PrintF
     }
 }
 
-/// Answers whether no damage was found; an export looks for none.
+/// Prints this of the store's journal. Answers false where a check finds damage.
 fn print_from<D: Alter>(
     rt: &HostRuntime,
     store: &mut Store<D>,
