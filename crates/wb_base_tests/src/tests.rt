@@ -4,6 +4,7 @@ mod instrument;
 mod journal;
 mod nets;
 mod scale;
+mod sources;
 mod terminal;
 mod window;
 

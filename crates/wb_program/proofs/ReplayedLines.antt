@@ -12,6 +12,7 @@ use Rattle.wb_program.specs.Trace.{both, trace_events}
 use Rattle.wb_program.specs.TraceLines.{line_events}
 use Rattle.wb_program.proofs.PerformedHappenings.{Performed-append, Performed-none}
 use Rattle.wb_sics.specs.Stands.{TerminalState}
+use Rattle.wb_station.proofs.offered.Runs.{leads}
 use Rattle.wb_station.specs.Happening.{Happening}
 use Rattle.wb_station.specs.Stands.{Hears, Stands}
 use Rattle.wb_store.specs.Journal.{StoreView}
@@ -54,10 +55,11 @@ Progress-next done line evs t j t' j' t'' j'' x y z known so_far next = record {
 
 pub Replayed-from : (done : List (List ℕ)) (t : TerminalState) (j : Journal) (t' : TerminalState) (j' : Journal) (x y : Option (List ℕ)) → Stands over_memory at_first t j [] → Hears t [] → Progress done t j t' j' x y
     → Replayed t.scale.setup done x y
-Replayed-from done t j t' j' x y stood heard p = let ran = p.performed.ran in record {
+Replayed-from done t j t' j' x y stood heard p = let ran = leads over_memory p.performed.happenings t j t' j' p.performed.outs p.performed.ran in record {
   happenings = p.performed.happenings;
   outs = p.performed.outs;
   understood = p.understood ∙ ap (λ l. Some (reverse l)) (sym p.performed.as_asked);
+  ran = record { terminal = t; store = j; terminal_after = t'; store_after = j'; setup = refl; stands = stood; hears = heard; ran = p.performed.ran };
   may_be_unmade = ran.may_be_unmade;
   put_out = ran.put_out at_first [] stood (memory_is_clean j'.conn);
   replies = ran.replies [] heard;

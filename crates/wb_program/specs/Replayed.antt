@@ -2,20 +2,36 @@
 use Rattle.std.specs.Prelude.{◌≡◌, ℕ, ◌+◌, ◌≤◌, ◌<◌, List, [], length, map, take, reverse, Option, Some, None, IfSome, option_map, slice_get}
 use Rattle.std.specs.Io.KnownBytes.{Appends}
 use Rattle.std.specs.Str.Lines.{lines}
+use Rattle.sqlite.specs.Steps.{over_memory}
+use Rattle.sqlite_trees.specs.declared.memory.MemStore.{MemStore}
 use Rattle.wb_instrument.specs.Setup.{Setup}
 use Rattle.wb_program.specs.declared.replaying.ReplayEnd.{ReplayEnd}
 use Rattle.wb_program.specs.declared.replaying.ReplayEnd.TheVariants.{Done, BadLine, TooLong, ReadFault, WriteFault, Memory}
 use Rattle.wb_program.specs.TraceLines.{line_events}
 use Rattle.wb_program.specs.Trace.{trace_events, trace_limit}
 use Rattle.wb_program.specs.PrintedOutputs.{printed}
+use Rattle.wb_sics.specs.Stands.{TerminalState}
 use Rattle.wb_station.specs.Account.{Account, Out, opened}
 use Rattle.wb_station.specs.Happening.{Happening, unmarked}
-use Rattle.wb_station.specs.RunOfEvents.{AreOuts, AreReplies}
+use Rattle.wb_station.specs.RunOfEvents.{AreOuts, AreReplies, Ran}
+use Rattle.wb_station.specs.Stands.{Hears, Stands}
 use Rattle.wb_station.specs.Unmade.{AllMayBeUnmade}
+use Rattle.wb_store.specs.Journal.{StoreView}
 
 -- a journal without entries, and a terminal to which nothing has come
 abbrev pub at_first : Account
 at_first = opened [] []
+
+-- a station over a journal in memory, to which nothing had come, took these, one after the other
+pub record RanAtFirst (s : Setup) (happenings : List Happening) (outs : List Out) : Type 0 where
+  pub terminal : TerminalState
+  pub store : StoreView MemStore
+  pub terminal_after : TerminalState
+  pub store_after : StoreView MemStore
+  pub setup : terminal.scale.setup ≡ s
+  pub stands : Stands over_memory at_first terminal store []
+  pub hears : Hears terminal []
+  pub ran : Ran over_memory happenings terminal store terminal_after store_after outs
 
 -- lines were understood, and what was written is the printed form of what a station puts out at them: its happenings, the newest
 -- first, are those of the lines, but that a request which may want memory or asks the store may count as never made
@@ -23,6 +39,7 @@ pub record Replayed (s : Setup) (ls : List (List ℕ)) (w w' : Option (List ℕ)
   pub happenings : List Happening
   pub outs : List Out
   pub understood : trace_events ls ≡ Some (reverse (map unmarked happenings))
+  pub ran : RanAtFirst s happenings outs
   pub may_be_unmade : AllMayBeUnmade happenings
   pub put_out : AreOuts s at_first happenings [] outs
   pub replies : AreReplies s happenings [] outs

@@ -1,5 +1,5 @@
 //! Sources in memory.
-ghost use Rattle.std.specs.Prelude.{◌≡◌, ◌≤◌, ◌∷◌, [], false, length};
+ghost use Rattle.std.specs.Prelude.{◌≡◌, ◌∷◌, [], false, length, min, take};
 ghost use Rattle.wb_sources.specs.SourcesInMemory.{answer_of, handed_of, told_of};
 ghost use Rattle.wb_sources.specs.SourceAnswers.{IsConverted, Tells, timed};
 
@@ -222,7 +222,8 @@ fn in_range(converter: Converter) -> Converter
 
 /// Copies as many of the bytes as there is place for, and gives their number.
 fn fill(room: &mut [u8], bytes: &[u8]) -> usize
-    ensures within { result ≤ length room.old }
+    ensures count { result ≡ min (length bytes.now) (length room.old) }
+    ensures copied { take result room.new ≡ take result bytes.now }
     ensures length { length room.new ≡ length room.old }
 {
     let count = bytes.len().min(room.len());

@@ -18,44 +18,55 @@ use Rattle.wb_store.specs.Lists.{AreLists}
 use Rattle.wb_station.specs.Account.{Account, Comes, IsAccount, IsOut, IsResponse, Out, hears, nothing, opened, replied, responded}
 use Rattle.wb_station.specs.Response.{IsDateOf, Told, response_text}
 use Rattle.wb_station.specs.Happening.{Happening, heard_of, reading, byte, hang_up, office, unmarked}
-use Rattle.wb_station.specs.Stands.{Hears, IsKept, IsLedTo, IsReplied, LeavesSoon, MustBeUnmade, OneMore, Stands, Took}
+use Rattle.wb_station.specs.Stands.{Hears, IsAnsweredOutright, IsButForOne, IsKept, IsOfHistory, IsReplied, LeavesSoon, MustBeUnmade, Stands, Took}
 use Rattle.wb_station.specs.Unmade.{MayBeUnmade}
 use Rattle.wb_window.specs.declared.reading.Reading.{Reading as Load}
 
--- an account with the same lists
-pub same_lists : {D : Type 0} (g : Ghosts D) (s : Setup) (j : StoreView D) (a b : Account) → a.entries ≡ b.entries → a.spent ≡ b.spent → LeavesSoon g s j a → LeavesSoon g s j b
-same_lists g s j a b es ks soon db may = one (soon db may)
-  where
-    one : Reopens db a.entries a.spent ⊎ OneMore s a db → Reopens db b.entries b.spent ⊎ OneMore s b db
-    one (inl r) = inl (subst (λ ks. Reopens db b.entries ks) ks (subst (λ es. Reopens db es a.spent) es r))
-    one (inr more) = inr (record {
-      before = more.before;
-      entries = more.entries ∙ es;
-      spent = more.spent ∙ ks;
-      happening = more.happening;
-      leads = more.leads;
-    })
+module _ (s : Setup) (opening : Account) (h : List Happening) (db : Trees) where
+  -- what a crash leaves is of a history too to which a happening came that adds nothing to the lists
+  pub one_later : (p : Happening) → MustBeUnmade p → ((a : Account) → (b : Account) × (out : Out) × Comes s p a b out × (b.entries ≡ a.entries) × (b.spent ≡ a.spent))
+      → IsOfHistory s opening h db → IsOfHistory s opening (p ∷ h) db
+  one_later p must comes is =
+      let next = comes is.account in
+      record {
+        history = p ∷ is.history;
+        same = either is.same;
+        account = next.0;
+        is_account = (is.account, is.is_account, (next.1, next.2));
+        reopens = subst (λ ks. Reopens db next.0.entries ks) (sym next.4) (subst (λ es. Reopens db es is.account.spent) (sym next.3) is.reopens);
+      }
+    where
+      either : (is.history ≡ h) ⊎ IsButForOne h is.history → (p ∷ is.history ≡ p ∷ h) ⊎ IsButForOne (p ∷ h) (p ∷ is.history)
+      either (inl same) = inl (ap (λ l. p ∷ l) same)
+      either (inr but) = inr (inr (must, is.history, refl, but))
+
+  -- it is that of the history itself
+  pub of_account : (a : Account) → IsAccount s opening h a → Reopens db a.entries a.spent → IsOfHistory s opening h db
+  of_account a is reopens = record { history = h; same = inl refl; account = a; is_account = is; reopens = reopens }
 
 module _ {D : Type 0} (g : Ghosts D) (p : Happening) (e : AtTerminal) (out : Out) (t t' : TerminalState) (j : StoreView D) where
   -- something comes to the terminal, and the store is as it was
   pub heard_took : TakesAll t t' (e ∷ []) → MayBeUnmade p → MustBeUnmade p
       → ((a : Account) → TerminalStands t a.terminal → Comes t.scale.setup p a (hears e a) out)
+      → ((a : Account) → (other : Out) × Comes t.scale.setup p a (hears e a) other)
       → ((h : List Happening) → Hears t h → heard (e ∷ []) ++ heard_of h ≡ heard_of (p ∷ h))
       → ((events : List AtTerminal) → heard (e ∷ events) ≡ heard (e ∷ []) ++ heard events)
-      → ((h : List Happening) → Hears t h → IsReplied t.scale.setup p h out) → Took g p out t j t' j
-  heard_took takes may must comes ears one replies' = record {
+      → ((h : List Happening) → Hears t h → IsReplied t.scale.setup p h out) → ((h : List Happening) → Hears t h → IsAnsweredOutright t.scale.setup p h out) → Took g p out t j t' j
+  heard_took takes may must comes' any ears one replies' outright' = record {
     setup = takes.setup;
     may_be_unmade = may;
-    stands = λ o h st honest. record {
-      account = hears e st.account;
-      is_account = subst (λ s. IsAccount s o (p ∷ h) (hears e st.account)) (sym takes.setup) (st.account, st.is_account, (out, comes st.account st.terminal));
-      terminal = takes.stands st.account.terminal st.terminal;
-      lists = st.lists;
-      store = λ there. let kept = st.store there in record { stands = kept.stands; only = kept.only };
-      soon = subst (λ s. LeavesSoon g s j (hears e st.account)) (sym takes.setup) (same_lists g t.scale.setup j st.account (hears e st.account) refl refl st.soon);
-    };
-    put_out = λ o h st honest. (st.account, st.is_account, (hears e st.account, comes st.account st.terminal));
-    crash = λ o h st honest there db may. inl ((st.store there).only db may);
+    comes = λ o h st honest. (
+      hears e st.account,
+      comes' st.account st.at.terminal,
+      record {
+        terminal = takes.stands st.account.terminal st.at.terminal;
+        lists = st.at.lists;
+        store = λ there. let kept = st.at.store there in record { stands = kept.stands; only = kept.only };
+        soon = subst (λ s. LeavesSoon g s o j (p ∷ h)) (sym takes.setup)
+            (λ db may. one_later t.scale.setup o h db p must (λ a. (hears e a, (any a).0, (any a).1, refl, refl)) (st.at.soon db may));
+      },
+    );
+    crash = λ o h st honest there db may. inl ((st.at.store there).only db may);
     still = λ closed. (refl, must);
     honest = λ honest. honest;
     hears = λ h ears'. record {
@@ -64,6 +75,7 @@ module _ {D : Type 0} (g : Ghosts D) (p : Happening) (e : AtTerminal) (out : Out
       of_history = one ears'.events ∙ ap (λ l. heard (e ∷ []) ++ l) ears'.of_history ∙ ears h ears';
     };
     replies = replies';
+    outright = outright';
   }
 
 -- the replies to what was heard
@@ -76,39 +88,46 @@ module _ {D : Type 0} (g : Ghosts D) (j : StoreView D) where
   -- a reading
   pub reading_took : RepliesToHeard → (r : Load) (rs : List Reply) (t t' : TerminalState) → TakesAll t t' (terminal.reading r ∷ [])
       → ((events : List AtTerminal) → TerminalStands t events → rs ≡ replies t.scale.setup (terminal.reading r ∷ events)) → Took g (reading r) (replied rs) t j t' j
-  reading_took law r rs t t' takes is = heard_took g (reading r) (terminal.reading r) (replied rs) t t' j takes tt tt (λ a st. (refl, ap replied (is a.terminal st))) (λ h ears. refl)
-      (λ events. refl) (λ h ears. ap replied (replies_heard law (terminal.reading r) t h rs is ears))
+  reading_took law r rs t t' takes is = heard_took g (reading r) (terminal.reading r) (replied rs) t t' j takes tt tt (λ a st. (refl, ap replied (is a.terminal st)))
+      (λ a. (replied (replies t.scale.setup (terminal.reading r ∷ a.terminal)), (refl, refl))) (λ h ears. refl) (λ events. refl)
+      (λ h ears. ap replied (replies_heard law (terminal.reading r) t h rs is ears)) (λ h ears. tt)
 
   -- a byte
   pub byte_took : RepliesToHeard → (b : ℕ) (rs : List Reply) (t t' : TerminalState) → TakesAll t t' (terminal.byte b ∷ [])
       → ((events : List AtTerminal) → TerminalStands t events → rs ≡ replies t.scale.setup (terminal.byte b ∷ events)) → Took g (byte b) (replied rs) t j t' j
-  byte_took law b rs t t' takes is = heard_took g (byte b) (terminal.byte b) (replied rs) t t' j takes tt tt (λ a st. (refl, ap replied (is a.terminal st))) (λ h ears. refl)
-      (λ events. refl) (λ h ears. ap replied (replies_heard law (terminal.byte b) t h rs is ears))
+  byte_took law b rs t t' takes is = heard_took g (byte b) (terminal.byte b) (replied rs) t t' j takes tt tt (λ a st. (refl, ap replied (is a.terminal st)))
+      (λ a. (replied (replies t.scale.setup (terminal.byte b ∷ a.terminal)), (refl, refl))) (λ h ears. refl) (λ events. refl)
+      (λ h ears. ap replied (replies_heard law (terminal.byte b) t h rs is ears)) (λ h ears. tt)
 
   -- a hang-up
   pub hang_up_took : (t t' : TerminalState) → TakesAll t t' (terminal.hang_up ∷ []) → Took g hang_up nothing t j t' j
-  hang_up_took t t' takes = heard_took g hang_up terminal.hang_up nothing t t' j takes tt tt (λ a st. (refl, refl)) (λ h ears. refl) (λ events. refl) (λ h ears. refl)
+  hang_up_took t t' takes = heard_took g hang_up terminal.hang_up nothing t t' j takes tt tt (λ a st. (refl, refl)) (λ a. (nothing, (refl, refl))) (λ h ears. refl) (λ events. refl)
+      (λ h ears. refl) (λ h ears. tt)
 
   -- a request after which all is as before
   pub quiet_took : (at : ℕ) (bytes : List ℕ) (unmade : Bool) (out : Out) (t : TerminalState) → MayBeUnmade (office at bytes unmade) → MustBeUnmade (office at bytes unmade)
-      → ((a : Account) → TerminalStands t a.terminal → AreLists a.entries a.spent → Comes t.scale.setup (office at bytes unmade) a a out) → Took g (office at bytes unmade) out t j t j
-  quiet_took at bytes unmade out t may must comes = record {
+      → ((a : Account) → TerminalStands t a.terminal → AreLists a.entries a.spent → Comes t.scale.setup (office at bytes unmade) a a out)
+      → ((a : Account) → (other : Out) × Comes t.scale.setup (office at bytes unmade) a a other)
+      → ((h : List Happening) → Hears t h → IsAnsweredOutright t.scale.setup (office at bytes unmade) h out) → Took g (office at bytes unmade) out t j t j
+  quiet_took at bytes unmade out t may must comes' any outright' = record {
     setup = refl;
     may_be_unmade = may;
-    stands = λ o h st honest. record {
-      account = st.account;
-      is_account = (st.account, st.is_account, (out, comes st.account st.terminal st.lists));
-      terminal = st.terminal;
-      lists = st.lists;
-      store = st.store;
-      soon = st.soon;
-    };
-    put_out = λ o h st honest. (st.account, st.is_account, (st.account, comes st.account st.terminal st.lists));
-    crash = λ o h st honest there db may. inl ((st.store there).only db may);
+    comes = λ o h st honest. (
+      st.account,
+      comes' st.account st.at.terminal st.at.lists,
+      record {
+        terminal = st.at.terminal;
+        lists = st.at.lists;
+        store = st.at.store;
+        soon = λ db may. one_later t.scale.setup o h db (office at bytes unmade) must (λ a. (a, (any a).0, (any a).1, refl, refl)) (st.at.soon db may);
+      },
+    );
+    crash = λ o h st honest there db may. inl ((st.at.store there).only db may);
     still = λ closed. (refl, must);
     honest = λ honest. honest;
     hears = λ h ears. record { events = ears.events; stands = ears.stands; of_history = ears.of_history };
     replies = λ h ears. tt;
+    outright = outright';
   }
 
 -- what holds of a result that succeeds
@@ -136,8 +155,10 @@ pub opens : {D : Type 0} (g : Ghosts D) (t : TerminalState) (j j' : StoreView D)
 opens g t j j' same st entries spent stood only = subst (λ i. Stands g (opened entries spent) t i []) (sym same) (record {
   account = opened entries spent;
   is_account = refl;
-  terminal = st;
-  lists = stood.rests.holds.lists;
-  store = λ there. record { stands = stood; only = only };
-  soon = λ db may. inl (only db may);
+  at = record {
+    terminal = st;
+    lists = stood.rests.holds.lists;
+    store = λ there. record { stands = stood; only = only };
+    soon = λ db may. of_account t.scale.setup (opened entries spent) [] db (opened entries spent) refl (only db may);
+  };
 })

@@ -2,6 +2,7 @@ mod Accounts
 mod AppendedTexts
 mod BytesOfReplies
 mod Courses
+mod HeardEvents
 mod OfficeRequests
 mod OneHistory
 mod RunsSoFar

@@ -21,16 +21,19 @@ use Rattle.wb_office.specs.declared.refusal.Refusal.{Refusal}
 use Rattle.wb_office.specs.declared.refusal.Refusal.TheVariants.{KeyReused, Gone, ClockBack, NoLoad, Overload, Underload, Unstable, BelowMin, TareActive, NoPreset, NotCleared, AlreadyOpen, NoOpen, JournalFull, Store, NoTicket, Damaged}
 use Rattle.wb_office.specs.declared.request.Request.{Request}
 use Rattle.wb_office.specs.declared.request.Request.TheVariants.{Weigh, VoidOpen, Ticket, Indication, JournalCsv, TicketsCsv, Purge, Check}
-use Rattle.wb_office.specs.Answer.{Told as Answered, text_told, answer_of, asking, entries_after, has_ticket, if_sound, text_of, ticket_of, tickets_answer}
+use Rattle.wb_office.specs.Answer.{Told as Answered, indication_text, text_told, answer_of, asking, entries_after, has_ticket, if_sound, text_of, ticket_of, tickets_answer}
 use Rattle.wb_office.specs.Situation.{Situation}
 use Rattle.wb_office.specs.WithoutStore.{Outright}
 use Rattle.wb_office.specs.Conditions.{is_damaged}
 use Rattle.wb_office.specs.Serves.{IsNow, Leaves, Marks, Serves, is_store_refusal, told_of}
 use Rattle.wb_office.specs.Wanted.{Wanted, HasBound, IsWanted, asks_store, wanted}
 use Rattle.wb_office.specs.Verdict.{Verdict, accepted, refused, repeated, verdict}
+use Rattle.wb_scale.specs.History.{moments}
+use Rattle.wb_scale.specs.Indication.{indicated}
 use Rattle.wb_scale.specs.State.{State}
 use Rattle.wb_sics.specs.Calls.{calls}
 use Rattle.wb_sics.specs.Event.{Event as AtTerminal, stored}
+use Rattle.wb_sics.specs.Heard.{heard}
 use Rattle.wb_sics.specs.Stands.{TakesStored, TerminalState, Stands as TerminalStands}
 use Rattle.wb_store.specs.declared.fault.StoreFault.TheVariants.{Closed}
 use Rattle.wb_store.specs.Journal.{IsHonest, Reopens, StoreView, Stands as StoreStands}
@@ -40,13 +43,13 @@ use Rattle.wb_store.specs.Lists.{AreLists, next_number}
 use Rattle.wb_station.specs.declared.fault.HttpFault.{HttpFault}
 use Rattle.wb_station.specs.declared.fault.HttpFault.TheVariants.{BadField, HeadTooLarge, Malformed, Memory, NoLength, NoRoute, TooLarge, WrongMethod}
 use Rattle.wb_station.specs.Account.{Account, Comes, IsAccount, IsResponse, Out, leaves, responded, situation}
-use Rattle.wb_station.specs.Happening.{Happening, office}
+use Rattle.wb_station.specs.Happening.{Happening, heard_of, office}
 use Rattle.wb_station.specs.Judgement.{IsJudged, MayWantMemory}
 use Rattle.wb_station.specs.UnlessMemoryRefused.{IsOf}
-use Rattle.wb_station.specs.Response.{is_export, response_text, told_fault, told_result}
-use Rattle.wb_station.specs.Stands.{Hears, IsKept, IsLedTo, LeavesSoon, MustBeUnmade, OneMore, Stands, Took}
+use Rattle.wb_station.specs.Response.{Told, is_export, response_text, told_fault, told_result}
+use Rattle.wb_station.specs.Stands.{Hears, IsKept, IsLedTo, IsOfHistory, IsOutright, LeavesSoon, MustBeUnmade, Stands, StandsAt, Took}
 use Rattle.wb_station.specs.WholeRequests.{OneJudgement}
-use Rattle.wb_station.proofs.Accounts.{quiet_took}
+use Rattle.wb_station.proofs.Accounts.{of_account, one_later, quiet_took}
 
 -- ---- exports change nothing
 
@@ -115,12 +118,35 @@ some_wanted bounds Purge w rising =
     with_bound Purge w one.0 one.1
 some_wanted bounds Check w rising = with_bound Check w 0 refl
 
+-- ---- one judgement
+
+same_request : (a b : Request) → ◌≡◌ {A = Result Request HttpFault} (Ok a) (Ok b) → a ≡ b
+same_request a b same = cc same
+
+same_fault : (a b : HttpFault) → ◌≡◌ {A = Result Request HttpFault} (Err a) (Err b) → a ≡ b
+same_fault a b same = cc same
+
+no_both : (request : Request) (fault : HttpFault) → ◌≡◌ {A = Result Request HttpFault} (Ok request) (Err fault) → ⊥
+no_both request fault same = cc same
+
+-- what asks the store is none of those that are answered outright
+pub not_outright : OneJudgement → (s : Setup) (at : ℕ) (bytes : List ℕ) (request : Request) → IsJudged bytes (Ok request) → asks_store request ≡ true → (h : List Happening) (out : Out)
+    → IsOutright s at bytes h out
+not_outright one s at bytes request judged asks h out = record {
+  fault = λ fault judged'. absurd (no_both request fault (one bytes (Ok request) (Err fault) judged judged'));
+  no_ticket = λ judged'. absurd (other (Ticket 0) refl judged');
+  indication = λ judged'. absurd (other Indication refl judged');
+}
+  where
+    other : (outright : Request) → asks_store outright ≡ false → IsJudged bytes (Ok outright) → ⊥
+    other outright none judged' = true≢false (sym asks ∙ ap asks_store (same_request request outright (one bytes (Ok request) (Ok outright) judged judged')) ∙ none)
+
 -- ---- the store is asked
 
 closed_is_refusal : (r : Result Answer Refusal) → r ≡ Err (Store Closed) → is_store_refusal r ≡ true
 closed_is_refusal r is = ap is_store_refusal is
 
-module _ {D : Type 0} (g : Ghosts D) (stored_law : TakesStored) (bounds : HasOneBound) (at : ℕ) (bytes : List ℕ) (request : Request) (judged : IsJudged bytes (Ok request))
+module _ {D : Type 0} (g : Ghosts D) (stored_law : TakesStored) (bounds : HasOneBound) (one : OneJudgement) (at : ℕ) (bytes : List ℕ) (request : Request) (judged : IsJudged bytes (Ok request))
     (asks : asks_store request ≡ true) (t : TerminalState) (scale' : State) (j j' : StoreView D) (result : Result Answer Refusal) (serves : Serves g j j' t.scale scale' at result (IsWanted request)) where
   -- the terminal after it
   abbrev pub t' : TerminalState
@@ -161,10 +187,10 @@ module _ {D : Type 0} (g : Ghosts D) (stored_law : TakesStored) (bounds : HasOne
   crashes : (out : Out) → IsResponse at (told_fault Memory) out → (o : Account) (h : List Happening) (st : Stands g o t j h) → IsHonest g j' → j.is_closed ≡ false
       → (db : Trees) → (state g j'.conn).may_leave db → Reopens db st.account.entries st.account.spent ⊎ IsLedTo t.scale.setup (office at bytes false) st.account db
   crashes out response o h st honest there db may =
-      let kept = st.store there in
+      let kept = st.at.store there in
       let w = situation t.scale.setup at st.account in
-      let some = some_wanted bounds request w st.lists.rising in
-      either some.0 some.1 (serves.leaves w (now st.account st.terminal) kept.stands honest some.0 some.1 db may)
+      let some = some_wanted bounds request w st.at.lists.rising in
+      either some.0 some.1 (serves.leaves w (now st.account st.at.terminal) kept.stands honest some.0 some.1 db may)
     where
       either : (want : Wanted) → IsWanted request (situation t.scale.setup at st.account) want → Reopens db st.account.entries st.account.spent ⊎ Reopens db want.entries want.spent
           → Reopens db st.account.entries st.account.spent ⊎ IsLedTo t.scale.setup (office at bytes false) st.account db
@@ -181,29 +207,22 @@ module _ {D : Type 0} (g : Ghosts D) (stored_law : TakesStored) (bounds : HasOne
   made_took plain out response = record {
     setup = of_setup serves.scale.0 serves.scale.1;
     may_be_unmade = tt;
-    stands = λ o h st honest.
-        let kept = st.store (is_open plain) in
-        let made = serves.judged (situation t.scale.setup at st.account) (now st.account st.terminal) kept.stands honest plain in
+    comes = λ o h st honest.
+        let made = serves.judged (situation t.scale.setup at st.account) (now st.account st.at.terminal) (st.at.store (is_open plain)).stands honest plain in
         let left = made.2 in
-        let same = of_setup serves.scale.0 serves.scale.1 in
-        record {
-          account = leaves made.0 st.account;
-          is_account = subst (λ s. IsAccount s o (office at bytes false ∷ h) (leaves made.0 st.account)) (sym same)
-              (st.account, st.is_account, (out, comes_of st.account made.0 out made.1 (response_to made.0 out left.answered response)));
-          terminal = marked made.0.marks left.marked st.account.terminal st.terminal;
-          lists = left.stands.rests.holds.lists;
-          store = λ there. record { stands = left.stands; only = left.only };
-          soon = λ db may. inl (left.only db may);
-        };
-    put_out = λ o h st honest.
-        let kept = st.store (is_open plain) in
-        let made = serves.judged (situation t.scale.setup at st.account) (now st.account st.terminal) kept.stands honest plain in (
-          st.account,
-          st.is_account,
-          (leaves made.0 st.account, comes_of st.account made.0 out made.1 (response_to made.0 out made.2.answered response)),
+        let came = comes_of st.account made.0 out made.1 (response_to made.0 out left.answered response) in (
+          leaves made.0 st.account,
+          came,
+          record {
+            terminal = marked made.0.marks left.marked st.account.terminal st.at.terminal;
+            lists = left.stands.rests.holds.lists;
+            store = λ there. record { stands = left.stands; only = left.only };
+            soon = subst (λ s. LeavesSoon g s o j' (office at bytes false ∷ h)) (sym (of_setup serves.scale.0 serves.scale.1))
+                (λ db may. of_account t.scale.setup o (office at bytes false ∷ h) db (leaves made.0 st.account) (st.account, st.is_account, (out, came)) (left.only db may));
+          },
         );
     crash = λ o h st honest there db may.
-        let made = serves.judged (situation t.scale.setup at st.account) (now st.account st.terminal) (st.store there).stands honest plain in
+        let made = serves.judged (situation t.scale.setup at st.account) (now st.account st.at.terminal) (st.at.store there).stands honest plain in
         inr (record {
           after = leaves made.0 st.account;
           out = out;
@@ -214,18 +233,27 @@ module _ {D : Type 0} (g : Ghosts D) (stored_law : TakesStored) (bounds : HasOne
     honest = serves.honest;
     hears = still_hears serves.scale.0 serves.scale.1 false;
     replies = λ h ears. tt;
+    outright = λ h ears. not_outright one t.scale.setup at bytes request judged asks h out;
   }
 
   -- what stands after a request that counts as never made
   module _ (out : Out) (response : IsResponse at (told_fault Memory) out) where
-    soon_after : scale' ≡ t.scale → (o : Account) (h : List Happening) (st : Stands g o t j h) → IsHonest g j' → (c : Bool) → j.is_closed ≡ c → LeavesSoon g t.scale.setup j' st.account
-    soon_after same o h st honest true closed = subst (λ i. LeavesSoon g t.scale.setup i st.account) (sym (serves.still closed)) st.soon
-    soon_after same o h st honest false there = λ db may. either db (crashes out response o h st honest there db may)
+    soon_after : (o : Account) (h : List Happening) (st : Stands g o t j h) → IsHonest g j' → (c : Bool) → j.is_closed ≡ c → LeavesSoon g t.scale.setup o j' (office at bytes true ∷ h)
+    soon_after o h st honest true closed =
+        subst (λ i. LeavesSoon g t.scale.setup o i (office at bytes true ∷ h)) (sym (serves.still closed))
+        (λ db may. one_later t.scale.setup o h db (office at bytes true) (λ other judged' asks'. refl) (λ a. (a, out, (refl, response), refl, refl)) (st.at.soon db may))
+    soon_after o h st honest false there = λ db may. either db (crashes out response o h st honest there db may)
       where
         either : (db : Trees) → Reopens db st.account.entries st.account.spent ⊎ IsLedTo t.scale.setup (office at bytes false) st.account db
-            → Reopens db st.account.entries st.account.spent ⊎ OneMore t.scale.setup st.account db
-        either db (inl before) = inl before
-        either db (inr led) = inr (record { before = st.account; entries = refl; spent = refl; happening = office at bytes false; leads = led })
+            → IsOfHistory t.scale.setup o (office at bytes true ∷ h) db
+        either db (inl before) = of_account t.scale.setup o (office at bytes true ∷ h) db st.account (st.account, st.is_account, (out, (refl, response))) before
+        either db (inr led) = record {
+          history = office at bytes false ∷ h;
+          same = inr (inl refl);
+          account = led.after;
+          is_account = (st.account, st.is_account, (led.out, led.comes));
+          reopens = led.reopens;
+        }
 
     unmade : (same : (o : Account) (h : List Happening) → Stands g o t j h → IsHonest g j' → scale' ≡ t.scale)
         → (kept : (o : Account) (h : List Happening) (st : Stands g o t j h) → IsHonest g j' → j'.is_closed ≡ false → IsKept g j' st.account)
@@ -233,28 +261,28 @@ module _ {D : Type 0} (g : Ghosts D) (stored_law : TakesStored) (bounds : HasOne
     unmade same kept = record {
       setup = of_setup serves.scale.0 serves.scale.1;
       may_be_unmade = inr (request, judged, asks);
-      stands = λ o h st honest.
-          let is = same o h st honest in
-          subst (λ sc. Stands g o (record t { scale = sc }) j' (office at bytes true ∷ h)) (sym is) (record {
-            account = st.account;
-            is_account = (st.account, st.is_account, (out, (refl, response)));
-            terminal = st.terminal;
-            lists = st.lists;
-            store = kept o h st honest;
-            soon = soon_after is o h st honest j.is_closed refl;
-          });
-      put_out = λ o h st honest. (st.account, st.is_account, (st.account, (refl, response)));
+      comes = λ o h st honest. (
+        st.account,
+        (refl, response),
+        subst (λ sc. StandsAt g o (record t { scale = sc }) j' (office at bytes true ∷ h) st.account) (sym (same o h st honest)) (record {
+          terminal = st.at.terminal;
+          lists = st.at.lists;
+          store = kept o h st honest;
+          soon = soon_after o h st honest j.is_closed refl;
+        }),
+      );
       crash = crashes out response;
       still = λ closed. (serves.still closed, λ other judged' asks'. refl);
       honest = serves.honest;
       hears = still_hears serves.scale.0 serves.scale.1 true;
       replies = λ h ears. tt;
+      outright = λ h ears. response;
     }
 
     -- the store refuses
     pub refused_took : is_store_refusal result ≡ true → Took g (office at bytes true) out t j t' j'
     refused_took refusal = unmade (λ o h st honest. serves.unmarked refusal) (λ o h st honest there.
-        let left = serves.kept st.account.entries st.account.spent (st.store (was_open j.is_closed refl there)).stands honest refusal there in
+        let left = serves.kept st.account.entries st.account.spent (st.at.store (was_open j.is_closed refl there)).stands honest refusal there in
         record { stands = left.0; only = left.1 })
       where
         was_open : (c : Bool) → j.is_closed ≡ c → j'.is_closed ≡ false → j.is_closed ≡ false
@@ -264,7 +292,7 @@ module _ {D : Type 0} (g : Ghosts D) (stored_law : TakesStored) (bounds : HasOne
     -- memory is refused for the response to an export
     pub export_took : is_store_refusal result ≡ false → is_export (told_of result) ≡ true → Took g (office at bytes true) out t j t' j'
     export_took plain export = unmade (λ o h st honest. left_alone o h st honest) (λ o h st honest there.
-        let made = serves.judged (situation t.scale.setup at st.account) (now st.account st.terminal) (st.store (is_open plain)).stands honest plain in
+        let made = serves.judged (situation t.scale.setup at st.account) (now st.account st.at.terminal) (st.at.store (is_open plain)).stands honest plain in
         let quiet = export_is_quiet request (situation t.scale.setup at st.account) made.0 made.1 (sym (ap is_export made.2.answered) ∙ export) in
         record {
           stands = subst₂ (λ es ks. StoreStands g j' es ks) quiet.entries quiet.spent made.2.stands;
@@ -277,7 +305,7 @@ module _ {D : Type 0} (g : Ghosts D) (stored_law : TakesStored) (bounds : HasOne
 
         left_alone : (o : Account) (h : List Happening) → Stands g o t j h → IsHonest g j' → scale' ≡ t.scale
         left_alone o h st honest =
-            let made = serves.judged (situation t.scale.setup at st.account) (now st.account st.terminal) (st.store (is_open plain)).stands honest plain in
+            let made = serves.judged (situation t.scale.setup at st.account) (now st.account st.at.terminal) (st.at.store (is_open plain)).stands honest plain in
             let quiet = export_is_quiet request (situation t.scale.setup at st.account) made.0 made.1 (sym (ap is_export made.2.answered) ∙ export) in
             unmoved made.0.marks made.2.marked quiet.marks
 
@@ -335,6 +363,50 @@ outright_comes at bytes TicketsCsv judged asks t result is out response a st lis
 outright_comes at bytes Purge judged asks t result is out response a st lists = absurd (cc)
 outright_comes at bytes Check judged asks t result is out response a st lists = absurd (cc)
 
+-- on any account something comes of it, which leaves that account
+outright_any : (at : ℕ) (bytes : List ℕ) (request : Request) → IsJudged bytes (Ok request) → asks_store request ≡ false → (s : Setup) (told : Told) (out : Out) → IsResponse at told out
+    → (a : Account) → (other : Out) × Comes s (office at bytes false) a a other
+outright_any at bytes Indication judged asks s told out response a =
+    let want = wanted Indication (situation s at a) 0 in (
+      responded (response_text (told_result Indication want.answer) response.0),
+      (Ok Indication, judged, (want, record { bound = 0; is_bound = refl; is = refl }, refl, (response.0, response.1, refl))),
+    )
+outright_any at bytes (Ticket number) judged asks s told out response a =
+    let want = wanted (Ticket number) (situation s at a) 0 in (
+      responded (response_text (told_result (Ticket number) want.answer) response.0),
+      (Ok (Ticket number), judged, (want, record { bound = 0; is_bound = refl; is = refl }, refl, (response.0, response.1, refl))),
+    )
+outright_any at bytes (Weigh key kind plate) judged asks s told out response a = absurd (cc asks)
+outright_any at bytes (VoidOpen key plate) judged asks s told out response a = absurd (cc asks)
+outright_any at bytes JournalCsv judged asks s told out response a = absurd (cc asks)
+outright_any at bytes TicketsCsv judged asks s told out response a = absurd (cc asks)
+outright_any at bytes Purge judged asks s told out response a = absurd (cc asks)
+outright_any at bytes Check judged asks s told out response a = absurd (cc asks)
+
+-- and it is answered so
+answers_outright : OneJudgement → (at : ℕ) (bytes : List ℕ) (request : Request) → IsJudged bytes (Ok request) → (t : TerminalState) (result : Result Answer Refusal) → Outright t.scale request result
+    → (out : Out) → IsResponse at (told_result request (told_of result)) out → (h : List Happening) → Hears t h → IsOutright t.scale.setup at bytes h out
+answers_outright one at bytes request judged t result is out response h ears = record {
+  fault = λ fault judged'. absurd (no_both request fault (one bytes (Ok request) (Err fault) judged judged'));
+  no_ticket = λ judged'. ticket (same_request request (Ticket 0) (one bytes (Ok request) (Ok (Ticket 0)) judged judged'));
+  indication = λ judged'. indication (same_request request Indication (one bytes (Ok request) (Ok Indication) judged judged'));
+}
+  where
+    ticket : request ≡ Ticket 0 → IsResponse at (told_result (Ticket 0) (Err NoTicket)) out
+    ticket same =
+        let is' = subst (λ r. Outright t.scale r result) same is in
+        subst (λ r. IsResponse at (told_result (Ticket 0) r) out) (ap told_of is') (subst (λ r. IsResponse at (told_result r (told_of result)) out) same response)
+
+    indication : request ≡ Indication → (events : List AtTerminal) × (heard events ≡ heard_of h)
+        × IsResponse at (told_result Indication (Ok (text_told (indication_text t.scale.setup (indicated t.scale.setup (moments t.scale.setup (calls t.scale.setup events))))))) out
+    indication same =
+        let is' = subst (λ r. Outright t.scale r result) same is in
+        let text = is'.2 (calls t.scale.setup ears.events) ears.stands.now.scale in (
+          ears.events,
+          ears.of_history,
+          subst (λ r. IsResponse at (told_result Indication r) out) (is'.1 ∙ ap (λ x. Ok (text_told x)) text) (subst (λ r. IsResponse at (told_result r (told_of result)) out) same response),
+        )
+
 -- ---- what became of a request
 
 -- a refusal of the store is told as want of memory is
@@ -368,9 +440,6 @@ no_export_outright TicketsCsv scale result none is = absurd (cc none)
 no_export_outright Purge scale result none is = absurd (cc none)
 no_export_outright Check scale result none is = absurd (cc none)
 
-same_request : (a b : Request) → ◌≡◌ {A = Result Request HttpFault} (Ok a) (Ok b) → a ≡ b
-same_request a b same = cc same
-
 -- a request that asks no store must not count as never made
 pub need_not : OneJudgement → (at : ℕ) (bytes : List ℕ) (request : Request) → IsJudged bytes (Ok request) → asks_store request ≡ false → MustBeUnmade (office at bytes false)
 need_not one at bytes request judged none other judged' asks =
@@ -386,8 +455,8 @@ module _ {D : Type 0} (g : Ghosts D) (stored_law : TakesStored) (bounds : HasOne
     where
       by_refusal : (asks : asks_store request ≡ true) (b : Bool) → is_store_refusal result ≡ b → (unmade : Bool) × Took g (office at bytes unmade) out t j (record t { scale = scale' }) j'
       by_refusal asks true is =
-          (true, refused_took g stored_law bounds at bytes request judged asks t scale' j j' result (serves asks) out (subst (λ told. IsResponse at told out) (refusal_told request result is) response) is)
-      by_refusal asks false is = (false, made_took g stored_law bounds at bytes request judged asks t scale' j j' result (serves asks) is out response)
+          (true, refused_took g stored_law bounds one at bytes request judged asks t scale' j j' result (serves asks) out (subst (λ told. IsResponse at told out) (refusal_told request result is) response) is)
+      by_refusal asks false is = (false, made_took g stored_law bounds one at bytes request judged asks t scale' j j' result (serves asks) is out response)
 
       by_request : (b : Bool) → asks_store request ≡ b → (unmade : Bool) × Took g (office at bytes unmade) out t j (record t { scale = scale' }) j'
       by_request true asks = by_refusal asks (is_store_refusal result) refl
@@ -395,7 +464,8 @@ module _ {D : Type 0} (g : Ghosts D) (stored_law : TakesStored) (bounds : HasOne
           let is = outright none in (
             false,
             subst₂ (λ sc i. Took g (office at bytes false) out t j (record t { scale = sc }) i) (sym is.1) (sym is.0)
-                (quiet_took g j at bytes false out t tt (need_not one at bytes request judged none) (outright_comes at bytes request judged none t result is.2 out response)),
+                (quiet_took g j at bytes false out t tt (need_not one at bytes request judged none) (outright_comes at bytes request judged none t result is.2 out response)
+                (outright_any at bytes request judged none t.scale.setup _ out response) (answers_outright one at bytes request judged t result is.2 out response)),
           )
 
   -- memory was refused for its response
@@ -403,8 +473,8 @@ module _ {D : Type 0} (g : Ghosts D) (stored_law : TakesStored) (bounds : HasOne
   failed_took export out response = by_request (asks_store request) refl
     where
       by_refusal : (asks : asks_store request ≡ true) (b : Bool) → is_store_refusal result ≡ b → (unmade : Bool) × Took g (office at bytes unmade) out t j (record t { scale = scale' }) j'
-      by_refusal asks true is = (true, refused_took g stored_law bounds at bytes request judged asks t scale' j j' result (serves asks) out response is)
-      by_refusal asks false is = (true, export_took g stored_law bounds at bytes request judged asks t scale' j j' result (serves asks) out response is export)
+      by_refusal asks true is = (true, refused_took g stored_law bounds one at bytes request judged asks t scale' j j' result (serves asks) out response is)
+      by_refusal asks false is = (true, export_took g stored_law bounds one at bytes request judged asks t scale' j j' result (serves asks) out response is export)
 
       by_request : (b : Bool) → asks_store request ≡ b → (unmade : Bool) × Took g (office at bytes unmade) out t j (record t { scale = scale' }) j'
       by_request true asks = by_refusal asks (is_store_refusal result) refl
@@ -417,15 +487,20 @@ module _ {D : Type 0} (g : Ghosts D) (j : StoreView D) (one : OneJudgement) (at 
   fault_made : (fault : HttpFault) → IsJudged bytes (Err fault) → IsResponse at (told_fault fault) out → (unmade : Bool) × Took g (office at bytes unmade) out t j t j
   fault_made fault judged response = (
     false,
-    quiet_took g j at bytes false out t tt (λ other judged' asks. absurd (no_both other (one bytes (Ok other) (Err fault) judged' judged))) (λ a st lists. (Err fault, judged, (refl, response))),
+    quiet_took g j at bytes false out t tt (λ other judged' asks. absurd (none other judged')) (λ a st lists. (Err fault, judged, (refl, response)))
+        (λ a. (out, (Err fault, judged, (refl, response)))) (λ h ears. record {
+          fault = λ other judged'. subst (λ f. IsResponse at (told_fault f) out) (same_fault fault other (one bytes (Err fault) (Err other) judged judged')) response;
+          no_ticket = λ judged'. absurd (none (Ticket 0) judged');
+          indication = λ judged'. absurd (none Indication judged');
+        }),
   )
     where
-      no_both : (other : Request) → ◌≡◌ {A = Result Request HttpFault} (Ok other) (Err fault) → ⊥
-      no_both other same = cc same
+      none : (other : Request) → IsJudged bytes (Ok other) → ⊥
+      none other judged' = no_both other fault (one bytes (Ok other) (Err fault) judged' judged)
 
   -- want of memory counts as never made
   memory_unmade : MayWantMemory bytes → IsResponse at (told_fault Memory) out → (unmade : Bool) × Took g (office at bytes unmade) out t j t j
-  memory_unmade may response = (true, quiet_took g j at bytes true out t (inl may) (λ other judged' asks. refl) (λ a st lists. (refl, response)))
+  memory_unmade may response = (true, quiet_took g j at bytes true out t (inl may) (λ other judged' asks. refl) (λ a st lists. (refl, response)) (λ a. (out, (refl, response))) (λ h ears. response))
 
   pub fault_took : (fault : HttpFault) → (r : Result Request HttpFault) → IsJudged bytes r → IsOf r (Err fault) → (IsErrOf {T = Request} (Err fault) Memory → MayWantMemory bytes) → IsResponse at (told_fault fault) out
       → (unmade : Bool) × Took g (office at bytes unmade) out t j t j

@@ -1,11 +1,17 @@
 -- A station stands after a history.
-use Rattle.std.specs.Prelude.{◌≡◌, ◌⊎◌, ℕ, Bool, true, false, List, [], ◌∷◌, ◌++◌, map, reverse, Ok}
+use Rattle.std.specs.Prelude.{◌≡◌, ◌⊎◌, ℕ, Bool, true, false, List, [], ◌∷◌, Ok, Err}
 use Rattle.sqlite.specs.Held.{state}
 use Rattle.sqlite.specs.Store.{Ghosts}
 use Rattle.sqlite.specs.Tree.{Trees}
 use Rattle.wb_instrument.specs.Setup.{Setup}
+use Rattle.wb_office.specs.declared.refusal.Refusal.TheVariants.{NoTicket}
 use Rattle.wb_office.specs.declared.request.Request.{Request}
+use Rattle.wb_office.specs.declared.request.Request.TheVariants.{Indication, Ticket}
+use Rattle.wb_office.specs.Answer.{indication_text, text_told}
 use Rattle.wb_office.specs.Wanted.{asks_store}
+use Rattle.wb_scale.specs.History.{moments}
+use Rattle.wb_scale.specs.Indication.{indicated}
+use Rattle.wb_sics.specs.Calls.{calls}
 use Rattle.wb_sics.specs.Event.{Event as AtTerminal}
 use Rattle.wb_sics.specs.Event as terminal
 use Rattle.wb_sics.specs.Heard.{heard}
@@ -14,27 +20,13 @@ use Rattle.wb_sics.specs.Stands.{TerminalState, Stands as TerminalStands}
 use Rattle.wb_store.specs.Journal.{IsHonest, Reopens, StoreView, Stands as StoreStands}
 use Rattle.wb_store.specs.Keeping.{LeavesOnly}
 use Rattle.wb_store.specs.Lists.{AreLists}
-use Rattle.wb_station.specs.Account.{Account, Comes, IsAccount, IsOut, Out, nothing, replied}
+use Rattle.wb_station.specs.declared.fault.HttpFault.{HttpFault}
+use Rattle.wb_station.specs.declared.fault.HttpFault.TheVariants.{Memory}
+use Rattle.wb_station.specs.Account.{Account, Comes, IsAccount, IsResponse, Out, nothing, replied}
 use Rattle.wb_station.specs.Happening.{Happening, heard_of, reading, byte, hang_up, office, unmarked}
 use Rattle.wb_station.specs.Judgement.{IsJudged}
+use Rattle.wb_station.specs.Response.{told_fault, told_result}
 use Rattle.wb_station.specs.Unmade.{MayBeUnmade}
-
--- ---- what a crash leaves
-
--- the lists to which a happening leads
-pub record IsLedTo (s : Setup) (p : Happening) (before : Account) (db : Trees) : Type 0 where
-  pub after : Account
-  pub out : Out
-  pub comes : Comes s p before after out
-  pub reopens : Reopens db after.entries after.spent
-
--- the lists to which one happening more leads, from lists that are those of the account
-pub record OneMore (s : Setup) (a : Account) (db : Trees) : Type 0 where
-  pub before : Account
-  pub entries : before.entries ≡ a.entries
-  pub spent : before.spent ≡ a.spent
-  pub happening : Happening
-  pub leads : IsLedTo s happening before db
 
 -- ---- a terminal alone
 
@@ -51,7 +43,25 @@ IsReplied s (byte b) h out = out ≡ replied (replies s (terminal.byte b ∷ hea
 IsReplied s hang_up h out = out ≡ nothing
 IsReplied s (office at bytes unmade) h out = Unit {0}
 
--- ---- a terminal and a store
+-- ---- without asking the store
+
+-- what a request of these bytes is answered that asks no store: a fault of HTTP, the ticket of the number 0, and the indication of what the
+-- terminal heard
+pub record IsOutright (s : Setup) (at : ℕ) (bytes : List ℕ) (h : List Happening) (out : Out) : Type 0 where
+  pub fault : (fault : HttpFault) → IsJudged bytes (Err fault) → IsResponse at (told_fault fault) out
+  pub no_ticket : IsJudged bytes (Ok (Ticket 0)) → IsResponse at (told_result (Ticket 0) (Err NoTicket)) out
+  pub indication : IsJudged bytes (Ok Indication) → (events : List AtTerminal) × (heard events ≡ heard_of h)
+      × IsResponse at (told_result Indication (Ok (text_told (indication_text s (indicated s (moments s (calls s events))))))) out
+
+-- and a request that counts as never made is answered 503
+abbrev pub IsAnsweredOutright : Setup → Happening → List Happening → Out → Type 0
+IsAnsweredOutright s (reading r) h out = Unit {0}
+IsAnsweredOutright s (byte b) h out = Unit {0}
+IsAnsweredOutright s hang_up h out = Unit {0}
+IsAnsweredOutright s (office at bytes true) h out = IsResponse at (told_fault Memory) out
+IsAnsweredOutright s (office at bytes false) h out = IsOutright s at bytes h out
+
+-- ---- the store
 
 -- what asks the store counts as never made
 abbrev pub MustBeUnmade : Happening → Type 0
@@ -60,33 +70,61 @@ MustBeUnmade (byte b) = Unit {0}
 MustBeUnmade hang_up = Unit {0}
 MustBeUnmade (office at bytes unmade) = (request : Request) → IsJudged bytes (Ok request) → asks_store request ≡ true → unmade ≡ true
 
+-- ---- what a crash leaves
+
+-- the lists to which a happening leads
+pub record IsLedTo (s : Setup) (p : Happening) (before : Account) (db : Trees) : Type 0 where
+  pub after : Account
+  pub out : Out
+  pub comes : Comes s p before after out
+  pub reopens : Reopens db after.entries after.spent
+
+-- the same history, but that one request that was answered 503 counts as made; no request that asks the store was made after it
+abbrev pub IsButForOne : List Happening → List Happening → Type 0
+IsButForOne [] other = ⊥
+IsButForOne (p ∷ h) other = (other ≡ unmarked p ∷ h) ⊎ (MustBeUnmade p × (earlier : List Happening) × (other ≡ p ∷ earlier) × IsButForOne h earlier)
+
+-- the lists of an account of this history, in which one such request may count as made
+pub record IsOfHistory (s : Setup) (opening : Account) (h : List Happening) (db : Trees) : Type 0 where
+  pub history : List Happening
+  pub same : (history ≡ h) ⊎ IsButForOne h history
+  pub account : Account
+  pub is_account : IsAccount s opening history account
+  pub reopens : Reopens db account.entries account.spent
+
+-- ---- a station
+
 module _ {D : Type 0} (g : Ghosts D) where
-  -- whatever a crash leaves now is opened again with the lists of the account, or with those after one happening more
-  abbrev pub LeavesSoon : Setup → StoreView D → Account → Type 0
-  LeavesSoon s j a = (db : Trees) → (state g j.conn).may_leave db → Reopens db a.entries a.spent ⊎ OneMore s a db
+  -- whatever a crash leaves now is opened again with the lists of the history
+  abbrev pub LeavesSoon : Setup → Account → StoreView D → List Happening → Type 0
+  LeavesSoon s opening j h = (db : Trees) → (state g j.conn).may_leave db → IsOfHistory s opening h db
 
   -- the store stands for the lists, and a crash leaves these
   pub record IsKept (j : StoreView D) (a : Account) : Type 0 where
     pub stands : StoreStands g j a.entries a.spent
     pub only : LeavesOnly g j a.entries a.spent
 
-  -- they stand after a history that began with this account; of a store that a fault of the disk closed only what a crash leaves is said
-  pub record Stands (opening : Account) (t : TerminalState) (j : StoreView D) (h : List Happening) : Type 0 where
-    pub account : Account
-    pub is_account : IsAccount t.scale.setup opening h account
+  -- they stand at this account of a history; of a store that a fault of the disk closed only what a crash leaves is said
+  pub record StandsAt (opening : Account) (t : TerminalState) (j : StoreView D) (h : List Happening) (account : Account) : Type 0 where
     pub terminal : TerminalStands t account.terminal
     pub lists : AreLists account.entries account.spent
     pub store : j.is_closed ≡ false → IsKept j account
-    pub soon : LeavesSoon t.scale.setup j account
+    pub soon : LeavesSoon t.scale.setup opening j h
+
+  -- they stand after a history that began with the account at the opening
+  pub record Stands (opening : Account) (t : TerminalState) (j : StoreView D) (h : List Happening) : Type 0 where
+    pub account : Account
+    pub is_account : IsAccount t.scale.setup opening h account
+    pub at : StandsAt opening t j h account
 
 module _ {D : Type 0} (g : Ghosts D) (p : Happening) (out : Out) (t : TerminalState) (j : StoreView D) (t' : TerminalState) (j' : StoreView D) where
   -- a happening led from here to there, and this was put out
   pub record Took : Type 0 where
     pub setup : t'.scale.setup ≡ t.scale.setup
     pub may_be_unmade : MayBeUnmade p
-    -- it stands after the history with the happening, and what is put out is what the definitions give there
-    pub stands : (opening : Account) (h : List Happening) → Stands g opening t j h → IsHonest g j' → Stands g opening t' j' (p ∷ h)
-    pub put_out : (opening : Account) (h : List Happening) → Stands g opening t j h → IsHonest g j' → IsOut t.scale.setup opening p h out
+    -- what is put out, and the account at which it stands then, are what comes of the happening by the definitions
+    pub comes : (opening : Account) (h : List Happening) (stood : Stands g opening t j h) → IsHonest g j'
+        → (after : Account) × Comes t.scale.setup p stood.account after out × StandsAt g opening t' j' (p ∷ h) after
     -- a crash at the end of the call leaves the lists before it, or those to which the happening leads where it is made
     pub crash : (opening : Account) (h : List Happening) (stood : Stands g opening t j h) → IsHonest g j' → j.is_closed ≡ false → (db : Trees) → (state g j'.conn).may_leave db
         → Reopens db stood.account.entries stood.account.spent ⊎ IsLedTo t.scale.setup (unmarked p) stood.account db
@@ -97,3 +135,4 @@ module _ {D : Type 0} (g : Ghosts D) (p : Happening) (out : Out) (t : TerminalSt
     -- the terminal alone, whatever the store is
     pub hears : (h : List Happening) → Hears t h → Hears t' (p ∷ h)
     pub replies : (h : List Happening) → Hears t h → IsReplied t.scale.setup p h out
+    pub outright : (h : List Happening) → Hears t h → IsAnsweredOutright t.scale.setup p h out

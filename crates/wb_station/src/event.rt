@@ -16,6 +16,14 @@ pub enum Event<'a> {
     Office { moment: Moment, bytes: &'a [u8] },
 }
 
+/// What comes to the terminal.
+#[derive(Clone, Copy, Drop)]
+pub(crate) enum AtTerminal {
+    Reading(Reading),
+    Byte(u8),
+    Hangup,
+}
+
 /// What a station puts out at an event.
 #[derive(Clone, Copy, Drop)]
 pub enum Output<'a> {

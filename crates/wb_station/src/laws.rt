@@ -1,8 +1,10 @@
 //! Laws of whole histories.
 ghost use Rattle.wb_station.specs.CourseOfHistory.{HasCourse, KeptForGood, SameAgain};
 ghost use Rattle.wb_station.specs.Laws.{OneHistory, RepliesAlone};
+ghost use Rattle.wb_station.specs.RunOfEvents.{RunsLead};
 
 use crate::whole::law_of_one_judgement;
+use sqlite::Alter;
 use wb_office::law_of_repeated_requests;
 use wb_sics::law_of_replies;
 
@@ -19,6 +21,12 @@ pub fn law_of_replies_alone()
 {
     law_of_replies();
 }
+
+/// Events that are taken one after the other lead where their history does, as a whole and from each place on. After a fault of
+/// the disk each later request that asks the store is answered 503.
+pub fn law_of_runs<D: Alter>()
+    ensures { RunsLead D.Store }
+{}
 
 /// The requests of a history are a course of the office, so that the office's laws on every course hold of every history: a key is
 /// accepted at most once, numbers run, places stay within the capacity.

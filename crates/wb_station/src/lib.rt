@@ -14,6 +14,7 @@ mod event;
 mod fault;
 mod form;
 mod head;
+mod hearing;
 mod laws;
 mod line;
 mod outcome;
@@ -31,7 +32,7 @@ mod whole;
 pub use event::{Event, Output};
 pub use fault::{HttpFault, Method};
 pub use laws::{
-    law_of_courses, law_of_kept_entries, law_of_one_history, law_of_replies_alone,
+    law_of_courses, law_of_kept_entries, law_of_one_history, law_of_replies_alone, law_of_runs,
     law_of_same_again,
 };
 pub use outcome::Outcome;

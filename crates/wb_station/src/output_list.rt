@@ -56,7 +56,9 @@ impl OutputList {
     }
 
     /// The outputs taken, the oldest first.
-    pub fn outputs(&self) -> &[Placed] {
+    pub fn outputs(&self) -> &[Placed]
+        ensures { result.now ≡ self.now.outputs.items }
+    {
         self.outputs.as_slice()
     }
 }

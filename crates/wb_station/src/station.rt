@@ -12,7 +12,8 @@ ghost use Rattle.wb_store.specs.Journal.{Stands as StoreStands};
 ghost use Rattle.wb_store.specs.Rows.{SpentKey};
 
 use crate::asking::ask;
-use crate::event::{Event, Output, Room};
+use crate::event::{AtTerminal, Event, Output, Room};
+use crate::hearing::hear;
 use crate::room::ResponseRoom;
 use crate::routes::Routes;
 use sqlite::Alter;
@@ -108,18 +109,17 @@ impl<W: Window, D: Alter> Station<W, D> {
     {
         law_of_replies();
         match event {
-            Event::Reading(reading) => {
-                self.terminal.reading_into(*reading, &mut self.replies);
-                Room::Replies
-            }
-            Event::Byte(byte) => {
-                self.terminal.byte_into(*byte, &mut self.replies);
-                Room::Replies
-            }
-            Event::Hangup => {
-                self.terminal.hangup();
-                Room::Nothing
-            }
+            Event::Reading(reading) => hear(
+                &mut self.terminal,
+                &mut self.replies,
+                AtTerminal::Reading(*reading),
+            ),
+            Event::Byte(byte) => hear(
+                &mut self.terminal,
+                &mut self.replies,
+                AtTerminal::Byte(*byte),
+            ),
+            Event::Hangup => hear(&mut self.terminal, &mut self.replies, AtTerminal::Hangup),
             Event::Office { moment, bytes } => {
                 ask(
                     self.alloc,

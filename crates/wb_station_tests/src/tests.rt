@@ -3,6 +3,7 @@ mod days;
 mod forms;
 mod heads;
 mod lengths;
+mod long;
 mod memory;
 mod orders;
 mod responses;

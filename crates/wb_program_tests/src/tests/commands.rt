@@ -20,7 +20,7 @@ const TICKETS: &str =
     "ticket,kind,plate,first,at,gross_kg,tare_kg,net_kg\n2,pair,AB-12,1,2025-03-10 09:30:00,18340,8140,10200\n";
 
 const JOURNAL: &str =
-    "number,key,kind,plate,moment,gross_kg,preset_kg,interval_kg,max_kg,serial,digest\n1,K1,first,AB-12,2025-03-10 08:00:00,18340,,20,60000,WB01,1ff0f144d39a8d0890cc2c886fab380c93a9dd98d1d16ca37031b262a56fd3b3\n2,K2,second,AB-12,2025-03-10 09:30:00,8140,,20,60000,WB01,0cc09cd58f03a59c03e87a55f97d3a8262963dcfe6244de45c39d2f4c9e62d56\n";
+    "number,key,kind,plate,moment,gross_kg,preset_kg,interval_kg,max_kg,serial,digest\n1,K1,first,AB-12,2025-03-10 08:00:00,18340,,20,60000,WB01,1ff0f144d39a8d0890cc2c886fab380c93a9dd98d1d16ca37031b262a56fd3b3\n2,K2,second,AB-12,2025-03-10 09:30:00,8140,,20,60000,WB01,0cc09cd58f03a59c03e87a55f97d3a8262963dcfe6244de45c39d2f4c9e62d56\n3,K3,first,AB-12,2025-03-10 09:30:00,18340,,20,60000,WB01,2df787db950f1a08430facec636ce9101fc1faabc1c6e06780e363463ffd4f3d\n";
 
 fn entry(number: u32, key: &str, kind: Kind, moment: u64, gross_kg: u32) -> Result<Entry, Fail> {
     let parts = EntryParts {
@@ -39,12 +39,14 @@ fn entry(number: u32, key: &str, kind: Kind, moment: u64, gross_kg: u32) -> Resu
     Ok(Entry::new(parts).ok_or("limits")?)
 }
 
-/// Stores a pair of weighings. The first has its digest, or none.
+/// Stores a pair of weighings and another first one. The very first has its digest, or none.
 fn weigh(store: &mut Store<MemStore>, is_sound: bool) -> Result<(), Fail> {
     let first = entry(1, "K1", Kind::First, MORNING, 18_340)?;
     let second = entry(2, "K2", Kind::Second, LATER, 8_140)?;
+    let third = entry(3, "K3", Kind::First, LATER, 18_340)?;
     store.append(&if is_sound { first.sealed() } else { first })?;
     store.append(&second.sealed())?;
+    store.append(&third.sealed())?;
     Ok(())
 }
 
@@ -59,7 +61,7 @@ enum Asked {
 type Row = (Asked, &'static str);
 
 const OF_A_SOUND_JOURNAL: &[Row] = &[
-    (Asked::Check(Ok(true)), "SOUND 2\n"),
+    (Asked::Check(Ok(true)), "SOUND 3\n"),
     (Asked::Export(What::Journal, Ok(())), JOURNAL),
     (Asked::Export(What::Tickets, Ok(())), TICKETS),
 ];

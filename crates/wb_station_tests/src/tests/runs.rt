@@ -65,7 +65,7 @@ fn hands_on_each_reply_until_one_is_refused(rt: HostRuntime) -> Result<(), Fail>
     let store = store(Connection::open_in_memory(alloc)?)?;
     match Station::open(alloc, instrument, window, store) {
         Ok(mut station) => {
-            hands_on_each(&rt, alloc, &mut station);
+            hands_on_each(&rt, alloc, &mut station)?;
             stops_at_the_second(&rt, alloc, &mut station);
             Ok(())
         }
@@ -73,16 +73,27 @@ fn hands_on_each_reply_until_one_is_refused(rt: HostRuntime) -> Result<(), Fail>
     }
 }
 
-/// Each of three replies is handed on at its place.
-fn hands_on_each(rt: &impl Abort, alloc: Global, station: &mut Station<RingWindow, MemStore>) {
+/// Each of 300 replies is handed on at its place.
+fn hands_on_each(
+    rt: &impl Abort,
+    alloc: Global,
+    station: &mut Station<RingWindow, MemStore>,
+) -> Result<(), Fail> {
+    let mut events = Vec::new(alloc);
+    for _ in 0..300 {
+        for byte in b"SI\n".as_slice() {
+            events.push(Event::Byte(*byte))?;
+        }
+    }
     let mut outputs = OutputList::new(alloc);
-    assert_eq!(rt; station.run(&ASKED, &mut outputs), Ok(()));
+    assert_eq!(rt; station.run(events.as_slice(), &mut outputs), Ok(()));
     let taken = outputs.outputs();
-    assert_eq!(rt; taken.len(), 3);
+    assert_eq!(rt; taken.len(), 300);
     for (place, output) in taken.iter().enumerate() {
         assert_eq!(rt; output.at, 3 * (place as u64 + 1));
         assert_eq!(rt; output.bytes.as_slice(), b"S I\r\n".as_slice());
     }
+    Ok(())
 }
 
 /// The run stops at the reply that is refused.

@@ -1,0 +1,86 @@
+//! Sources in memory: what they hand out of what is longer than its room, and their clock.
+use std::alloc::Global;
+use std::process::Abort;
+use std::test::Fail;
+use wb_journal::Moment;
+use wb_sources::{
+    Answered, Converter, ListSources, ListTurn, REQUEST_ROOM, Sources, TERMINAL_ROOM,
+};
+use wb_window::Reading;
+
+/// 2025-03-10 08:00:00.
+const MORNING: u64 = 1_741_593_600;
+
+/// So many bytes, of which no two neighbours are alike.
+fn bytes(alloc: Global, count: usize) -> Result<Vec<u8>, Fail> {
+    let mut bytes = Vec::new(alloc);
+    for place in 0..count {
+        bytes.push((place % 251) as u8)?;
+    }
+    Ok(bytes)
+}
+
+/// One turn, with so many bytes more than the terminal and the office are handed.
+fn turn(alloc: Global, more: usize) -> Result<ListTurn, Fail> {
+    Ok(ListTurn {
+        converter: Converter::Line(Reading::Load(9_170)),
+        typed: bytes(alloc, TERMINAL_ROOM.saturating_add(more))?,
+        hung_up: true,
+        request: Some(bytes(alloc, REQUEST_ROOM.saturating_add(more))?),
+        moment: Moment::new(MORNING),
+    })
+}
+
+fn sources(alloc: Global, more: usize) -> Result<ListSources, Fail> {
+    let mut turns = Vec::new(alloc);
+    turns.push(turn(alloc, more)?)?;
+    Ok(ListSources::new(alloc, turns))
+}
+
+/// The rooms are filled to their ends.
+fn fills_both_rooms(rt: &impl Abort, alloc: Global, sources: &mut ListSources) -> Result<(), Fail> {
+    let mut typed = [0u8; TERMINAL_ROOM];
+    let taken = sources.terminal(&mut typed);
+    assert!(rt; taken.count == TERMINAL_ROOM && taken.hung_up);
+    assert_eq!(rt; typed.as_slice(), bytes(alloc, TERMINAL_ROOM)?.as_slice());
+    let mut request = [0u8; REQUEST_ROOM];
+    assert_eq!(rt; sources.office(&mut request), Some(REQUEST_ROOM));
+    assert_eq!(rt; request.as_slice(), bytes(alloc, REQUEST_ROOM)?.as_slice());
+    Ok(())
+}
+
+/// What was handed out is kept.
+fn keeps_both(rt: &impl Abort, alloc: Global, sources: &ListSources) -> Result<(), Fail> {
+    let typed = bytes(alloc, TERMINAL_ROOM)?;
+    let request = bytes(alloc, REQUEST_ROOM)?;
+    let mut kept = 0usize;
+    for answered in sources.answered() {
+        let is_kept = match answered {
+            Answered::Terminal { bytes, hung_up } => {
+                *hung_up && bytes.as_slice() == typed.as_slice()
+            }
+            Answered::Office(Some(bytes)) => bytes.as_slice() == request.as_slice(),
+            Answered::Moment(moment) => *moment == Moment::new(MORNING),
+            Answered::Converter(_) => true,
+            Answered::Office(None) => false,
+        };
+        assert!(rt; is_kept, "{kept}");
+        kept = kept.saturating_add(1);
+    }
+    assert_eq!(rt; kept, 5);
+    Ok(())
+}
+
+#[test]
+fn hands_out_what_there_is_room_for(rt: HostRuntime) -> Result<(), Fail> {
+    let alloc = rt.alloc();
+    for more in [0, 1, 300] {
+        let mut sources = sources(alloc, more)?;
+        assert!(rt; matches!(sources.converter(), Converter::Line(Reading::Load(9_170))));
+        fills_both_rooms(&rt, alloc, &mut sources)?;
+        assert_eq!(rt; sources.moment(), Moment::new(MORNING));
+        assert!(rt; matches!(sources.converter(), Converter::End));
+        keeps_both(&rt, alloc, &sources)?;
+    }
+    Ok(())
+}

@@ -1,0 +1,169 @@
+//! A journal of 3,000 entries: 1,500 vehicles, each weighed full and empty.
+use super::days::{Step, instrument, is_response, is_wanted, response, store};
+use sqlite::{Connection, MemStore};
+use std::alloc::Global;
+use std::process::Abort;
+use std::test::Fail;
+use wb_journal::Digest;
+use wb_station::Station;
+use wb_window::RingWindow;
+
+const VEHICLES: u16 = 1_500;
+
+/// The first vehicle comes at 2025-03-10 08:00:00, and every two minutes another.
+const FIRST_COMES: u64 = 1_741_593_600;
+
+/// 2025-06-09 00:00:00, when some entries are of age.
+const ASKED_AT: u64 = 1_749_427_200;
+
+/// A request, how long the body of its response is, and the SHA-256 of that body.
+type Row = (&'static str, usize, &'static str);
+
+/// Computed outside, from the same entries.
+const ALL: &[Row] = &[
+    (
+        "GET /check HTTP/1.1\r\n\r\n",
+        11,
+        "7d68bb10c945ab522a075eb4bac698e15e38f389760f5ebcc255d1150706adda",
+    ),
+    (
+        "GET /journal.csv HTTP/1.1\r\n\r\n",
+        382_647,
+        "8c7993c9d6d41e67ce7035de7b1b89d495ccf4b728b8b84b8062276fcbd90e41",
+    ),
+    (
+        "GET /tickets.csv HTTP/1.1\r\n\r\n",
+        84_834,
+        "44457ba50ab469134b002d4a42e9a5f1d1508224d33b2b208d2b48f589f65106",
+    ),
+    (
+        "GET /tickets/3000 HTTP/1.1\r\n\r\n",
+        366,
+        "169771ee219b5ae25c5eacb177f32c37427ae22ba8f7c92d696c627843225edf",
+    ),
+];
+
+/// The same after the purge.
+const LEFT: &[Row] = &[
+    (
+        "GET /check HTTP/1.1\r\n\r\n",
+        11,
+        "313830fb9137a9bb02940225525db9f4b8da03e1440eade7cc14e69232503ae3",
+    ),
+    (
+        "GET /journal.csv HTTP/1.1\r\n\r\n",
+        262_123,
+        "db8009311b072c54466393b9f4b47f493cbdf4fa86b13ef860b02bb1ffc14b99",
+    ),
+    (
+        "GET /tickets.csv HTTP/1.1\r\n\r\n",
+        58_652,
+        "7295b942518f8fd8592a211f9e6747c2f1b4e987cb353e79ece99115de5e5cd5",
+    ),
+];
+
+const PURGE: &str = "POST /purge HTTP/1.1\r\nContent-Length: 0\r\n\r\n";
+
+/// A weighing of a vehicle: the load in tenths, the number of its key, and the moment.
+#[derive(Clone, Copy, Drop)]
+struct Weighing {
+    tenths: i64,
+    kind: &'static str,
+    key: u16,
+    at: u64,
+}
+
+/// The two weighings of a vehicle.
+fn weighings(vehicle: u16) -> [Weighing; 2] {
+    let at = FIRST_COMES + 120 * u64::from(vehicle);
+    let key = vehicle.saturating_mul(2).saturating_add(1);
+    [
+        Weighing {
+            tenths: 9_170,
+            kind: "first",
+            key,
+            at,
+        },
+        Weighing {
+            tenths: 4_070,
+            kind: "second",
+            key: key.saturating_add(1),
+            at: at + 60,
+        },
+    ]
+}
+
+/// Whether a vehicle that comes onto the empty bridge is weighed.
+fn is_weighed(
+    alloc: Global,
+    station: &mut Station<RingWindow, MemStore>,
+    vehicle: u16,
+    weighing: Weighing,
+) -> Result<bool, Fail> {
+    let Weighing {
+        tenths,
+        kind,
+        key,
+        at,
+    } = weighing;
+    let body = format!(in alloc; "key=K{key}&kind={kind}&plate=P{vehicle}")?;
+    let length = body.len();
+    let request = format!(in alloc;
+        "POST /weighings HTTP/1.1\r\nContent-Length: {length}\r\n\r\n{body}"
+    )?;
+    let is_quiet = is_wanted(alloc, station, &Step::Load(0, 1, ""))?
+        && is_wanted(alloc, station, &Step::Load(tenths, 4, ""))?;
+    let answer = response(alloc, station, at, request.as_str())?;
+    Ok(is_quiet && is_response(answer.as_str(), "201 WEIGHING ")?)
+}
+
+fn weighs_all(
+    rt: &impl Abort,
+    alloc: Global,
+    station: &mut Station<RingWindow, MemStore>,
+) -> Result<(), Fail> {
+    for vehicle in 0..VEHICLES {
+        for weighing in weighings(vehicle) {
+            let is_stored = is_weighed(alloc, station, vehicle, weighing)?;
+            assert!(rt; is_stored, "vehicle {vehicle}");
+        }
+    }
+    Ok(())
+}
+
+fn answers_each(
+    rt: &impl Abort,
+    alloc: Global,
+    station: &mut Station<RingWindow, MemStore>,
+    rows: &[Row],
+) -> Result<(), Fail> {
+    for (request, length, digest) in rows {
+        let answer = response(alloc, station, ASKED_AT, request)?;
+        let (_, body) = answer.as_str().split_once("\r\n\r\n").ok_or("response")?;
+        assert_eq!(rt; body.len(), *length, "{request}");
+        assert_eq!(rt;
+            Digest::of_bytes(body.as_bytes()).as_str(),
+            *digest,
+            "{request}"
+        );
+    }
+    Ok(())
+}
+
+#[test]
+fn keeps_exports_and_purges_3000_entries(rt: HostRuntime) -> Result<(), Fail> {
+    let alloc = rt.alloc();
+    let instrument = instrument(10_000)?;
+    let window = RingWindow::new(alloc, instrument.window() as usize, instrument.band())?;
+    let store = store(Connection::open_in_memory(alloc)?)?;
+    match Station::open(alloc, instrument, window, store) {
+        Ok(mut station) => {
+            weighs_all(&rt, alloc, &mut station)?;
+            answers_each(&rt, alloc, &mut station, ALL)?;
+            let purged = response(alloc, &mut station, ASKED_AT, PURGE)?;
+            assert!(rt; is_response(purged.as_str(), "200 PURGED 960")?);
+            answers_each(&rt, alloc, &mut station, LEFT)
+        }
+        Err(_) => Err("no station".into()),
+    }
+}
