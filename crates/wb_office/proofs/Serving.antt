@@ -17,7 +17,7 @@ use Rattle.wb_office.specs.declared.judging.Asked.{Asked}
 use Rattle.wb_office.specs.declared.refusal.Refusal.{Refusal}
 use Rattle.wb_office.specs.declared.refusal.Refusal.TheVariants.{Store}
 use Rattle.wb_office.specs.declared.request.Request.{Request}
-use Rattle.wb_office.specs.Answer.{Told, answer_of, asking, entries_after, marks_by, text_of}
+use Rattle.wb_office.specs.Answer.{Told, answer_of, asking, entries_after, is_marked, nothing, outcome_of, spent_after, text_of}
 use Rattle.wb_office.specs.Situation.{Situation, IsOnLists}
 use Rattle.wb_office.specs.Conditions.{holds_of}
 use Rattle.wb_office.specs.helpers.JudgedByVerdict.{AsksFor, IsAccepted, IsOnScale}
@@ -98,10 +98,16 @@ pub record IsAnswered (IsWanted : Situation → Wanted → Type 0) (w : Situatio
   pub told_is : told_of r ≡ want.answer
 
 -- that of a verdict that adds nothing
-pub by_verdict : (asked : Asked) (w : Situation) (r : Result Answer Refusal) (v : Verdict) → verdict (asking w asked.key asked.kind asked.plate) ≡ v → entries_after w.entries v ≡ w.entries → marks_by v ≡ false
+pub by_verdict : (asked : Asked) (w : Situation) (r : Result Answer Refusal) (v : Verdict) → verdict (asking w asked.key asked.kind asked.plate) ≡ v → outcome_of v ≡ nothing
     → told_of r ≡ answer_of w.entries v → IsAnswered (IsWeighingWanted asked) w r
-by_verdict asked w r v is same unmarked tells =
-    record { want = wanted_by w v; is = ap (wanted_by w) (sym is); entries = same; spent = refl; marks = unmarked; told_is = tells }
+by_verdict asked w r v is none tells = record {
+  want = wanted_by w v;
+  is = ap (wanted_by w) (sym is);
+  entries = ap (λ o. entries_after o w.entries) none;
+  spent = ap (λ o. spent_after o w.entries w.spent) none;
+  marks = ap is_marked none;
+  told_is = tells;
+}
 
 module _ {D : Type 0} (g : Ghosts D) (at : ℕ) (IsWanted : Situation → Wanted → Type 0) where
   -- the store was read alone

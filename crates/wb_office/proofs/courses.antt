@@ -1,4 +1,5 @@
 pub mod AcceptedEntries
+pub mod KnownEntries
 pub mod Numbers
 pub mod Places
 pub mod RepeatedRequests

@@ -2,33 +2,21 @@
 use Rattle.std.specs.Prelude.{ℕ, Bool, if◌then◌else◌, List, [], ◌∷◌, Option, Some, None, Result}
 use Rattle.wb_instrument.specs.Setup.{Setup}
 use Rattle.wb_journal.specs.declared.entry.EntryParts.{EntryParts}
-use Rattle.wb_journal.specs.declared.kind.Kind.TheVariants.{Void}
 use Rattle.wb_scale.specs.Moment.{Moment}
 use Rattle.wb_store.specs.Rows.{SpentKey}
 use Rattle.wb_office.specs.declared.refusal.Refusal.{Refusal}
 use Rattle.wb_office.specs.declared.request.Request.{Request}
-use Rattle.wb_office.specs.declared.request.Request.TheVariants.{Weigh, VoidOpen, Ticket, Indication, JournalCsv, TicketsCsv, Purge, Check}
-use Rattle.wb_office.specs.Answer.{Told, answer, asking, entries_left, spent_left}
+use Rattle.wb_office.specs.Answer.{Outcome, Told, adds, answer, entries_left, outcome, spent_left}
 use Rattle.wb_office.specs.Situation.{Situation}
-use Rattle.wb_office.specs.Verdict.{Verdict, accepted, refused, repeated, verdict}
 use Rattle.wb_office.specs.Wanted.{HasBound}
 
--- the entry that a verdict adds, if it is accepted
-abbrev pub added_by : Verdict → Option EntryParts
-added_by (refused why) = None
-added_by (repeated e) = None
-added_by (accepted e) = Some e
+abbrev pub added_by : Outcome → Option EntryParts
+added_by (adds e) = Some e
+added_by _ = None
 
--- the entry that a request adds, if it is an accepted weighing or void
+-- the entry that a request adds, if it is an accepted weighing or void; no bound decides it
 abbrev pub added : Situation → Request → Option EntryParts
-added w (Weigh key kind plate) = added_by (verdict (asking w key kind plate))
-added w (VoidOpen key plate) = added_by (verdict (asking w key Void plate))
-added w (Ticket number) = None
-added w Indication = None
-added w JournalCsv = None
-added w TicketsCsv = None
-added w Purge = None
-added w Check = None
+added w request = added_by (outcome w 0 request)
 
 -- the two lists of a store
 pub record Journal : Type 0 where
