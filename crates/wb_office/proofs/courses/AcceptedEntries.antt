@@ -1,5 +1,5 @@
 -- What an accepted weighing or void was judged on, and what a request makes of the lists.
-use Rattle.std.proofs.Common.{◌≡◌, ◌∙◌, sym, ap, ℕ, ◌+◌, ◌<◌, Bool, true, false, ◌&&◌, ◌||◌, if◌then◌else◌, List, [], ◌∷◌, ◌++◌, take, Option, Some, None, refl, arith, true≢false}
+use Rattle.std.proofs.Common.{◌≡◌, ◌∙◌, sym, ap, subst, ℕ, ◌+◌, ◌<◌, Bool, true, false, ◌&&◌, ◌||◌, if◌then◌else◌, List, [], ◌∷◌, ◌++◌, take, Option, Some, None, refl, arith, true≢false}
 use Rattle.std.proofs.lemmas.Bool.Decides.{nat_tests}
 use Rattle.std.specs.List.{list_any}
 use Rattle.std.specs.Prelude.{nat_lt}
@@ -18,7 +18,7 @@ use Rattle.wb_office.specs.declared.request.Request.TheVariants.{Weigh, VoidOpen
 use Rattle.wb_office.specs.Answer.{Outcome, adds, answer, answer_of, asking, nothing, outcome, outcome_of, purges, unless_damaged}
 use Rattle.wb_office.specs.Situation.{Asking, Situation}
 use Rattle.wb_office.specs.Conditions.{gone, is_damaged, is_other, journal_full, places, places_of}
-use Rattle.wb_office.specs.CourseOfRequests.{added, added_by}
+use Rattle.wb_office.specs.CourseOfRequests.{added, added_by, answered_with, entry_of}
 use Rattle.wb_office.specs.Verdict.{Condition, Verdict, accepted, first_refusal, new_entry, of_new, on, on_new, refused, repeated, verdict}
 use Rattle.wb_office.proofs.FoundEntries.{is_some_same, none_some}
 use Rattle.wb_office.proofs.Verdicts.{by_damage, by_newness, by_other, by_repetition, by_spent}
@@ -31,6 +31,10 @@ pub record IsNew (a : Asking) (e : EntryParts) : Type 0 where
   pub unspent : gone a ≡ false
   pub judged : first_refusal of_new a ≡ None
   pub made : e ≡ new_entry a
+
+pub and_true : (a b : Bool) → a ≡ true → (a && b) ≡ false → b ≡ false
+and_true true b h k = k
+and_true false b h k = absurd (true≢false (sym h))
 
 abbrev the_entry : EntryParts → Verdict → EntryParts
 the_entry other (refused why) = other
@@ -90,6 +94,24 @@ is_new a e is = go (how_judged a)
     go (by_its_key why other v) = no_refusal e why (sym is ∙ v)
     go (as_repeated f found same whole v) = no_repetition e f (sym is ∙ v)
     go (anew none free v) = by_conditions none free (first_refusal of_new a) refl (sym is ∙ v)
+
+-- an entry is repeated under its key, of its kind and plate
+pub record IsRepeated (a : Asking) (e : EntryParts) : Type 0 where
+  pub found : by_key a.now.entries a.key ≡ Some e
+  pub same : is_other a e ≡ false
+  pub whole : is_damaged a.now.entries e ≡ false
+
+pub is_repeated : (a : Asking) (e : EntryParts) → verdict a ≡ repeated e → IsRepeated a e
+is_repeated a e is = go (how_judged a)
+  where
+    by_conditions : {C : Type 0} (r : Option Refusal) → repeated e ≡ on_new a r → C
+    by_conditions (Some why) made = refused_repetition e why made
+    by_conditions None made = no_repetition (new_entry a) e (sym made)
+
+    go : Judged a → IsRepeated a e
+    go (by_its_key why other v) = refused_repetition e why (sym is ∙ v)
+    go (as_repeated f found same whole v) = subst (IsRepeated a) (ap (the_entry e) (sym v ∙ is)) (record { found = found; same = same; whole = whole })
+    go (anew none free v) = by_conditions (first_refusal of_new a) (sym is ∙ v)
 
 -- ---- what a request makes of the lists
 
@@ -155,6 +177,12 @@ is_added w request e some = go (comes w 0 request)
     go (stays none) = none_some (sym none ∙ some)
     go (adding asked f is one) = record { asked = asked; is = is ∙ ap accepted (is_some_same (sym one ∙ some)) }
     go (purging ask count sound none) = none_some (sym none ∙ some)
+
+-- a request that is answered with an entry is a weighing or void
+pub is_told : (w : Situation) (request : Request) (e : EntryParts) → answered_with w request ≡ Some e → (asked : IsAsked request) × (entry_of (verdict (asking_for asked w)) ≡ Some e)
+is_told w (Weigh key kind plate) e some = (by_weighing key kind plate, some)
+is_told w (VoidOpen key plate) e some = (by_void key plate, some)
+is_told w _ e some = none_some some
 
 -- ---- the last condition
 

@@ -1,5 +1,5 @@
 -- The places that are taken, and the partners, after every request.
-use Rattle.std.proofs.Common.{◌≡◌, ap, ap₂, ℕ, ◌+◌, ◌≤◌, ◌<◌, max, Bool, true, false, cond, inl, inr, not, ◌&&◌, ◌||◌, nat_le, nat_lt, List, [], ◌∷◌, ◌++◌, length, refl, arith, true≢false}
+use Rattle.std.proofs.Common.{◌≡◌, ap, ap₂, ℕ, ◌+◌, ◌≤◌, ◌<◌, max, Bool, true, false, cond, not, ◌&&◌, ◌||◌, nat_le, nat_lt, List, [], ◌∷◌, ◌++◌, length, refl, arith, true≢false}
 use Rattle.std.proofs.lemmas.Bool.Decides.{nat_tests}
 use Rattle.std.proofs.lemmas.Int.{clamps}
 use Rattle.std.proofs.lemmas.List.Sums.{sum_by-cons}
@@ -17,7 +17,7 @@ use Rattle.wb_journal.specs.Pairs.{is_first_of, is_open, is_partner, lies_betwee
 use Rattle.wb_journal.specs.Retention.{kept}
 use Rattle.wb_journal.specs.Rising.{IsRising, IsRisingFrom}
 use Rattle.wb_journal.proofs.offered.Kept.{kept-partner}
-use Rattle.wb_journal.proofs.offered.Members.{Among, among-contains}
+use Rattle.wb_journal.proofs.offered.Members.{among-contains}
 use Rattle.wb_store.specs.Lists.{greatest, greatest_spent, next_number}
 use Rattle.wb_store.proofs.offered.LaterLists.{one, open_count_more}
 use Rattle.wb_office.specs.declared.request.Request.TheVariants.{Purge}
@@ -28,6 +28,7 @@ use Rattle.wb_office.specs.Laws.{KeepsPartners, WithinCapacity}
 use Rattle.wb_office.specs.Verdict.{accepted, of_new, verdict}
 use Rattle.wb_office.proofs.courses.AcceptedEntries.{Comes, adding, asking_for, comes, is_new, purging, stays}
 use Rattle.wb_office.proofs.ConditionsInOrder.{none_holds}
+use Rattle.wb_office.proofs.Members.{among_kept}
 use Rattle.wb_office.proofs.courses.Numbers.{number_is_next}
 
 -- ---- one entry more
@@ -175,18 +176,6 @@ within_capacity w b request rising = go (comes w b request)
     go (purging ask count sound none) = at_most (places (kept b w.entries)) w.setup.capacity (places w.entries) (fewer b w.entries)
 
 -- ---- partners
-
-among_kept : (b : ℕ) (es : List EntryParts) (x : EntryParts) → Among x (kept b es) → Among x es × (b ≤ x.number)
-among_kept b [] x m = absurd m
-among_kept b (e ∷ es) x m = go (nat_le b e.number) refl (λ n. among_kept b es x n) m
-  where
-    high : nat_le b e.number ≡ true → x ≡ e → b ≤ x.number
-    high t same = let numbers : x.number ≡ e.number = ap (λ z. z.number) same in let low : b ≤ e.number = grind (arith, nat_tests) in omega arith
-
-    go : (k : Bool) → nat_le b e.number ≡ k → (Among x (kept b es) → Among x es × (b ≤ x.number)) → Among x (cond k (e ∷ kept b es) (kept b es)) → Among x (e ∷ es) × (b ≤ x.number)
-    go true t rest (inl same) = (inl same, high t same)
-    go true t rest (inr n) = let r = rest n in (inr r.0, r.1)
-    go false t rest n = let r = rest n in (inr r.0, r.1)
 
 pub keeps_partners : KeepsPartners
 keeps_partners w b rising bound e stays' = go (check w.entries) refl stays'

@@ -13,23 +13,24 @@ use Rattle.wb_journal.specs.Laws.{ClosesTheOpen}
 use Rattle.wb_journal.specs.Pairs.{open_of, partner}
 use Rattle.wb_journal.specs.Rising.{IsRising}
 use Rattle.wb_journal.specs.Texts.{ticket}
+use Rattle.wb_journal.proofs.offered.Members.{find-among}
 use Rattle.wb_journal.proofs.offered.Seals.{sound-sealed}
-use Rattle.wb_store.specs.Lists.{by_key, has_key, is_spent}
+use Rattle.wb_store.specs.Lists.{AreLists, by_key, has_key, is_spent}
 use Rattle.wb_office.specs.declared.refusal.Refusal.{Refusal}
 use Rattle.wb_office.specs.declared.refusal.Refusal.TheVariants as refusal
 use Rattle.wb_office.specs.declared.request.Request.{Request}
 use Rattle.wb_office.specs.Answer.{Told, answer, answer_of, asking, entries_after, outcome_of, spent_after, text_of, ticket_told}
 use Rattle.wb_office.specs.Situation.{Asking, Situation}
 use Rattle.wb_office.specs.Conditions.{holds_of, is_damaged, is_other}
-use Rattle.wb_office.specs.CourseOfRequests.{AreBounds, Journal, Turn, after, answer_in, left, situation}
+use Rattle.wb_office.specs.CourseOfRequests.{AreBounds, Journal, Turn, after, answer_in, entry_of, left, situation}
 use Rattle.wb_office.specs.Laws.{AnsweredAgain, IsGone, IsKept}
-use Rattle.wb_office.specs.Verdict.{accepted, of_new, refused, repeated, verdict}
-use Rattle.wb_office.proofs.FoundEntries.{found_by_number}
+use Rattle.wb_office.specs.Verdict.{Verdict, accepted, of_new, refused, repeated, verdict}
+use Rattle.wb_office.proofs.FoundEntries.{found_by_number, is_some_same, none_some}
 use Rattle.wb_office.proofs.ConditionsInOrder.{none_holds}
 use Rattle.wb_office.proofs.NewEntries.{unsealed}
 use Rattle.wb_office.proofs.Verdicts.{by_repetition, by_spent}
-use Rattle.wb_office.proofs.courses.AcceptedEntries.{IsAsked, asking_for, is_added, is_new}
-use Rattle.wb_office.proofs.courses.KnownEntries.{IsKnown, begins, known_after}
+use Rattle.wb_office.proofs.courses.AcceptedEntries.{IsAsked, and_true, asking_for, is_new, is_repeated, is_told}
+use Rattle.wb_office.proofs.courses.KnownEntries.{IsKnown, begins, has_open, known_after, stood}
 use Rattle.wb_office.proofs.courses.StoredEntries.{IsPast, IsStored}
 
 -- ---- the verdict on it
@@ -79,10 +80,6 @@ of_second Second s = refl
 of_second Single s = absurd (true≢false (sym s))
 of_second Void s = refl
 
-and_true : (a b : Bool) → a ≡ true → (a && b) ≡ false → b ≡ false
-and_true true b h k = k
-and_true false b h k = absurd (true≢false (sym h))
-
 -- the First that an accepted Second closes is sound
 partner_sound : ClosesTheOpen → (a : Asking) (e : EntryParts) → verdict a ≡ accepted e → IsRising (a.now.entries ++ e ∷ []) → is_second e.kind ≡ true
     → holds_of is_sound (partner (a.now.entries ++ e ∷ []) e) ≡ true
@@ -93,9 +90,8 @@ partner_sound closes a e is rising second =
     let free = none_holds of_new a new.judged in
     let late = free.1.1.1.1.1.1.1.1.1 in
     let closing = of_second e.kind second in
-    let there : is_none (open_of a.now.entries e.plate) ≡ false = and_true (is_closing e.kind) _ closing (rw (kind, plate) at late.1.0) in
     let sound : holds_of (λ f. not (is_sound f)) (open_of a.now.entries e.plate) ≡ false = and_true (is_second e.kind) _ second (rw (kind, plate) at late.1.1.0) in
-    rw (closes a.now.entries e rising closing) (holds_some (open_of a.now.entries e.plate) there sound)
+    rw (closes a.now.entries e rising closing) (holds_some (open_of a.now.entries e.plate) (has_open a e is closing) sound)
 
 not_damaged : (es : List EntryParts) (e : EntryParts) → is_sound e ≡ true → (is_second e.kind ≡ true → holds_of is_sound (partner es e) ≡ true) → is_damaged es e ≡ false
 not_damaged es e sound partner_is = go (is_second e.kind) refl
@@ -104,13 +100,13 @@ not_damaged es e sound partner_is = go (is_second e.kind) refl
     go true t = rw (sound, partner_is t) refl
     go false t = rw sound refl
 
-same_text : (es fs : List EntryParts) (e : EntryParts) (k : Kind) → partner es e ≡ partner fs e → text_of es e k ≡ text_of fs e k
+pub same_text : (es fs : List EntryParts) (e : EntryParts) (k : Kind) → partner es e ≡ partner fs e → text_of es e k ≡ text_of fs e k
 same_text es fs e First same = refl
 same_text es fs e Second same = ap (λ p. ticket_told (ticket e p)) same
 same_text es fs e Single same = refl
 same_text es fs e Void same = refl
 
-same_damage : (es fs : List EntryParts) (e : EntryParts) → partner es e ≡ partner fs e → is_damaged es e ≡ is_damaged fs e
+pub same_damage : (es fs : List EntryParts) (e : EntryParts) → partner es e ≡ partner fs e → is_damaged es e ≡ is_damaged fs e
 same_damage es fs e same = ap (λ p. not (is_sound e) || (is_second e.kind && not (holds_of is_sound p))) same
 
 -- ---- the law
@@ -168,7 +164,31 @@ told_added closes j t e rising asked accepts =
       told = subst (λ o. answer_in j t ≡ Ok (text_of (entries_after o j.entries) e e.kind)) (sym is) told;
     }
 
+-- it repeated the entry
+told_repeated : (j : Journal) (t : Turn) (e : EntryParts) → AreLists j.entries j.spent → (asked : IsAsked t.request) → verdict (asking_for asked (situation j t)) ≡ repeated e
+    → IsTold (left j t) t.request e (answer_in j t)
+told_repeated j t e lists asked is =
+    let w = situation j t in
+    let again = is_repeated (asking_for asked w) e is in
+    let found = find-among (has_key asked.key) j.entries e again.found in
+    let stays = asked.outcomes w t.bound ∙ ap outcome_of is in
+    let told = asked.answers w t.bound ∙ ap (answer_of j.entries) is in
+    record {
+      asked = asked;
+      of_key = sym ((bytes_eq-Decides e.key asked.key).0 found.1);
+      same = λ now. again.same;
+      known = subst (λ o. IsKnown (entries_after o j.entries) (spent_after o j.entries j.spent) e (partner (entries_after o j.entries) e)) (sym stays) (stood j.entries j.spent e lists found.0);
+      whole = subst (λ o. is_damaged (entries_after o j.entries) e ≡ false) (sym stays) again.whole;
+      told = subst (λ o. answer_in j t ≡ Ok (text_of (entries_after o j.entries) e e.kind)) (sym stays) told;
+    }
+
 pub answered_again : ClosesTheOpen → AnsweredAgain
-answered_again closes j lists t e some ts bounds u same =
-    let one = is_added (situation j t) t.request e some in
-    told_again (left j t) t.request e (answer_in j t) (told_added closes j t e lists.rising one.asked one.is) ts bounds u same
+answered_again closes j lists t e some ts bounds u same = told_again (left j t) t.request e (answer_in j t) (go (is_told (situation j t) t.request e some)) ts bounds u same
+  where
+    by_verdict : (asked : IsAsked t.request) (v : Verdict) → verdict (asking_for asked (situation j t)) ≡ v → entry_of v ≡ Some e → IsTold (left j t) t.request e (answer_in j t)
+    by_verdict asked (refused why) is told = none_some told
+    by_verdict asked (repeated f) is told = told_repeated j t e lists asked (is ∙ ap repeated (is_some_same told))
+    by_verdict asked (accepted f) is told = told_added closes j t e lists.rising asked (is ∙ ap accepted (is_some_same told))
+
+    go : (asked : IsAsked t.request) × (entry_of (verdict (asking_for asked (situation j t))) ≡ Some e) → IsTold (left j t) t.request e (answer_in j t)
+    go told = by_verdict told.0 (verdict (asking_for told.0 (situation j t))) refl told.1

@@ -1,24 +1,28 @@
 -- A key that is stored or spent stays so, and no entry is added under it.
-use Rattle.std.proofs.Common.{◌≡◌, ◌∙◌, sym, subst, ℕ, ◌+◌, ◌≤◌, Bool, true, false, cond, not, ◌||◌, if◌then◌else◌, List, [], ◌∷◌, ◌++◌, map, nat_le, nat_lt, None, refl, arith, true≢false}
+use Rattle.std.proofs.Common.{◌≡◌, ◌∙◌, sym, subst, ℕ, ◌+◌, ◌≤◌, Bool, true, false, cond, not, ◌||◌, if◌then◌else◌, List, [], ◌∷◌, ◌++◌, map, nat_le, nat_lt, ◌⊎◌, inl, inr, Some, None, refl, arith, true≢false}
 use Rattle.std.proofs.lemmas.Bool.Decides.{nat_tests}
 use Rattle.std.proofs.lemmas.List.Folds.{list_any-append}
 use Rattle.std.proofs.lemmas.List.Sums.{sum_by-cons}
 use Rattle.std.proofs.lemmas.Slice.Eq.{bytes_eq-Decides}
 use Rattle.std.specs.List.{list_any}
-use Rattle.std.specs.Prelude.{count_by}
+use Rattle.std.specs.Prelude.{Contains, count_by}
 use Rattle.std.specs.Str.{bytes_eq}
 use Rattle.wb_journal.specs.declared.entry.EntryParts.{EntryParts}
+use Rattle.wb_journal.specs.Laws.{ClosesTheOpen}
 use Rattle.wb_journal.specs.Retention.{kept}
-use Rattle.wb_store.specs.Lists.{has_key, is_of_key, is_spent}
+use Rattle.wb_journal.proofs.offered.Members.{among-contains}
+use Rattle.wb_store.specs.Lists.{AreLists, by_key, has_key, is_of_key, is_spent}
 use Rattle.wb_store.specs.Rows.{SpentKey}
 use Rattle.wb_office.specs.declared.request.Request.{Request}
 use Rattle.wb_office.specs.Answer.{Outcome, adds, below, entries_after, nothing, outcome, purges, spent_after, spent_by}
 use Rattle.wb_office.specs.Situation.{Asking, Situation}
-use Rattle.wb_office.specs.CourseOfRequests.{Journal, Turn, added, added_by, additions, after, left, situation, with_one}
-use Rattle.wb_office.specs.Laws.{is_taken}
+use Rattle.wb_office.specs.CourseOfRequests.{AreBounds, Journal, Turn, added, added_by, additions, after, left, situation, with_one}
+use Rattle.wb_office.specs.Laws.{OneEntryPerKey, is_taken}
 use Rattle.wb_office.specs.Verdict.{accepted, verdict}
 use Rattle.wb_office.proofs.courses.AcceptedEntries.{Comes, added_is, adding, asking_for, comes, is_new, purging, stays}
 use Rattle.wb_office.proofs.FoundEntries.{find_none}
+use Rattle.wb_office.proofs.courses.KnownEntries.{IsLasting, added_lasts}
+use Rattle.wb_office.proofs.courses.StoredEntries.{IsPast, IsStored}
 
 abbrev pub taken_in : List EntryParts → List SpentKey → List ℕ → Bool
 taken_in es ks key = list_any (has_key key) es || is_spent ks key
@@ -142,5 +146,21 @@ counted j (t ∷ ts) key =
     let now = one_turn t.is_made (after j ts) t key (additions j ts) in
     omega (arith, before, now)
 
-pub one_entry_per_key : (j : Journal) (ts : List Turn) (key : List ℕ) → count_by (has_key key) (additions j ts) ≤ (if is_taken j key then 0 else 1)
-one_entry_per_key j ts key = let all = counted j ts key in omega (arith, all)
+at_most_one : (j : Journal) (ts : List Turn) (key : List ℕ) → count_by (has_key key) (additions j ts) ≤ (if is_taken j key then 0 else 1)
+at_most_one j ts key = let all = counted j ts key in omega (arith, all)
+
+-- what was added under it is stored, or was purged
+stored_or_spent : ClosesTheOpen → (j : Journal) (ts : List Turn) (key : List ℕ) → AreLists j.entries j.spent → AreBounds j ts → (e : EntryParts) → Contains (additions j ts) e → e.key ≡ key
+    → (by_key (after j ts).entries key ≡ Some e) ⊎ (is_spent (after j ts).spent key ≡ true)
+stored_or_spent closes j ts key lists bounds e added same = go last.known.state
+  where
+    last : IsLasting (after j ts) e
+    last = added_lasts closes j ts e lists.rising bounds (among-contains e (additions j ts) added)
+
+    go : IsStored (after j ts).entries (after j ts).spent e last.first ⊎ IsPast (after j ts).entries (after j ts).spent e
+        → (by_key (after j ts).entries key ≡ Some e) ⊎ (is_spent (after j ts).spent key ≡ true)
+    go (inl stored) = inl (subst (λ k. by_key (after j ts).entries k ≡ Some e) same stored.found)
+    go (inr past) = inr (subst (λ k. is_spent (after j ts).spent k ≡ true) same past.spent)
+
+pub one_entry_per_key : ClosesTheOpen → OneEntryPerKey
+one_entry_per_key closes j ts key = record { once = at_most_one j ts key; for_good = stored_or_spent closes j ts key }
