@@ -28,6 +28,9 @@ find_none p (y ∷ ys) found = go (p y) found (λ f. find_none p ys f)
     go true f more = absurd (cc)
     go false f more = more f
 
+pub none_some : {X C : Type 0} {x : X} → ◌≡◌ {A = Option X} None (Some x) → C
+none_some same = absurd (cc)
+
 pub is_some_same : {X : Type 0} {x y : X} → Some x ≡ Some y → x ≡ y
 is_some_same {x = x} some = ap (λ o. unwrap_or o x) some
 

@@ -3,6 +3,7 @@ mod ExportRecords
 mod FoundEntries
 mod LoadConditions
 mod LookUps
+mod Members
 mod NewEntries
 mod Purges
 mod Serving

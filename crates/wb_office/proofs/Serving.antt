@@ -1,12 +1,12 @@
 -- How calls of the store serve a weighing or void.
-use Rattle.std.proofs.Common.{ℕ, ◌≡◌, ◌∙◌, ◌↔◌, inl, sym, ap, Bool, true, false, ◌||◌, not, List, [], ◌∷◌, ◌++◌, IfErr, IfOk, IsOk, OnErr, Option, Some, None, is_some, unwrap_or, Result, Ok, Err, refl, true≢false}
+use Rattle.std.proofs.Common.{ℕ, ◌≡◌, ◌≢◌, ◌∙◌, ◌↔◌, inl, sym, ap, Bool, true, false, ◌||◌, not, List, [], ◌∷◌, ◌++◌, IfErr, IfOk, IsOk, OnErr, Option, Some, None, is_some, unwrap_or, Result, Ok, Err, refl, true≢false}
 use Rattle.sqlite.specs.Store.{Ghosts}
 use Rattle.wb_journal.specs.declared.entry.EntryParts.{EntryParts}
 use Rattle.wb_journal.specs.Kind.{is_void}
 use Rattle.wb_journal.specs.Pairs.{open_of}
 use Rattle.wb_scale.specs.State.{State}
 use Rattle.wb_store.specs.declared.fault.StoreFault.{StoreFault}
-use Rattle.wb_store.specs.declared.fault.StoreFault.TheVariants.{Closed, Memory}
+use Rattle.wb_store.specs.declared.fault.StoreFault.TheVariants.{Closed, Foreign, Memory}
 use Rattle.wb_store.specs.Faults.{is_disk}
 use Rattle.wb_store.specs.Journal.{IsHonest, StoreView, Stands}
 use Rattle.wb_store.specs.Keeping.{LeavesEither, LeavesOnly}
@@ -17,7 +17,7 @@ use Rattle.wb_office.specs.declared.judging.Asked.{Asked}
 use Rattle.wb_office.specs.declared.refusal.Refusal.{Refusal}
 use Rattle.wb_office.specs.declared.refusal.Refusal.TheVariants.{Store}
 use Rattle.wb_office.specs.declared.request.Request.{Request}
-use Rattle.wb_office.specs.Answer.{Told, answer_of, asking, entries_after, marks_by, text_of}
+use Rattle.wb_office.specs.Answer.{Told, answer_of, asking, entries_after, is_marked, nothing, outcome_of, spent_after, text_of}
 use Rattle.wb_office.specs.Situation.{Situation, IsOnLists}
 use Rattle.wb_office.specs.Conditions.{holds_of}
 use Rattle.wb_office.specs.helpers.JudgedByVerdict.{AsksFor, IsAccepted, IsOnScale}
@@ -52,20 +52,23 @@ pub plain_closes : (was : Bool) (r : Result Answer Refusal) → is_store_refusal
 plain_closes was (Ok answer) plain = refl
 plain_closes was (Err why) plain = ap (λ b. was || b) (no_disk (fault_of_refusal why) plain) ∙ or_false was
 
-pub plain_not_closed : {C : Type 0} (r : Result Answer Refusal) → is_store_refusal r ≡ false → r ≡ Err (Store Closed) → C
-plain_not_closed r plain same = absurd (true≢false (sym (ap is_store_refusal same) ∙ plain))
+pub plain_no_fault : {C : Type 0} (f : StoreFault) (r : Result Answer Refusal) → is_store_refusal r ≡ false → r ≡ Err (Store f) → C
+plain_no_fault f r plain same = absurd (true≢false (sym (ap is_store_refusal same) ∙ plain))
 
-refault : {X : Type 0} → Result Answer Refusal → Result X StoreFault
-refault (Ok answer) = Err Closed
-refault (Err why) = Err (unwrap_or (fault_of_refusal why) Closed)
+the_fault : Result Answer Refusal → StoreFault
+the_fault (Ok answer) = Closed
+the_fault (Err why) = unwrap_or (fault_of_refusal why) Closed
+
+pub is_same_fault : (f h : StoreFault) → ◌≡◌ {A = Result Answer Refusal} (Err (Store f)) (Err (Store h)) → f ≡ h
+unfolding the_fault
+is_same_fault f h same = ap the_fault same
 
 ofault : {X : Type 0} → Result X StoreFault → Result Answer Refusal
 ofault (Ok x) = Err (Store Closed)
 ofault (Err f) = Err (Store f)
 
 pub is_same_refusal : {X : Type 0} (f : StoreFault) → ◌≡◌ {A = Result Answer Refusal} (Err (Store f)) (Err (Store Closed)) → ◌≡◌ {A = Result X StoreFault} (Err f) (Err Closed)
-unfolding refault
-is_same_refusal {X = X} f same = ap (λ r. refault {X = X} r) same
+is_same_refusal {X = X} f same = ap (λ h. Err h) (is_same_fault f Closed same)
 
 pub is_that_refusal : {X : Type 0} (f : StoreFault) → ◌≡◌ {A = Result X StoreFault} (Err f) (Err Closed) → ◌≡◌ {A = Result Answer Refusal} (Err (Store f)) (Err (Store Closed))
 unfolding ofault
@@ -95,10 +98,16 @@ pub record IsAnswered (IsWanted : Situation → Wanted → Type 0) (w : Situatio
   pub told_is : told_of r ≡ want.answer
 
 -- that of a verdict that adds nothing
-pub by_verdict : (asked : Asked) (w : Situation) (r : Result Answer Refusal) (v : Verdict) → verdict (asking w asked.key asked.kind asked.plate) ≡ v → entries_after w.entries v ≡ w.entries → marks_by v ≡ false
+pub by_verdict : (asked : Asked) (w : Situation) (r : Result Answer Refusal) (v : Verdict) → verdict (asking w asked.key asked.kind asked.plate) ≡ v → outcome_of v ≡ nothing
     → told_of r ≡ answer_of w.entries v → IsAnswered (IsWeighingWanted asked) w r
-by_verdict asked w r v is same unmarked tells =
-    record { want = wanted_by w v; is = ap (wanted_by w) (sym is); entries = same; spent = refl; marks = unmarked; told_is = tells }
+by_verdict asked w r v is none tells = record {
+  want = wanted_by w v;
+  is = ap (wanted_by w) (sym is);
+  entries = ap (λ o. entries_after o w.entries) none;
+  spent = ap (λ o. spent_after o w.entries w.spent) none;
+  marks = ap is_marked none;
+  told_is = tells;
+}
 
 module _ {D : Type 0} (g : Ghosts D) (at : ℕ) (IsWanted : Situation → Wanted → Type 0) where
   -- the store was read alone
@@ -118,7 +127,8 @@ module _ {D : Type 0} (g : Ghosts D) (at : ℕ) (IsWanted : Situation → Wanted
     unmarked = λ p. refl;
     kept = λ es ks s h p o. absurd (true≢false (sym p ∙ plain));
     leaves = λ w n s h want is db may. inl (reads.keeps.leaves w.entries w.spent s h db may);
-    closed = ((λ e. plain_not_closed r plain e), λ e. ok_is_no_fault {X = X} x (reads.closes.closed.1 e));
+    known = λ es ks s h e. plain_no_fault Foreign r plain e;
+    closed = ((λ e. plain_no_fault Closed r plain e), λ e. ok_is_no_fault {X = X} x (reads.closes.closed.1 e));
     still = λ e. ok_is_no_fault {X = X} x (reads.closes.closed.1 e);
     closes = reads.closes.closes ∙ sym (plain_closes _ r plain);
     honest = reads.closes.honest;
@@ -132,6 +142,7 @@ module _ {D : Type 0} (g : Ghosts D) (at : ℕ) (IsWanted : Situation → Wanted
     unmarked = λ p. refl;
     kept = λ es ks s h p o. (reads.keeps.stands es ks s h o, reads.keeps.leaves es ks s h);
     leaves = λ w n s h want is db may. inl (reads.keeps.leaves w.entries w.spent s h db may);
+    known = λ es ks s h e. reads.keeps.known es ks s h (is_same_fault f Foreign e);
     closed = ((λ e. reads.closes.closed.0 (is_same_refusal f e)), λ e. is_that_refusal f (reads.closes.closed.1 e));
     still = reads.closes.still;
     closes = reads.closes.closes;
@@ -147,7 +158,8 @@ module _ {D : Type 0} (g : Ghosts D) (at : ℕ) (IsWanted : Situation → Wanted
     unmarked = λ p. refl;
     kept = λ es ks s h p o. (stood g reads s h, reads.keeps.leaves es ks s h);
     leaves = λ w n s h want is db may. inl (reads.keeps.leaves w.entries w.spent s h db may);
-    closed = ((λ e. absurd (cc (is_same_refusal {X = X} Memory e))), λ e. ok_is_no_fault {X = X} x (reads.closes.closed.1 e));
+    known = λ es ks s h e. absurd (cc (is_same_fault Memory Foreign e));
+    closed = ((λ e. absurd (cc (is_same_fault Memory Closed e))), λ e. ok_is_no_fault {X = X} x (reads.closes.closed.1 e));
     still = λ e. ok_is_no_fault {X = X} x (reads.closes.closed.1 e);
     closes = reads.closes.closes ∙ sym (or_false _);
     honest = reads.closes.honest;
@@ -179,6 +191,7 @@ module _ {D : Type 0} (g : Ghosts D) (old new : StoreView D) (change : Change) (
     pub kept : (es : List EntryParts) (ks : List SpentKey) → Stands g old es ks → IsHonest g new → new.is_closed ≡ false → OnErr r (Stands g new es ks × LeavesOnly g new es ks)
     pub leaves : (es : List EntryParts) (ks : List SpentKey) → Stands g old es ks → change.may es ks → IsHonest g new
         → LeavesEither g new es ks (change.entries es ks) (change.spent es ks)
+    pub known : r ≢ Err (Store Foreign)
     pub closed : (r ≡ Err (Store Closed)) ↔ (old.is_closed ≡ true)
     pub refused : IfErr r (λ why. is_of_store why ≡ true)
     pub still : old.is_closed ≡ true → new ≡ old
@@ -219,7 +232,8 @@ module _ {D : Type 0} (g : Ghosts D) (at : ℕ) (IsWanted : Situation → Wanted
         let this = changes w n s (made.honest h) in
         let lists = this.all want is in
         rw (lists.0, lists.1) (made.leaves w.entries w.spent (stood g reads s (made.honest h)) this.may h);
-    closed = ((λ e. plain_not_closed (Ok _) refl e), λ e. ok_is_no_fault {X = X} x (reads.closes.closed.1 e));
+    known = λ es ks s h e. made.known e;
+    closed = ((λ e. plain_no_fault Closed (Ok _) refl e), λ e. ok_is_no_fault {X = X} x (reads.closes.closed.1 e));
     still = λ e. ok_is_no_fault {X = X} x (reads.closes.closed.1 e);
     closes = made.closes ∙ reads.closes.closes;
     honest = λ h. reads.closes.honest (made.honest h);
@@ -238,6 +252,7 @@ module _ {D : Type 0} (g : Ghosts D) (at : ℕ) (IsWanted : Situation → Wanted
         let this = changes w n s (made.honest h) in
         let lists = this.all want is in
         rw (lists.0, lists.1) (made.leaves w.entries w.spent (stood g reads s (made.honest h)) this.may h);
+    known = λ es ks s h e. made.known e;
     closed = ((λ e. sym reads.closes.closes ∙ made.closed.0 e), λ e. made.closed.1 (reads.closes.closes ∙ e));
     still = λ e. ok_is_no_fault {X = X} x (reads.closes.closed.1 e);
     closes = made.closes ∙ ap (λ was. closed_by was (Err why)) reads.closes.closes;
@@ -275,6 +290,7 @@ serves_weighing g asked request same bound served = record {
   unmarked = served.unmarked;
   kept = served.kept;
   leaves = λ w n s h want is. served.leaves w n s h want (is.is ∙ same w is.bound);
+  known = served.known;
   closed = served.closed;
   still = served.still;
   closes = served.closes;

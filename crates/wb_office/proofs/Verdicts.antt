@@ -38,7 +38,7 @@ pub by_none : (a : Asking) → by_key a.now.entries a.key ≡ None → gone a �
 unfolding verdict
 by_none a none ungone free = rw (none, ungone, none, free) refl
 
-by_newness : (a : Asking) → by_key a.now.entries a.key ≡ None → gone a ≡ false → verdict a ≡ on_new a (first_refusal of_new a)
+pub by_newness : (a : Asking) → by_key a.now.entries a.key ≡ None → gone a ≡ false → verdict a ≡ on_new a (first_refusal of_new a)
 unfolding verdict
 by_newness a none ungone = rw (none, ungone, none) refl
 

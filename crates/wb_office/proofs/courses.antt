@@ -1,8 +1,14 @@
 pub mod AcceptedEntries
+pub mod ClosedWeighings
+pub mod KeptEntries
+pub mod KnownEntries
 pub mod Numbers
 pub mod Places
+pub mod Refusals
 pub mod RepeatedRequests
+pub mod SoundJournals
 pub mod Stops
 pub mod StoredEntries
 pub mod StoredLoads
 pub mod TakenKeys
+pub mod Tickets

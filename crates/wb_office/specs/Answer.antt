@@ -46,12 +46,6 @@ text_of es e Second = ticket_told (ticket e (partner es e))
 text_of es e Single = ticket_told (ticket e None)
 text_of es e VoidKind = slip_told (slip e)
 
--- the journal after a verdict
-abbrev pub entries_after : List EntryParts → Verdict → List EntryParts
-entries_after es (refused why) = es
-entries_after es (repeated e) = es
-entries_after es (accepted e) = es ++ e ∷ []
-
 -- the answer of a verdict: why it is refused, or the text of the entry that is repeated or added
 abbrev pub answer_of : List EntryParts → Verdict → Result Told Refusal
 answer_of es (refused why) = Err why
@@ -123,21 +117,6 @@ IsBoundAt s es ks at b = IsPurgeBound es (next_number es ks) (day_of at) s.reten
 abbrev pub purge_answer : List EntryParts → ℕ → Result Told Refusal
 purge_answer es b = if_sound (check es) (purged_told (length (below b es)))
 
-abbrev pub unless_damaged : {X : Type 0} → Finding → X → X → X
-unless_damaged (finding.Sound count) x y = x
-unless_damaged (finding.Damaged number) x y = y
-
--- it leaves the entries from the bound on, or all if the journal is damaged
-abbrev pub entries_purged : List EntryParts → ℕ → List EntryParts
-entries_purged es b = unless_damaged (check es) (kept b es) es
-
-abbrev pub spent_by : EntryParts → SpentKey
-spent_by e = record { key = e.key; number = e.number }
-
--- and the keys of the others are spent, with their numbers; none if the journal is damaged
-abbrev pub spent_purged : List EntryParts → List SpentKey → ℕ → List SpentKey
-spent_purged es ks b = unless_damaged (check es) (ks ++ map spent_by (below b es)) ks
-
 -- ---- every request
 
 -- an entry that is asked for
@@ -155,40 +134,56 @@ answer w b TicketsCsv = tickets_answer w.entries
 answer w b Purge = purge_answer w.entries b
 answer w b Check = Ok (check_answer w.entries)
 
--- the entries that it leaves
+-- ---- what a request makes of the journal
+
+-- nothing, one entry more, or a purge of the entries below a bound
+pub data Outcome : Type 0 where
+  nothing : Outcome
+  adds : EntryParts → Outcome
+  purges : ℕ → Outcome
+
+-- an accepted weighing or void adds its entry
+abbrev pub outcome_of : Verdict → Outcome
+outcome_of (accepted e) = adds e
+outcome_of _ = nothing
+
+-- a damaged journal is not purged
+abbrev pub unless_damaged : Finding → ℕ → Outcome
+unless_damaged (finding.Sound count) b = purges b
+unless_damaged (finding.Damaged number) b = nothing
+
+abbrev pub outcome : Situation → ℕ → Request → Outcome
+outcome w b (Weigh key kind plate) = outcome_of (verdict (asking w key kind plate))
+outcome w b (VoidOpen key plate) = outcome_of (verdict (asking w key VoidKind plate))
+outcome w b Purge = unless_damaged (check w.entries) b
+outcome w b _ = nothing
+
+-- the entries after it: a purge keeps those from the bound on
+abbrev pub entries_after : Outcome → List EntryParts → List EntryParts
+entries_after nothing es = es
+entries_after (adds e) es = es ++ e ∷ []
+entries_after (purges b) es = kept b es
+
 abbrev pub entries_left : Situation → ℕ → Request → List EntryParts
-entries_left w b (Weigh key kind plate) = entries_after w.entries (verdict (asking w key kind plate))
-entries_left w b (VoidOpen key plate) = entries_after w.entries (verdict (asking w key VoidKind plate))
-entries_left w b (Ticket number) = w.entries
-entries_left w b Indication = w.entries
-entries_left w b JournalCsv = w.entries
-entries_left w b TicketsCsv = w.entries
-entries_left w b Purge = entries_purged w.entries b
-entries_left w b Check = w.entries
+entries_left w b request = entries_after (outcome w b request) w.entries
 
--- the spent keys that it leaves
+-- the key of an entry, with the entry's number
+abbrev pub spent_by : EntryParts → SpentKey
+spent_by e = record { key = e.key; number = e.number }
+
+-- the spent keys after it: a purge spends those of the entries below the bound
+abbrev pub spent_after : Outcome → List EntryParts → List SpentKey → List SpentKey
+spent_after (purges b) es ks = ks ++ map spent_by (below b es)
+spent_after _ es ks = ks
+
 abbrev pub spent_left : Situation → ℕ → Request → List SpentKey
-spent_left w b (Weigh key kind plate) = w.spent
-spent_left w b (VoidOpen key plate) = w.spent
-spent_left w b (Ticket number) = w.spent
-spent_left w b Indication = w.spent
-spent_left w b JournalCsv = w.spent
-spent_left w b TicketsCsv = w.spent
-spent_left w b Purge = spent_purged w.entries w.spent b
-spent_left w b Check = w.spent
+spent_left w b request = spent_after (outcome w b request) w.entries w.spent
 
--- an accepted First, Second or Single is marked on the scale as stored
-abbrev pub marks_by : Verdict → Bool
-marks_by (refused why) = false
-marks_by (repeated e) = false
-marks_by (accepted e) = not (is_void e.kind)
+-- a First, Second or Single that is added is marked on the scale as stored
+abbrev pub is_marked : Outcome → Bool
+is_marked (adds e) = not (is_void e.kind)
+is_marked _ = false
 
+-- no bound decides what is marked
 abbrev pub marks : Situation → Request → Bool
-marks w (Weigh key kind plate) = marks_by (verdict (asking w key kind plate))
-marks w (VoidOpen key plate) = marks_by (verdict (asking w key VoidKind plate))
-marks w (Ticket number) = false
-marks w Indication = false
-marks w JournalCsv = false
-marks w TicketsCsv = false
-marks w Purge = false
-marks w Check = false
+marks w request = is_marked (outcome w 0 request)

@@ -7,28 +7,31 @@ use Rattle.wb_scale.specs.Moment.{Moment}
 use Rattle.wb_store.specs.Rows.{SpentKey}
 use Rattle.wb_office.specs.declared.refusal.Refusal.{Refusal}
 use Rattle.wb_office.specs.declared.request.Request.{Request}
-use Rattle.wb_office.specs.declared.request.Request.TheVariants.{Weigh, VoidOpen, Ticket, Indication, JournalCsv, TicketsCsv, Purge, Check}
-use Rattle.wb_office.specs.Answer.{Told, answer, asking, entries_left, spent_left}
+use Rattle.wb_office.specs.declared.request.Request.TheVariants.{Weigh, VoidOpen}
+use Rattle.wb_office.specs.Answer.{Outcome, Told, adds, answer, asking, entries_left, outcome, spent_left}
 use Rattle.wb_office.specs.Situation.{Situation}
 use Rattle.wb_office.specs.Verdict.{Verdict, accepted, refused, repeated, verdict}
 use Rattle.wb_office.specs.Wanted.{HasBound}
 
--- the entry that a verdict adds, if it is accepted
-abbrev pub added_by : Verdict → Option EntryParts
-added_by (refused why) = None
-added_by (repeated e) = None
-added_by (accepted e) = Some e
+abbrev pub added_by : Outcome → Option EntryParts
+added_by (adds e) = Some e
+added_by _ = None
 
--- the entry that a request adds, if it is an accepted weighing or void
+-- the entry that a request adds, if it is an accepted weighing or void; no bound decides it
 abbrev pub added : Situation → Request → Option EntryParts
-added w (Weigh key kind plate) = added_by (verdict (asking w key kind plate))
-added w (VoidOpen key plate) = added_by (verdict (asking w key Void plate))
-added w (Ticket number) = None
-added w Indication = None
-added w JournalCsv = None
-added w TicketsCsv = None
-added w Purge = None
-added w Check = None
+added w request = added_by (outcome w 0 request)
+
+-- the entry with which a verdict is answered: it is repeated or added
+abbrev pub entry_of : Verdict → Option EntryParts
+entry_of (refused why) = None
+entry_of (repeated e) = Some e
+entry_of (accepted e) = Some e
+
+-- the entry with which a weighing or void is answered, unless it is refused
+abbrev pub answered_with : Situation → Request → Option EntryParts
+answered_with w (Weigh key kind plate) = entry_of (verdict (asking w key kind plate))
+answered_with w (VoidOpen key plate) = entry_of (verdict (asking w key Void plate))
+answered_with w _ = None
 
 -- the two lists of a store
 pub record Journal : Type 0 where

@@ -23,7 +23,7 @@ use Rattle.wb_office.specs.declared.request.Request.TheVariants.{Purge}
 use Rattle.wb_office.specs.Answer.{IsBoundAt, Told, entries_left, has_ticket, spent_left, ticket_answer}
 use Rattle.wb_office.specs.Situation.{Asking, Situation}
 use Rattle.wb_office.specs.Conditions.{is_damaged, is_other, places}
-use Rattle.wb_office.specs.CourseOfRequests.{AreBounds, Journal, Turn, added, additions, after, answer_in, left, situation}
+use Rattle.wb_office.specs.CourseOfRequests.{AreBounds, Journal, Turn, added, additions, after, answer_in, answered_with, left, situation}
 use Rattle.wb_office.specs.Verdict.{first_refusal, kilograms, of_new, on_new, refused, repeated, verdict}
 
 -- ---- keys
@@ -32,9 +32,16 @@ use Rattle.wb_office.specs.Verdict.{first_refusal, kilograms, of_new, on_new, re
 abbrev pub is_taken : Journal → List ℕ → Bool
 is_taken j key = list_any (has_key key) j.entries || is_spent j.spent key
 
--- whatever requests come, stops among them, at most one entry is added under a key, and none if the key was stored or spent before
+-- a key, after whatever requests came, stops among them
+pub record IsAcceptedOnce (j : Journal) (ts : List Turn) (key : List ℕ) : Type 0 where
+  -- at most one entry was added under it, and none if the key was stored or spent before
+  pub once : count_by (has_key key) (additions j ts) ≤ (if is_taken j key then 0 else 1)
+  -- the entry that was added under it is stored, or the key is spent
+  pub for_good : AreLists j.entries j.spent → AreBounds j ts → (e : EntryParts) → Contains (additions j ts) e → e.key ≡ key
+      → (by_key (after j ts).entries key ≡ Some e) ⊎ (is_spent (after j ts).spent key ≡ true)
+
 abbrev pub OneEntryPerKey : Type 0
-OneEntryPerKey = (j : Journal) (ts : List Turn) (key : List ℕ) → count_by (has_key key) (additions j ts) ≤ (if is_taken j key then 0 else 1)
+OneEntryPerKey = (j : Journal) (ts : List Turn) (key : List ℕ) → IsAcceptedOnce j ts key
 
 -- ---- a request that is made again
 
@@ -49,10 +56,10 @@ pub record IsGone (j : Journal) (e : EntryParts) (again : Result Told Refusal) :
   pub spent : is_spent j.spent e.key ≡ true
   pub gone : again ≡ Err refusal.Gone
 
--- a request that added an entry, and is made again after whatever requests and stops, at whatever moment and load: its entry is stored
--- and it is answered as at first, or its entry was purged and it is refused as gone
+-- a request that was answered with an entry, which it added or repeated, and is made again after whatever requests and stops, at whatever
+-- moment and load: its entry is stored and it is answered as at first, or its entry was purged and it is refused as gone
 abbrev pub AnsweredAgain : Type 0
-AnsweredAgain = (j : Journal) → AreLists j.entries j.spent → (t : Turn) (e : EntryParts) → added (situation j t) t.request ≡ Some e
+AnsweredAgain = (j : Journal) → AreLists j.entries j.spent → (t : Turn) (e : EntryParts) → answered_with (situation j t) t.request ≡ Some e
     → (ts : List Turn) → AreBounds (left j t) ts → (u : Turn) → u.request ≡ t.request → let now = after (left j t) ts in
     IsKept now e (answer_in j t) (answer_in now u) ⊎ IsGone now e (answer_in now u)
 

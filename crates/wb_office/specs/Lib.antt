@@ -12,6 +12,7 @@ pub mod WithoutStore
 -- Requests one after the other, stops among them, and the laws on them.
 pub mod CourseOfRequests
 pub mod Laws
+pub mod LawsOfJournals
 pub mod Stops
 -- What private functions' contracts need besides.
 pub mod helpers

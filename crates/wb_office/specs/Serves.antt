@@ -1,5 +1,5 @@
 -- What a request leaves of the store and the scale, and what it is answered.
-use Rattle.std.specs.Prelude.{◌≡◌, ◌↔◌, ℕ, Bool, true, false, ◌||◌, List, Option, Some, None, is_some, Result, Ok, Err}
+use Rattle.std.specs.Prelude.{◌≡◌, ◌≢◌, ◌↔◌, ℕ, Bool, true, false, ◌||◌, List, Option, Some, None, is_some, Result, Ok, Err}
 use Rattle.sqlite.specs.Store.{Ghosts}
 use Rattle.wb_journal.specs.declared.entry.EntryParts.{EntryParts}
 use Rattle.wb_scale.specs.Call.{Call, stored}
@@ -7,7 +7,7 @@ use Rattle.wb_scale.specs.History.{moments}
 use Rattle.wb_scale.specs.Stands.{Stands as StandsAfter, Takes}
 use Rattle.wb_scale.specs.State.{State}
 use Rattle.wb_store.specs.declared.fault.StoreFault.{StoreFault}
-use Rattle.wb_store.specs.declared.fault.StoreFault.TheVariants.{Closed}
+use Rattle.wb_store.specs.declared.fault.StoreFault.TheVariants.{Closed, Foreign}
 use Rattle.wb_store.specs.Faults.{is_disk}
 use Rattle.wb_store.specs.Journal.{IsHonest, StoreView, Stands}
 use Rattle.wb_store.specs.Keeping.{LeavesEither, LeavesOnly}
@@ -88,6 +88,8 @@ module _ {D : Type 0} (g : Ghosts D) (old new : StoreView D) (before after : Sta
     -- a crash leaves the lists before, or those that are wanted
     pub leaves : (w : Situation) → IsNow before at w → Stands g old w.entries w.spent → IsHonest g new → (want : Wanted) → IsWanted w want
         → LeavesEither g new w.entries w.spent want.entries want.spent
+    -- the rows of a store that stands are never called Foreign
+    pub known : (es : List EntryParts) (ks : List SpentKey) → Stands g old es ks → IsHonest g new → result ≢ Err (Store Foreign)
     -- a closed store is answered Closed, and nothing else is
     pub closed : (result ≡ Err (Store Closed)) ↔ (old.is_closed ≡ true)
     pub still : old.is_closed ≡ true → new ≡ old

@@ -6,7 +6,7 @@ use Rattle.sqlite.specs.Store.{Ghosts}
 use Rattle.wb_journal.specs.declared.entry.EntryParts.{EntryParts}
 use Rattle.wb_journal.specs.declared.kind.Kind.TheVariants.{Void}
 use Rattle.wb_scale.specs.State.{State}
-use Rattle.wb_store.specs.HasTables.{HasTables}
+use Rattle.wb_store.specs.HasTables.{HasTables, MayHaveOpen}
 use Rattle.wb_store.specs.Journal.{Holds, IsHonest, StoreView, Stands}
 use Rattle.wb_store.specs.Lists.{by_key, is_spent}
 use Rattle.wb_office.specs.declared.answer.Answer.{Answer}
@@ -44,13 +44,14 @@ pub record IsAnsweredByKey (a : Asking) (again : Result Told Refusal) : Type 0 w
   -- there is none: it is judged anew
   pub anew : by_key a.now.entries a.key ≡ None → is_spent a.now.spent a.key ≡ false → again ≡ answer_of a.now.entries (on_new a (first_refusal of_new a))
 
--- a database holds the journal before the request or the one after it, and the request, asked again of that journal, at whatever setup, load
--- and moment, is answered by its key
+-- a database that an opening takes holds the journal before the request or the one after it, and the request, asked again of that journal,
+-- at whatever setup, load and moment, is answered by its key
 pub record IsFoundAgain (j : Journal) (t : Turn) (db : Database) : Type 0 where
   pub now : Journal
   pub whole : (now ≡ j) ⊎ (now ≡ left j t)
   pub tables : HasTables db.schema
   pub holds : Holds db now.entries now.spent
+  pub beside : MayHaveOpen db.schema
   pub again : (a : Asking) (bound : ℕ) → IsOnLists now.entries now.spent a → Asks t.request a → IsAnsweredByKey a (answer a.now bound t.request)
 
 module _ {D : Type 0} (g : Ghosts D) where

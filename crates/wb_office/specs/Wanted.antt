@@ -1,7 +1,7 @@
 -- What is wanted of a request.
 use Rattle.std.specs.Prelude.{◌≡◌, ℕ, Bool, true, false, ◌==◌, not, List, Result}
 use Rattle.wb_office.specs.declared.request.Request.{Request}
-use Rattle.wb_office.specs.declared.request.Request.TheVariants.{Weigh, VoidOpen, Ticket, Indication, JournalCsv, TicketsCsv, Purge, Check}
+use Rattle.wb_office.specs.declared.request.Request.TheVariants.{Ticket, Indication, Purge}
 use Rattle.wb_office.specs.Answer.{IsBoundAt, answer, entries_left, marks, spent_left, Told}
 use Rattle.wb_office.specs.Situation.{Situation}
 use Rattle.wb_journal.specs.declared.entry.EntryParts.{EntryParts}
@@ -15,16 +15,10 @@ pub record Wanted : Type 0 where
   pub spent : List SpentKey
   pub marks : Bool
 
--- a purge has its bound, and no other request has one
+-- the bound of a purge is that on the day of its moment; nothing is asked of that of another request, which decides nothing
 abbrev pub HasBound : Request → Situation → ℕ → Type 0
-HasBound (Weigh key kind plate) w b = b ≡ 0
-HasBound (VoidOpen key plate) w b = b ≡ 0
-HasBound (Ticket number) w b = b ≡ 0
-HasBound Indication w b = b ≡ 0
-HasBound JournalCsv w b = b ≡ 0
-HasBound TicketsCsv w b = b ≡ 0
 HasBound Purge w b = IsBoundAt w.setup w.entries w.spent w.at b
-HasBound Check w b = b ≡ 0
+HasBound _ w b = Unit {0}
 
 abbrev pub wanted : Request → Situation → ℕ → Wanted
 wanted request w b = record { answer = answer w b request; entries = entries_left w b request; spent = spent_left w b request; marks = marks w request }
@@ -37,11 +31,6 @@ pub record IsWanted (request : Request) (w : Situation) (want : Wanted) : Type 0
 
 -- an indication and the ticket of the number 0 ask no store; every other request does
 abbrev pub asks_store : Request → Bool
-asks_store (Weigh key kind plate) = true
-asks_store (VoidOpen key plate) = true
 asks_store (Ticket number) = not (number == 0)
 asks_store Indication = false
-asks_store JournalCsv = true
-asks_store TicketsCsv = true
-asks_store Purge = true
-asks_store Check = true
+asks_store _ = true

@@ -9,19 +9,14 @@ use Rattle.wb_office.specs.declared.answer.Answer.{Answer}
 use Rattle.wb_office.specs.declared.refusal.Refusal.{Refusal}
 use Rattle.wb_office.specs.declared.refusal.Refusal.TheVariants.{NoTicket}
 use Rattle.wb_office.specs.declared.request.Request.{Request}
-use Rattle.wb_office.specs.declared.request.Request.TheVariants.{Weigh, VoidOpen, Ticket, Indication, JournalCsv, TicketsCsv, Purge, Check}
+use Rattle.wb_office.specs.declared.request.Request.TheVariants.{Ticket, Indication}
 use Rattle.wb_office.specs.Answer.{indication_text, text_told}
 use Rattle.wb_office.specs.Serves.{told_of}
 
 -- an indication is that of the scale, and no ticket has the number 0; the other requests ask the store
 abbrev pub Outright : State → Request → Result Answer Refusal → Type 0
-Outright scale (Weigh key kind plate) result = Unit {0}
-Outright scale (VoidOpen key plate) result = Unit {0}
 Outright scale (Ticket number) result = result ≡ Err NoTicket
 Outright scale Indication result =
     (text : List ℕ) × (told_of result ≡ Ok (text_told text))
     × ((calls : List Call) → Stands scale calls → text ≡ indication_text scale.setup (indicated scale.setup (moments scale.setup calls)))
-Outright scale JournalCsv result = Unit {0}
-Outright scale TicketsCsv result = Unit {0}
-Outright scale Purge result = Unit {0}
-Outright scale Check result = Unit {0}
+Outright scale _ result = Unit {0}

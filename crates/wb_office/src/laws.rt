@@ -6,6 +6,7 @@
 //! lists as they were (`kept`), or its disk failed; then, and at any stop, an opening finds the lists before it or those after it
 //! (`leaves`). In a course it was made or it wasn't.
 ghost use Rattle.wb_office.specs.Laws.{AllWeighed, AnsweredAgain, FullAtLastNumber, KeepsPartners, KeyDecides, NumbersRun, OneEntryPerKey, WithinCapacity};
+ghost use Rattle.wb_office.specs.LawsOfJournals.{ClosingsHavePartners, FirstsClosedOnce, KeptForItsTime, RefusalsChangeNothing, StaysSound, TicketGivenAgain};
 ghost use Rattle.wb_office.specs.Stops.{AnsweredAfterStops};
 
 use sqlite::Alter;
@@ -13,13 +14,16 @@ use wb_journal::law_of_closing;
 use wb_scale::law_of_steady_indication;
 use wb_store::law_of_reopening;
 
-/// A key is accepted at most once, whatever is asked and wherever it is stopped: its entry is stored, or the key is spent for good.
+/// A key is accepted at most once, whatever is asked and wherever it is stopped. From then on its entry is stored, or the key is spent.
 pub fn law_of_keys()
     ensures { OneEntryPerKey }
-{}
+{
+    law_of_closing();
+}
 
-/// A request that was accepted and is made again is answered with the text that it had at first, whatever the load and the clock are,
-/// as long as its entry is stored; so is the ticket of its number. After a purge of the entry it is refused as gone.
+/// A request that was answered with an entry, its own or one that it repeated, is answered with the same text when it is made again,
+/// whatever the load and the clock are, as long as the entry is stored; so is the ticket of its number. After a purge of the entry it is
+/// refused as gone.
 pub fn law_of_repeated_requests()
     ensures { AnsweredAgain }
 {
@@ -47,12 +51,13 @@ pub fn law_of_numbers()
     ensures { NumbersRun }
 {}
 
-/// No request raises the places above the capacity. A journal that was opened above it doesn't grow.
+/// No request raises the places that are taken above the capacity. Where more were taken at the opening, none raises them.
 pub fn law_of_places()
     ensures { WithinCapacity }
 {}
 
-/// A Second or Void never lacks a place, so that no weighing stays open for want of one. It is refused only once the last number was given.
+/// A Second or Void is never refused as journal_full for want of places, so that no weighing stays open for want of one: it is refused
+/// so only once the last number was given.
 pub fn law_of_closing_places()
     ensures { FullAtLastNumber }
 {}
@@ -68,4 +73,39 @@ pub fn law_of_stored_loads()
     ensures { AllWeighed }
 {
     law_of_steady_indication();
+}
+
+/// An entry stands unchanged after whatever is asked, until a purge on whose day it is of age and below the bound: nothing else takes it
+/// out of the journal. From then on its key is spent, with its number.
+pub fn law_of_retention()
+    ensures { KeptForItsTime }
+{}
+
+/// A ticket that was given is given again with the same text, until such a purge takes its entry out.
+pub fn law_of_tickets()
+    ensures { TicketGivenAgain }
+{}
+
+/// A refusal leaves the entries and the spent keys as they are, and marks nothing on the scale.
+pub fn law_of_refusals()
+    ensures { RefusalsChangeNothing }
+{}
+
+/// A First is closed at most once, whoever wrote the entries: those whose partner it is have one number.
+pub fn law_of_closed_weighings()
+    ensures { FirstsClosedOnce }
+{}
+
+/// A Second or Void that was accepted has its partner as long as it is stored.
+pub fn law_of_partners()
+    ensures { ClosingsHavePartners }
+{
+    law_of_closing();
+}
+
+/// A journal in which the check finds no damage stays so, whatever is asked.
+pub fn law_of_sound_journals()
+    ensures { StaysSound }
+{
+    law_of_closing();
 }

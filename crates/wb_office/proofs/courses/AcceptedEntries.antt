@@ -1,6 +1,7 @@
 -- What an accepted weighing or void was judged on, and what a request makes of the lists.
-use Rattle.std.proofs.Common.{◌≡◌, ◌∙◌, sym, ap, ℕ, ◌+◌, ◌<◌, Bool, true, false, ◌&&◌, ◌||◌, ◌⊎◌, inl, inr, if◌then◌else◌, List, [], ◌∷◌, ◌++◌, map, Option, Some, None, Ok, refl, arith}
+use Rattle.std.proofs.Common.{◌≡◌, ◌∙◌, sym, ap, subst, ℕ, ◌+◌, ◌<◌, Bool, true, false, ◌&&◌, ◌||◌, if◌then◌else◌, List, [], ◌∷◌, ◌++◌, take, Option, Some, None, refl, arith, true≢false}
 use Rattle.std.proofs.lemmas.Bool.Decides.{nat_tests}
+use Rattle.std.specs.List.{list_any}
 use Rattle.std.specs.Prelude.{nat_lt}
 use Rattle.wb_journal.specs.declared.entry.EntryParts.{EntryParts}
 use Rattle.wb_journal.specs.declared.journal_check.Finding.{Finding}
@@ -9,18 +10,18 @@ use Rattle.wb_journal.specs.declared.kind.Kind.{Kind}
 use Rattle.wb_journal.specs.declared.kind.Kind.TheVariants.{First, Second, Single, Void}
 use Rattle.wb_journal.specs.Check.{check}
 use Rattle.wb_journal.specs.Kind.{is_closing}
-use Rattle.wb_journal.specs.Retention.{kept}
 use Rattle.wb_store.specs.Lists.{by_key, next_number}
 use Rattle.wb_office.specs.declared.refusal.Refusal.{Refusal}
 use Rattle.wb_office.specs.declared.refusal.Refusal.TheVariants as refusal
 use Rattle.wb_office.specs.declared.request.Request.{Request}
-use Rattle.wb_office.specs.declared.request.Request.TheVariants.{Weigh, VoidOpen, Ticket, Indication, JournalCsv, TicketsCsv, Purge, Check}
-use Rattle.wb_office.specs.Answer.{answer, asking, below, entries_left, spent_by, spent_left, text_of}
+use Rattle.wb_office.specs.declared.request.Request.TheVariants.{Weigh, VoidOpen, Purge}
+use Rattle.wb_office.specs.Answer.{Outcome, adds, answer, answer_of, asking, nothing, outcome, outcome_of, purges, unless_damaged}
 use Rattle.wb_office.specs.Situation.{Asking, Situation}
 use Rattle.wb_office.specs.Conditions.{gone, is_damaged, is_other, journal_full, places, places_of}
-use Rattle.wb_office.specs.CourseOfRequests.{added}
-use Rattle.wb_office.specs.Verdict.{Condition, Verdict, accepted, first_refusal, new_entry, of_new, refused, repeated, verdict}
-use Rattle.wb_office.proofs.Verdicts.{by_condition, by_damage, by_none, by_other, by_repetition, by_spent}
+use Rattle.wb_office.specs.CourseOfRequests.{added, added_by, answered_with, entry_of}
+use Rattle.wb_office.specs.Verdict.{Condition, Verdict, accepted, first_refusal, new_entry, of_new, on, on_new, refused, repeated, verdict}
+use Rattle.wb_office.proofs.FoundEntries.{is_some_same, none_some}
+use Rattle.wb_office.proofs.Verdicts.{by_damage, by_newness, by_other, by_repetition, by_spent}
 
 -- ---- the verdict, seen from its end
 
@@ -31,132 +32,187 @@ pub record IsNew (a : Asking) (e : EntryParts) : Type 0 where
   pub judged : first_refusal of_new a ≡ None
   pub made : e ≡ new_entry a
 
+pub and_true : (a b : Bool) → a ≡ true → (a && b) ≡ false → b ≡ false
+and_true true b h k = k
+and_true false b h k = absurd (true≢false (sym h))
+
 abbrev the_entry : EntryParts → Verdict → EntryParts
 the_entry other (refused why) = other
-the_entry other (repeated e) = other
+the_entry other (repeated e) = e
 the_entry other (accepted e) = e
+
+abbrev the_refusal : Verdict → Refusal
+the_refusal (refused why) = why
+the_refusal _ = refusal.Gone
+
+abbrev is_full : Refusal → Bool
+is_full refusal.JournalFull = true
+is_full _ = false
+
+-- how a request is judged: refused by its key, repeated, or judged anew
+data Judged (a : Asking) : Type 0 where
+  by_its_key : (why : Refusal) → is_full why ≡ false → verdict a ≡ refused why → Judged a
+  as_repeated : (e : EntryParts) → by_key a.now.entries a.key ≡ Some e → is_other a e ≡ false → is_damaged a.now.entries e ≡ false → verdict a ≡ repeated e → Judged a
+  anew : by_key a.now.entries a.key ≡ None → gone a ≡ false → verdict a ≡ on_new a (first_refusal of_new a) → Judged a
 
 -- a key that is stored and was spent is refused all the same
 by_both : (a : Asking) (e : EntryParts) → by_key a.now.entries a.key ≡ Some e → is_other a e ≡ false → gone a ≡ true → verdict a ≡ refused refusal.Gone
 unfolding verdict
 by_both a e found other spent = rw (found, other, spent) refl
 
-no_refusal : {C : Type 0} (a : Asking) (e : EntryParts) (why : Refusal) → verdict a ≡ accepted e → verdict a ≡ refused why → C
-no_refusal a e why is other = absurd (cc (sym is ∙ other))
+how_judged : (a : Asking) → Judged a
+how_judged a = go (by_key a.now.entries a.key) refl (gone a) refl
+  where
+    stored : (e : EntryParts) → by_key a.now.entries a.key ≡ Some e → (b c d : Bool) → is_other a e ≡ b → gone a ≡ c → is_damaged a.now.entries e ≡ d → Judged a
+    stored e found true c d o g m = by_its_key refusal.KeyReused refl (by_other a e found o)
+    stored e found false true d o g m = by_its_key refusal.Gone refl (by_both a e found o g)
+    stored e found false false true o g m = by_its_key refusal.Damaged refl (by_damage a e found o g m)
+    stored e found false false false o g m = as_repeated e found o m (by_repetition a e found o g m)
 
-no_repetition : {C : Type 0} (a : Asking) (e f : EntryParts) → verdict a ≡ accepted e → verdict a ≡ repeated f → C
-no_repetition a e f is other = absurd (cc (sym is ∙ other))
+    go : (o : Option EntryParts) → by_key a.now.entries a.key ≡ o → (c : Bool) → gone a ≡ c → Judged a
+    go (Some e) found c g = stored e found (is_other a e) c (is_damaged a.now.entries e) refl g refl
+    go None none true g = by_its_key refusal.Gone refl (by_spent a none g)
+    go None none false g = anew none g (by_newness a none g)
+
+no_refusal : {C : Type 0} (e : EntryParts) (why : Refusal) → accepted e ≡ refused why → C
+no_refusal e why same = absurd (cc)
+
+no_repetition : {C : Type 0} (e f : EntryParts) → accepted e ≡ repeated f → C
+no_repetition e f same = absurd (cc)
+
+refused_repetition : {C : Type 0} (e : EntryParts) (why : Refusal) → repeated e ≡ refused why → C
+refused_repetition e why same = absurd (cc)
 
 pub is_new : (a : Asking) (e : EntryParts) → verdict a ≡ accepted e → IsNew a e
-is_new a e is = go (by_key a.now.entries a.key) refl (gone a) refl
+is_new a e is = go (how_judged a)
   where
-    stored : (f : EntryParts) → by_key a.now.entries a.key ≡ Some f → (b c d : Bool) → is_other a f ≡ b → gone a ≡ c → is_damaged a.now.entries f ≡ d → IsNew a e
-    stored f found true c d o g m = no_refusal a e refusal.KeyReused is (by_other a f found o)
-    stored f found false true d o g m = no_refusal a e refusal.Gone is (by_both a f found o g)
-    stored f found false false true o g m = no_refusal a e refusal.Damaged is (by_damage a f found o g m)
-    stored f found false false false o g m = no_repetition a e f is (by_repetition a f found o g m)
+    by_conditions : by_key a.now.entries a.key ≡ None → gone a ≡ false → (r : Option Refusal) → first_refusal of_new a ≡ r → accepted e ≡ on_new a r → IsNew a e
+    by_conditions none free (Some why) holds made = no_refusal e why made
+    by_conditions none free None holds made = record { free = none; unspent = free; judged = holds; made = ap (the_entry e) made }
 
-    fresh : by_key a.now.entries a.key ≡ None → gone a ≡ false → (r : Option Refusal) → first_refusal of_new a ≡ r → IsNew a e
-    fresh none free (Some why) holds = no_refusal a e why is (by_condition a why none free holds)
-    fresh none free None holds = record { free = none; unspent = free; judged = holds; made = ap (the_entry e) (sym is ∙ by_none a none free holds) }
+    go : Judged a → IsNew a e
+    go (by_its_key why other v) = no_refusal e why (sym is ∙ v)
+    go (as_repeated f found same whole v) = no_repetition e f (sym is ∙ v)
+    go (anew none free v) = by_conditions none free (first_refusal of_new a) refl (sym is ∙ v)
 
-    go : (o : Option EntryParts) → by_key a.now.entries a.key ≡ o → (c : Bool) → gone a ≡ c → IsNew a e
-    go (Some f) found c g = stored f found (is_other a f) c (is_damaged a.now.entries f) refl g refl
-    go None none true g = no_refusal a e refusal.Gone is (by_spent a none g)
-    go None none false g = fresh none g (first_refusal of_new a) refl
+-- an entry is repeated under its key, of its kind and plate
+pub record IsRepeated (a : Asking) (e : EntryParts) : Type 0 where
+  pub found : by_key a.now.entries a.key ≡ Some e
+  pub same : is_other a e ≡ false
+  pub whole : is_damaged a.now.entries e ≡ false
+
+pub is_repeated : (a : Asking) (e : EntryParts) → verdict a ≡ repeated e → IsRepeated a e
+is_repeated a e is = go (how_judged a)
+  where
+    by_conditions : {C : Type 0} (r : Option Refusal) → repeated e ≡ on_new a r → C
+    by_conditions (Some why) made = refused_repetition e why made
+    by_conditions None made = no_repetition (new_entry a) e (sym made)
+
+    go : Judged a → IsRepeated a e
+    go (by_its_key why other v) = refused_repetition e why (sym is ∙ v)
+    go (as_repeated f found same whole v) = subst (IsRepeated a) (ap (the_entry e) (sym v ∙ is)) (record { found = found; same = same; whole = whole })
+    go (anew none free v) = by_conditions (first_refusal of_new a) (sym is ∙ v)
 
 -- ---- what a request makes of the lists
 
-pub data Outcome (w : Situation) (b : ℕ) (request : Request) : Type 0 where
-  stays : added w request ≡ None → entries_left w b request ≡ w.entries → spent_left w b request ≡ w.spent → Outcome w b request
-  adds : (a : Asking) (e : EntryParts) → a.now ≡ w → verdict a ≡ accepted e → added w request ≡ Some e → entries_left w b request ≡ w.entries ++ e ∷ []
-      → spent_left w b request ≡ w.spent → answer w b request ≡ Ok (text_of (w.entries ++ e ∷ []) e e.kind) → Outcome w b request
-  purges : request ≡ Purge → added w request ≡ None → entries_left w b request ≡ kept b w.entries → spent_left w b request ≡ w.spent ++ map spent_by (below b w.entries) → Outcome w b request
+-- a weighing or void is asked for, under this key, kind and plate
+pub record IsAsked (request : Request) : Type 0 where
+  pub key : List ℕ
+  pub kind : Kind
+  pub plate : List ℕ
+  pub answers : (w : Situation) (b : ℕ) → answer w b request ≡ answer_of w.entries (verdict (asking w key kind plate))
+  pub outcomes : (w : Situation) (b : ℕ) → outcome w b request ≡ outcome_of (verdict (asking w key kind plate))
 
-pub outcome : (w : Situation) (b : ℕ) (request : Request) → Outcome w b request
-outcome w b (Weigh key kind plate) = go (verdict (asking w key kind plate)) refl
+abbrev pub asking_for : {request : Request} → IsAsked request → Situation → Asking
+asking_for asked w = asking w asked.key asked.kind asked.plate
+
+abbrev by_weighing : (key : List ℕ) (kind : Kind) (plate : List ℕ) → IsAsked (Weigh key kind plate)
+by_weighing key kind plate = record { key = key; kind = kind; plate = plate; answers = λ w b. refl; outcomes = λ w b. refl }
+
+abbrev by_void : (key plate : List ℕ) → IsAsked (VoidOpen key plate)
+by_void key plate = record { key = key; kind = Void; plate = plate; answers = λ w b. refl; outcomes = λ w b. refl }
+
+-- how an outcome comes about: nothing is added, or the entry of an accepted weighing or void, or a sound journal is purged
+pub data Comes (w : Situation) (b : ℕ) (request : Request) : Outcome → Type 0 where
+  stays : added w request ≡ None → Comes w b request nothing
+  adding : (asked : IsAsked request) (e : EntryParts) → verdict (asking_for asked w) ≡ accepted e → added w request ≡ Some e → Comes w b request (adds e)
+  purging : request ≡ Purge → (count : ℕ) → check w.entries ≡ Sound count → added w request ≡ None → Comes w b request (purges b)
+
+by_verdict : (w : Situation) (b : ℕ) (request : Request) (asked : IsAsked request) → Comes w b request (outcome_of (verdict (asking_for asked w)))
+by_verdict w b request asked = go (verdict (asking_for asked w)) refl
   where
-    go : (v : Verdict) → verdict (asking w key kind plate) ≡ v → Outcome w b (Weigh key kind plate)
-    go (refused why) is = stays (rw is refl) (rw is refl) refl
-    go (repeated e) is = stays (rw is refl) (rw is refl) refl
-    go (accepted e) is = adds (asking w key kind plate) e refl is (rw is refl) (rw is refl) refl (rw is refl)
-outcome w b (VoidOpen key plate) = go (verdict (asking w key Void plate)) refl
+    now : (v : Verdict) → verdict (asking_for asked w) ≡ v → added w request ≡ added_by (outcome_of v)
+    now v is = ap added_by (asked.outcomes w 0 ∙ ap outcome_of is)
+
+    go : (v : Verdict) → verdict (asking_for asked w) ≡ v → Comes w b request (outcome_of v)
+    go (refused why) is = stays (now (refused why) is)
+    go (repeated e) is = stays (now (repeated e) is)
+    go (accepted e) is = adding asked e is (now (accepted e) is)
+
+pub comes : (w : Situation) (b : ℕ) (request : Request) → Comes w b request (outcome w b request)
+comes w b (Weigh key kind plate) = by_verdict w b (Weigh key kind plate) (by_weighing key kind plate)
+comes w b (VoidOpen key plate) = by_verdict w b (VoidOpen key plate) (by_void key plate)
+comes w b Purge = go (check w.entries) refl
   where
-    go : (v : Verdict) → verdict (asking w key Void plate) ≡ v → Outcome w b (VoidOpen key plate)
-    go (refused why) is = stays (rw is refl) (rw is refl) refl
-    go (repeated e) is = stays (rw is refl) (rw is refl) refl
-    go (accepted e) is = adds (asking w key Void plate) e refl is (rw is refl) (rw is refl) refl (rw is refl)
-outcome w b (Ticket number) = stays refl refl refl
-outcome w b Indication = stays refl refl refl
-outcome w b JournalCsv = stays refl refl refl
-outcome w b TicketsCsv = stays refl refl refl
-outcome w b Purge = go (check w.entries) refl
+    go : (f : Finding) → check w.entries ≡ f → Comes w b Purge (unless_damaged f b)
+    go (Sound count) is = purging refl count is (ap (λ f. added_by (unless_damaged f 0)) is)
+    go (FoundDamaged number) is = stays (ap (λ f. added_by (unless_damaged f 0)) is)
+comes w b _ = stays refl
+
+-- what is added is read off the outcome at every bound
+pub added_is : {w : Situation} {b : ℕ} {request : Request} {o : Outcome} → Comes w b request o → added w request ≡ added_by o
+added_is (stays none) = none
+added_is (adding asked e is one) = one
+added_is (purging ask count sound none) = none
+
+-- a request that adds an entry is a weighing or void that is accepted
+pub record IsAdded (w : Situation) (request : Request) (e : EntryParts) : Type 0 where
+  pub asked : IsAsked request
+  pub is : verdict (asking_for asked w) ≡ accepted e
+
+pub is_added : (w : Situation) (request : Request) (e : EntryParts) → added w request ≡ Some e → IsAdded w request e
+is_added w request e some = go (comes w 0 request)
   where
-    go : (f : Finding) → check w.entries ≡ f → Outcome w b Purge
-    go (Sound count) is = purges refl refl (rw is refl) (rw is refl)
-    go (FoundDamaged number) is = stays refl (rw is refl) (rw is refl)
-outcome w b Check = stays refl refl refl
+    go : {o : Outcome} → Comes w 0 request o → IsAdded w request e
+    go (stays none) = none_some (sym none ∙ some)
+    go (adding asked f is one) = record { asked = asked; is = is ∙ ap accepted (is_some_same (sym one ∙ some)) }
+    go (purging ask count sound none) = none_some (sym none ∙ some)
+
+-- a request that is answered with an entry is a weighing or void
+pub is_told : (w : Situation) (request : Request) (e : EntryParts) → answered_with w request ≡ Some e → (asked : IsAsked request) × (entry_of (verdict (asking_for asked w)) ≡ Some e)
+is_told w (Weigh key kind plate) e some = (by_weighing key kind plate, some)
+is_told w (VoidOpen key plate) e some = (by_void key plate, some)
+is_told w _ e some = none_some some
 
 -- ---- the last condition
 
--- a condition of this refusal holds
-abbrev HoldsFor : Refusal → List Condition → Asking → Type 0
-HoldsFor why [] a = ⊥
-HoldsFor why (x ∷ xs) a = ((x.refusal ≡ why) × (x.holds a ≡ true)) ⊎ HoldsFor why xs a
-
-which_holds : (xs : List Condition) (a : Asking) (why : Refusal) → first_refusal xs a ≡ Some why → HoldsFor why xs a
-which_holds [] a why some = absurd (cc)
-which_holds (x ∷ xs) a why some = go (x.holds a) refl some (λ s. which_holds xs a why s)
-  where
-    go : (b : Bool) → x.holds a ≡ b → (if b then Some x.refusal else first_refusal xs a) ≡ Some why → (first_refusal xs a ≡ Some why → HoldsFor why xs a)
-        → ((x.refusal ≡ why) × (x.holds a ≡ true)) ⊎ HoldsFor why xs a
-    go true t s more = inl (cc, t)
-    go false t s more = inr (more s)
-
-abbrev the_refusal : Verdict → Refusal
-the_refusal (refused why) = why
-the_refusal (repeated e) = refusal.Gone
-the_refusal (accepted e) = refusal.Gone
-
 -- a journal is full for a new key alone
 full_is_new : (a : Asking) → verdict a ≡ refused refusal.JournalFull → first_refusal of_new a ≡ Some refusal.JournalFull
-full_is_new a is = go (by_key a.now.entries a.key) refl (gone a) refl
+full_is_new a is = go (how_judged a)
   where
-    other : {C : Type 0} (v : Verdict) → verdict a ≡ v → (the_refusal v ≡ refusal.JournalFull → C) → C
-    other v same not_it = not_it (ap the_refusal (sym same ∙ is))
+    by_conditions : (r : Option Refusal) → on_new a r ≡ refused refusal.JournalFull → r ≡ Some refusal.JournalFull
+    by_conditions (Some why) same = ap Some (ap the_refusal same)
+    by_conditions None same = no_refusal (new_entry a) refusal.JournalFull same
 
-    stored : (f : EntryParts) → by_key a.now.entries a.key ≡ Some f → (b c d : Bool) → is_other a f ≡ b → gone a ≡ c → is_damaged a.now.entries f ≡ d
-        → first_refusal of_new a ≡ Some refusal.JournalFull
-    stored f found true c d o g m = other (refused refusal.KeyReused) (by_other a f found o) (λ e. absurd (cc))
-    stored f found false true d o g m = other (refused refusal.Gone) (by_both a f found o g) (λ e. absurd (cc))
-    stored f found false false true o g m = other (refused refusal.Damaged) (by_damage a f found o g m) (λ e. absurd (cc))
-    stored f found false false false o g m = other (repeated f) (by_repetition a f found o g m) (λ e. absurd (cc))
+    go : Judged a → first_refusal of_new a ≡ Some refusal.JournalFull
+    go (by_its_key why other v) = absurd (true≢false (sym (ap is_full (ap the_refusal (sym v ∙ is))) ∙ other))
+    go (as_repeated f found same whole v) = refused_repetition f refusal.JournalFull (sym v ∙ is)
+    go (anew none free v) = by_conditions (first_refusal of_new a) (sym v ∙ is)
 
-    fresh : by_key a.now.entries a.key ≡ None → gone a ≡ false → (r : Option Refusal) → first_refusal of_new a ≡ r → first_refusal of_new a ≡ Some refusal.JournalFull
-    fresh none free (Some why) holds = holds ∙ ap Some (ap the_refusal (sym (by_condition a why none free holds) ∙ is))
-    fresh none free None holds = other (accepted (new_entry a)) (by_none a none free holds) (λ e. absurd (cc))
-
-    go : (o : Option EntryParts) → by_key a.now.entries a.key ≡ o → (c : Bool) → gone a ≡ c → first_refusal of_new a ≡ Some refusal.JournalFull
-    go (Some f) found c g = stored f found (is_other a f) c (is_damaged a.now.entries f) refl g refl
-    go None none true g = other (refused refusal.Gone) (by_spent a none g) (λ e. absurd (cc))
-    go None none false g = fresh none g (first_refusal of_new a) refl
-
--- the last condition of the order is the one that refuses so
-full_holds : (a : Asking) → HoldsFor refusal.JournalFull of_new a → journal_full a ≡ true
-full_holds a (inl h) = absurd (cc (h.0))
-full_holds a (inr (inl h)) = absurd (cc (h.0))
-full_holds a (inr (inr (inl h))) = absurd (cc (h.0))
-full_holds a (inr (inr (inr (inl h)))) = absurd (cc (h.0))
-full_holds a (inr (inr (inr (inr (inl h))))) = absurd (cc (h.0))
-full_holds a (inr (inr (inr (inr (inr (inl h)))))) = absurd (cc (h.0))
-full_holds a (inr (inr (inr (inr (inr (inr (inl h))))))) = absurd (cc (h.0))
-full_holds a (inr (inr (inr (inr (inr (inr (inr (inl h)))))))) = absurd (cc (h.0))
-full_holds a (inr (inr (inr (inr (inr (inr (inr (inr (inl h))))))))) = absurd (cc (h.0))
-full_holds a (inr (inr (inr (inr (inr (inr (inr (inr (inr (inl h)))))))))) = absurd (cc (h.0))
-full_holds a (inr (inr (inr (inr (inr (inr (inr (inr (inr (inr (inl h))))))))))) = absurd (cc (h.0))
-full_holds a (inr (inr (inr (inr (inr (inr (inr (inr (inr (inr (inr (inl h)))))))))))) = absurd (cc (h.0))
-full_holds a (inr (inr (inr (inr (inr (inr (inr (inr (inr (inr (inr (inr (inl h))))))))))))) = h.1
-full_holds a (inr (inr (inr (inr (inr (inr (inr (inr (inr (inr (inr (inr (inr h))))))))))))) = absurd h
+-- the last condition holds, if it alone has the refusal
+last_holds : (xs : List Condition) (last : Condition) (a : Asking) → list_any (λ x. is_full x.refusal) xs ≡ false → first_refusal (xs ++ last ∷ []) a ≡ Some refusal.JournalFull → last.holds a ≡ true
+last_holds [] last a others some = go (last.holds a) some
+  where
+    go : (b : Bool) → (if b then Some last.refusal else None) ≡ Some refusal.JournalFull → b ≡ true
+    go true s = refl
+    go false s = absurd (cc)
+last_holds (x ∷ xs) last a others some = go (x.holds a) (is_full x.refusal) refl others some (λ n s. last_holds xs last a n s)
+  where
+    go : (b full : Bool) → is_full x.refusal ≡ full → (full || list_any (λ y. is_full y.refusal) xs) ≡ false → (if b then Some x.refusal else first_refusal (xs ++ last ∷ []) a) ≡ Some refusal.JournalFull
+        → (list_any (λ y. is_full y.refusal) xs ≡ false → first_refusal (xs ++ last ∷ []) a ≡ Some refusal.JournalFull → last.holds a ≡ true) → last.holds a ≡ true
+    go b true f n s more = absurd (true≢false n)
+    go true false f n s more = absurd (true≢false (sym (ap is_full (is_some_same s)) ∙ f))
+    go false false f n s more = more n s
 
 last_given : (k : Kind) (capacity taken next : ℕ) → is_closing k ≡ true → (nat_lt 0 (places_of k) && nat_lt capacity (taken + places_of k)) || nat_lt 4294967295 next ≡ true → 4294967295 < next
 last_given First capacity taken next closing full = absurd (cc)
@@ -168,4 +224,4 @@ last_given Void capacity taken next closing full = grind (arith, nat_tests)
 pub full_for_closing : (a : Asking) → is_closing a.kind ≡ true → verdict a ≡ refused refusal.JournalFull → 4294967295 < next_number a.now.entries a.now.spent
 full_for_closing a closing is =
     last_given a.kind a.now.setup.capacity (places a.now.entries) (next_number a.now.entries a.now.spent) closing
-    (full_holds a (which_holds of_new a refusal.JournalFull (full_is_new a is)))
+    (last_holds (take 12 of_new) (on journal_full refusal.JournalFull) a refl (full_is_new a is))

@@ -1,5 +1,5 @@
 -- The places that are taken, and the partners, after every request.
-use Rattle.std.proofs.Common.{◌≡◌, ap, ap₂, ℕ, ◌+◌, ◌≤◌, ◌<◌, max, Bool, true, false, cond, inl, inr, not, ◌&&◌, ◌||◌, nat_le, nat_lt, List, [], ◌∷◌, ◌++◌, length, refl, arith, true≢false}
+use Rattle.std.proofs.Common.{◌≡◌, ap, ap₂, ℕ, ◌+◌, ◌≤◌, ◌<◌, max, Bool, true, false, cond, not, ◌&&◌, ◌||◌, nat_le, nat_lt, List, [], ◌∷◌, ◌++◌, length, refl, arith, true≢false}
 use Rattle.std.proofs.lemmas.Bool.Decides.{nat_tests}
 use Rattle.std.proofs.lemmas.Int.{clamps}
 use Rattle.std.proofs.lemmas.List.Sums.{sum_by-cons}
@@ -17,17 +17,18 @@ use Rattle.wb_journal.specs.Pairs.{is_first_of, is_open, is_partner, lies_betwee
 use Rattle.wb_journal.specs.Retention.{kept}
 use Rattle.wb_journal.specs.Rising.{IsRising, IsRisingFrom}
 use Rattle.wb_journal.proofs.offered.Kept.{kept-partner}
-use Rattle.wb_journal.proofs.offered.Members.{Among, among-contains}
+use Rattle.wb_journal.proofs.offered.Members.{among-contains}
 use Rattle.wb_store.specs.Lists.{greatest, greatest_spent, next_number}
 use Rattle.wb_store.proofs.offered.LaterLists.{one, open_count_more}
 use Rattle.wb_office.specs.declared.request.Request.TheVariants.{Purge}
-use Rattle.wb_office.specs.Answer.{entries_left}
-use Rattle.wb_office.specs.Situation.{Asking, Situation}
+use Rattle.wb_office.specs.Answer.{Outcome, entries_after, entries_left}
+use Rattle.wb_office.specs.Situation.{Asking}
 use Rattle.wb_office.specs.Conditions.{places, places_of}
 use Rattle.wb_office.specs.Laws.{KeepsPartners, WithinCapacity}
 use Rattle.wb_office.specs.Verdict.{accepted, of_new, verdict}
-use Rattle.wb_office.proofs.courses.AcceptedEntries.{Outcome, adds, is_new, outcome, purges, stays}
+use Rattle.wb_office.proofs.courses.AcceptedEntries.{Comes, adding, asking_for, comes, is_new, purging, stays}
 use Rattle.wb_office.proofs.ConditionsInOrder.{none_holds}
+use Rattle.wb_office.proofs.Members.{among_kept}
 use Rattle.wb_office.proofs.courses.Numbers.{number_is_next}
 
 -- ---- one entry more
@@ -81,8 +82,8 @@ by_kind Second capacity n firsts after next false counts there full = absurd (tr
 by_kind Void capacity n firsts after next true counts there full = omega (arith, clamps, counts)
 by_kind Void capacity n firsts after next false counts there full = absurd (true≢false there)
 
-entry_more : (w : Situation) (a : Asking) (e : EntryParts) → a.now ≡ w → verdict a ≡ accepted e → IsRising w.entries → places (w.entries ++ e ∷ []) ≤ max w.setup.capacity (places w.entries)
-entry_more w a e now is rising =
+entry_more : (a : Asking) (e : EntryParts) → verdict a ≡ accepted e → IsRising a.now.entries → places (a.now.entries ++ e ∷ []) ≤ max a.now.setup.capacity (places a.now.entries)
+entry_more a e is rising =
     let new = is_new a e is in
     let kind : a.kind ≡ e.kind = rw new.made refl in
     let plate : a.plate ≡ e.plate = rw new.made refl in
@@ -90,11 +91,11 @@ entry_more w a e now is rising =
     let late = free.1.1.1.1.1.1.1.1.1 in
     let there = late.1.0 in
     let full = late.1.1.1.0 in
-    let number = number_is_next w a e now is in
-    let counts = open_count_more w.entries e (rises w.entries e rising (above_greatest w.entries (greatest_spent w.spent) e.number number)) in
-    let all = by_kind e.kind w.setup.capacity (length w.entries) (open_count w.entries) (open_count (w.entries ++ e ∷ [])) (next_number w.entries w.spent)
-    (is_some (open_of w.entries e.plate)) counts (rw (now, kind, plate) at there) (rw (now, kind) at full) in
-    rw (length_more w.entries e) all
+    let number = number_is_next a e is in
+    let counts = open_count_more a.now.entries e (rises a.now.entries e rising (above_greatest a.now.entries (greatest_spent a.now.spent) e.number number)) in
+    let all = by_kind e.kind a.now.setup.capacity (length a.now.entries) (open_count a.now.entries) (open_count (a.now.entries ++ e ∷ [])) (next_number a.now.entries a.now.spent)
+    (is_some (open_of a.now.entries e.plate)) counts (rw (kind, plate) at there) (rw kind at full) in
+    rw (length_more a.now.entries e) all
 
 -- ---- a purge
 
@@ -164,29 +165,17 @@ fewer b es =
 -- ---- every request
 
 pub within_capacity : WithinCapacity
-within_capacity w b request rising = go (outcome w b request)
+within_capacity w b request rising = go (comes w b request)
   where
     at_most : (a capacity c : ℕ) → a ≤ c → a ≤ max capacity c
     at_most a capacity c h = omega (arith, clamps, h)
 
-    go : Outcome w b request → places (entries_left w b request) ≤ max w.setup.capacity (places w.entries)
-    go (stays none es ks) = rw es (at_most (places w.entries) w.setup.capacity (places w.entries) (omega arith))
-    go (purges purge none es ks) = rw es (at_most (places (kept b w.entries)) w.setup.capacity (places w.entries) (fewer b w.entries))
-    go (adds a e now is some es ks told) = rw es (entry_more w a e now is rising)
+    go : {o : Outcome} → Comes w b request o → places (entries_after o w.entries) ≤ max w.setup.capacity (places w.entries)
+    go (stays none) = at_most (places w.entries) w.setup.capacity (places w.entries) (omega arith)
+    go (adding asked e is one) = entry_more (asking_for asked w) e is rising
+    go (purging ask count sound none) = at_most (places (kept b w.entries)) w.setup.capacity (places w.entries) (fewer b w.entries)
 
 -- ---- partners
-
-among_kept : (b : ℕ) (es : List EntryParts) (x : EntryParts) → Among x (kept b es) → Among x es × (b ≤ x.number)
-among_kept b [] x m = absurd m
-among_kept b (e ∷ es) x m = go (nat_le b e.number) refl (λ n. among_kept b es x n) m
-  where
-    high : nat_le b e.number ≡ true → x ≡ e → b ≤ x.number
-    high t same = let numbers : x.number ≡ e.number = ap (λ z. z.number) same in let low : b ≤ e.number = grind (arith, nat_tests) in omega arith
-
-    go : (k : Bool) → nat_le b e.number ≡ k → (Among x (kept b es) → Among x es × (b ≤ x.number)) → Among x (cond k (e ∷ kept b es) (kept b es)) → Among x (e ∷ es) × (b ≤ x.number)
-    go true t rest (inl same) = (inl same, high t same)
-    go true t rest (inr n) = let r = rest n in (inr r.0, r.1)
-    go false t rest n = let r = rest n in (inr r.0, r.1)
 
 pub keeps_partners : KeepsPartners
 keeps_partners w b rising bound e stays' = go (check w.entries) refl stays'

@@ -41,6 +41,7 @@ module _ (decides : KeyDecides) (reopening : HoldsAgain) (j : Journal) (t : Turn
         whole = whole;
         tables = shown.0;
         holds = shown.1;
+        beside = shown.2;
         again = λ a bound on asks. by_verdict a (answer a.now bound t.request) (on_lists decides now shown.1.lists a on) (of_verdict a bound t.request asks);
       }
 

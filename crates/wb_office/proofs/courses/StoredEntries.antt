@@ -76,7 +76,7 @@ same_test es e f above x =
     no = grind (arith, nat_tests)
 
 -- a later entry is nobody's partner among those before it
-partner_more : (es : List EntryParts) (e f : EntryParts) → e.number < f.number → partner (es ++ f ∷ []) e ≡ partner es e
+pub partner_more : (es : List EntryParts) (e f : EntryParts) → e.number < f.number → partner (es ++ f ∷ []) e ≡ partner es e
 unfolding partner
 partner_more es e f above =
     find_same (is_partner (es ++ f ∷ []) e) (is_partner es e) (same_test es e f above) (es ++ f ∷ [])

@@ -24,8 +24,7 @@ use Rattle.wb_office.specs.Situation.{Asking}
 use Rattle.wb_office.specs.Conditions.{holds_of}
 use Rattle.wb_office.specs.Laws.{AllWeighed, IsWeighed}
 use Rattle.wb_office.specs.Verdict.{accepted, first_refusal, gross_kg, kilograms, of_new, verdict}
-use Rattle.wb_office.proofs.courses.AcceptedEntries.{Outcome, adds, is_new, outcome, purges, stays}
-use Rattle.wb_office.proofs.FoundEntries.{is_some_same}
+use Rattle.wb_office.proofs.courses.AcceptedEntries.{asking_for, is_added, is_new}
 use Rattle.wb_office.proofs.ConditionsInOrder.{none_holds}
 
 -- a load on which none of the conditions on it holds
@@ -113,12 +112,6 @@ weighed near a calls setup history e is kind =
     }
 
 pub all_weighed : NearAll → AllWeighed
-all_weighed near w calls setup history request e some kind = go (outcome w 0 request)
-  where
-    go : Outcome w 0 request → IsWeighed w.setup w.history e
-    go (stays none es ks) = absurd (cc (sym none ∙ some))
-    go (purges purge none es ks) = absurd (cc (sym none ∙ some))
-    go (adds a f now is one es ks told) =
-        let same : f ≡ e = is_some_same (sym one ∙ some) in
-        let here = weighed near a calls (rw now setup) (rw now history) e (is ∙ ap accepted same) kind in
-        rw now at here
+all_weighed near w calls setup history request e some kind =
+    let one = is_added w request e some in
+    weighed near (asking_for one.asked w) calls setup history e one.is kind

@@ -1,24 +1,28 @@
 -- A key that is stored or spent stays so, and no entry is added under it.
-use Rattle.std.proofs.Common.{◌≡◌, ◌∙◌, sym, ℕ, ◌+◌, ◌≤◌, Bool, true, false, cond, not, ◌||◌, if◌then◌else◌, List, [], ◌∷◌, ◌++◌, map, nat_le, nat_lt, None, refl, arith, true≢false}
+use Rattle.std.proofs.Common.{◌≡◌, ◌∙◌, sym, subst, ℕ, ◌+◌, ◌≤◌, Bool, true, false, cond, not, ◌||◌, if◌then◌else◌, List, [], ◌∷◌, ◌++◌, map, nat_le, nat_lt, ◌⊎◌, inl, inr, Some, None, refl, arith, true≢false}
 use Rattle.std.proofs.lemmas.Bool.Decides.{nat_tests}
 use Rattle.std.proofs.lemmas.List.Folds.{list_any-append}
 use Rattle.std.proofs.lemmas.List.Sums.{sum_by-cons}
 use Rattle.std.proofs.lemmas.Slice.Eq.{bytes_eq-Decides}
 use Rattle.std.specs.List.{list_any}
-use Rattle.std.specs.Prelude.{count_by}
+use Rattle.std.specs.Prelude.{Contains, count_by}
 use Rattle.std.specs.Str.{bytes_eq}
 use Rattle.wb_journal.specs.declared.entry.EntryParts.{EntryParts}
+use Rattle.wb_journal.specs.Laws.{ClosesTheOpen}
 use Rattle.wb_journal.specs.Retention.{kept}
-use Rattle.wb_store.specs.Lists.{has_key, is_of_key, is_spent}
+use Rattle.wb_journal.proofs.offered.Members.{among-contains}
+use Rattle.wb_store.specs.Lists.{AreLists, by_key, has_key, is_of_key, is_spent}
 use Rattle.wb_store.specs.Rows.{SpentKey}
 use Rattle.wb_office.specs.declared.request.Request.{Request}
-use Rattle.wb_office.specs.Answer.{below, entries_left, spent_by, spent_left}
+use Rattle.wb_office.specs.Answer.{Outcome, adds, below, entries_after, nothing, outcome, purges, spent_after, spent_by}
 use Rattle.wb_office.specs.Situation.{Asking, Situation}
-use Rattle.wb_office.specs.CourseOfRequests.{Journal, Turn, added, additions, after, left, situation, with_one}
-use Rattle.wb_office.specs.Laws.{is_taken}
+use Rattle.wb_office.specs.CourseOfRequests.{AreBounds, Journal, Turn, added, added_by, additions, after, left, situation, with_one}
+use Rattle.wb_office.specs.Laws.{OneEntryPerKey, is_taken}
 use Rattle.wb_office.specs.Verdict.{accepted, verdict}
-use Rattle.wb_office.proofs.courses.AcceptedEntries.{Outcome, adds, is_new, outcome, purges, stays}
+use Rattle.wb_office.proofs.courses.AcceptedEntries.{Comes, added_is, adding, asking_for, comes, is_new, purging, stays}
 use Rattle.wb_office.proofs.FoundEntries.{find_none}
+use Rattle.wb_office.proofs.courses.KnownEntries.{IsLasting, added_lasts}
+use Rattle.wb_office.proofs.courses.StoredEntries.{IsPast, IsStored}
 
 abbrev pub taken_in : List EntryParts → List SpentKey → List ℕ → Bool
 taken_in es ks key = list_any (has_key key) es || is_spent ks key
@@ -73,75 +77,66 @@ kept_or_spent b key (e ∷ es) h = go (nat_le b e.number) (nat_lt e.number b) (t
     go false false f a t more = absurd (true≢false (sym f))
 
 -- a key that is taken stays so
-stays_taken : (w : Situation) (b : ℕ) (request : Request) (key : List ℕ) → taken_in w.entries w.spent key ≡ true → taken_in (entries_left w b request) (spent_left w b request) key ≡ true
-stays_taken w b request key taken = go (outcome w b request)
-  where
-    stored : Bool
-    stored = list_any (has_key key) w.entries
-
-    go : Outcome w b request → taken_in (entries_left w b request) (spent_left w b request) key ≡ true
-    go (stays none es ks) = rw (es, ks) taken
-    go (adds a e now is some es ks told) =
-        rw (es, ks) (or_either stored (is_spent w.spent key) taken
-        (λ h. or_left (list_any (has_key key) (w.entries ++ e ∷ [])) (is_spent w.spent key) (any_grows (has_key key) w.entries (e ∷ []) h))
-        (λ h. or_right (list_any (has_key key) (w.entries ++ e ∷ [])) (is_spent w.spent key) h))
-    go (purges purge none es ks) =
-        rw (es, ks) (or_either stored (is_spent w.spent key) taken
-        (λ h. or_either (list_any (has_key key) (kept b w.entries)) (list_any (is_of_key key) (map spent_by (below b w.entries))) (kept_or_spent b key w.entries h)
-        (λ k. or_left (list_any (has_key key) (kept b w.entries)) _ k)
-        (λ k. or_right (list_any (has_key key) (kept b w.entries)) _ (any_behind (is_of_key key) w.spent (map spent_by (below b w.entries)) k)))
-        (λ h. or_right (list_any (has_key key) (kept b w.entries)) _ (any_grows (is_of_key key) w.spent (map spent_by (below b w.entries)) h)))
+stays_taken : (w : Situation) (key : List ℕ) (o : Outcome) → taken_in w.entries w.spent key ≡ true → taken_in (entries_after o w.entries) (spent_after o w.entries w.spent) key ≡ true
+stays_taken w key nothing taken = taken
+stays_taken w key (adds e) taken =
+    or_either (list_any (has_key key) w.entries) (is_spent w.spent key) taken
+    (λ h. or_left (list_any (has_key key) (w.entries ++ e ∷ [])) (is_spent w.spent key) (any_grows (has_key key) w.entries (e ∷ []) h))
+    (λ h. or_right (list_any (has_key key) (w.entries ++ e ∷ [])) (is_spent w.spent key) h)
+stays_taken w key (purges b) taken =
+    or_either (list_any (has_key key) w.entries) (is_spent w.spent key) taken
+    (λ h. or_either (list_any (has_key key) (kept b w.entries)) (list_any (is_of_key key) (map spent_by (below b w.entries))) (kept_or_spent b key w.entries h)
+    (λ k. or_left (list_any (has_key key) (kept b w.entries)) _ k)
+    (λ k. or_right (list_any (has_key key) (kept b w.entries)) _ (any_behind (is_of_key key) w.spent (map spent_by (below b w.entries)) k)))
+    (λ h. or_right (list_any (has_key key) (kept b w.entries)) _ (any_grows (is_of_key key) w.spent (map spent_by (below b w.entries)) h))
 
 one_of : (key : List ℕ) (e : EntryParts) (es : List EntryParts) → count_by (has_key key) (e ∷ es) ≡ cond (has_key key e) 1 0 + count_by (has_key key) es
 one_of key e es = sum_by-cons (λ x. cond (has_key key x) 1 0) e es
 
 -- an entry is added under a key that is free, and takes it
-takes_free : (w : Situation) (b : ℕ) (request : Request) (a : Asking) (e : EntryParts) → a.now ≡ w → verdict a ≡ accepted e → entries_left w b request ≡ w.entries ++ e ∷ []
-    → (taken_in w.entries w.spent e.key ≡ false) × (taken_in (entries_left w b request) (spent_left w b request) e.key ≡ true)
-takes_free w b request a e now is es =
+takes_free : (a : Asking) (e : EntryParts) → verdict a ≡ accepted e
+    → (taken_in a.now.entries a.now.spent e.key ≡ false) × (taken_in (a.now.entries ++ e ∷ []) a.now.spent e.key ≡ true)
+takes_free a e is =
     let new = is_new a e is in
     let key : e.key ≡ a.key = rw new.made refl in
-    let free : list_any (has_key a.key) w.entries ≡ false = rw now at (find_none (has_key a.key) a.now.entries new.free) in
-    let unspent : is_spent w.spent a.key ≡ false = rw now at new.unspent in (
+    let free : list_any (has_key a.key) a.now.entries ≡ false = find_none (has_key a.key) a.now.entries new.free in
+    let unspent : is_spent a.now.spent a.key ≡ false = new.unspent in (
       rw (key, free, unspent) refl,
-      rw es (or_left (list_any (has_key e.key) (w.entries ++ e ∷ [])) _ (any_behind (has_key e.key) w.entries (e ∷ []) (or_left (bytes_eq e.key e.key) false ((bytes_eq-Decides e.key e.key).1 refl)))),
+      or_left (list_any (has_key e.key) (a.now.entries ++ e ∷ [])) _ (any_behind (has_key e.key) a.now.entries (e ∷ []) (or_left (bytes_eq e.key e.key) false ((bytes_eq-Decides e.key e.key).1 refl))),
     )
 
 -- what a request adds under a key, and whether it is free then
-one_request : (w : Situation) (b : ℕ) (request : Request) (key : List ℕ) (before : List EntryParts)
-    → count_by (has_key key) (with_one (added w request) before) + room (taken_in (entries_left w b request) (spent_left w b request) key)
+abbrev CountsOne : Situation → List ℕ → List EntryParts → Outcome → Type 0
+CountsOne w key before o =
+    count_by (has_key key) (with_one (added_by o) before) + room (taken_in (entries_after o w.entries) (spent_after o w.entries w.spent) key)
     ≤ count_by (has_key key) before + room (taken_in w.entries w.spent key)
-one_request w b request key before = go (outcome w b request)
+
+one_request : (w : Situation) (b : ℕ) (request : Request) (key : List ℕ) (before : List EntryParts) → CountsOne w key before (outcome w b request)
+one_request w b request key before = go (comes w b request)
   where
-    less : room (taken_in (entries_left w b request) (spent_left w b request) key) ≤ room (taken_in w.entries w.spent key)
-    less = less_room (taken_in w.entries w.spent key) (taken_in (entries_left w b request) (spent_left w b request) key) (stays_taken w b request key)
+    less : (o : Outcome) → room (taken_in (entries_after o w.entries) (spent_after o w.entries w.spent) key) ≤ room (taken_in w.entries w.spent key)
+    less o = less_room (taken_in w.entries w.spent key) (taken_in (entries_after o w.entries) (spent_after o w.entries w.spent) key) (stays_taken w key o)
 
-    none_added : added w request ≡ None
-        → count_by (has_key key) (with_one (added w request) before) + room (taken_in (entries_left w b request) (spent_left w b request) key)
-        ≤ count_by (has_key key) before + room (taken_in w.entries w.spent key)
-    none_added none = rw none (let l = less in omega (arith, l))
-
-    go : Outcome w b request
-        → count_by (has_key key) (with_one (added w request) before) + room (taken_in (entries_left w b request) (spent_left w b request) key)
-        ≤ count_by (has_key key) before + room (taken_in w.entries w.spent key)
-    go (stays none es ks) = none_added none
-    go (purges purge none es ks) = none_added none
-    go (adds a e now is some es ks told) = rw some (under (bytes_eq e.key key) refl)
+    go : {o : Outcome} → Comes w b request o → CountsOne w key before o
+    go (stays none) = omega arith
+    go (purging ask count sound none) = let l = less (purges b) in omega (arith, l)
+    go (adding asked e is one) = under (bytes_eq e.key key) refl
       where
-        under : (c : Bool) → bytes_eq e.key key ≡ c
-            → count_by (has_key key) (e ∷ before) + room (taken_in (entries_left w b request) (spent_left w b request) key) ≤ count_by (has_key key) before + room (taken_in w.entries w.spent key)
+        under : (c : Bool) → bytes_eq e.key key ≡ c → CountsOne w key before (adds e)
         under true t =
             let same : e.key ≡ key = (bytes_eq-Decides e.key key).0 t in
-            let both = takes_free w b request a e now is es in
-            let free : taken_in w.entries w.spent key ≡ false = rw same at both.0 in
-            let taken : taken_in (entries_left w b request) (spent_left w b request) key ≡ true = rw same at both.1 in
+            let both = takes_free (asking_for asked w) e is in
+            let free : taken_in w.entries w.spent key ≡ false = subst (λ k. taken_in w.entries w.spent k ≡ false) same both.0 in
+            let taken : taken_in (w.entries ++ e ∷ []) w.spent key ≡ true = subst (λ k. taken_in (w.entries ++ e ∷ []) w.spent k ≡ true) same both.1 in
             rw (free, taken, one_of key e before, t) (omega arith)
-        under false t = rw (one_of key e before, t) (let l = less in omega (arith, l))
+        under false t = let l = less (adds e) in rw (one_of key e before, t) (omega (arith, l))
 
 one_turn : (made : Bool) (j : Journal) (t : Turn) (key : List ℕ) (before : List EntryParts)
     → count_by (has_key key) (with_one (if made then added (situation j t) t.request else None) before) + room (is_taken (if made then left j t else j) key)
     ≤ count_by (has_key key) before + room (is_taken j key)
-one_turn true j t key before = one_request (situation j t) t.bound t.request key before
+one_turn true j t key before =
+    subst (λ o. count_by (has_key key) (with_one o before) + room (is_taken (left j t) key) ≤ count_by (has_key key) before + room (is_taken j key))
+    (sym (added_is (comes (situation j t) t.bound t.request))) (one_request (situation j t) t.bound t.request key before)
 one_turn false j t key before = omega arith
 
 counted : (j : Journal) (ts : List Turn) (key : List ℕ) → count_by (has_key key) (additions j ts) + room (is_taken (after j ts) key) ≤ room (is_taken j key)
@@ -151,5 +146,21 @@ counted j (t ∷ ts) key =
     let now = one_turn t.is_made (after j ts) t key (additions j ts) in
     omega (arith, before, now)
 
-pub one_entry_per_key : (j : Journal) (ts : List Turn) (key : List ℕ) → count_by (has_key key) (additions j ts) ≤ (if is_taken j key then 0 else 1)
-one_entry_per_key j ts key = let all = counted j ts key in omega (arith, all)
+at_most_one : (j : Journal) (ts : List Turn) (key : List ℕ) → count_by (has_key key) (additions j ts) ≤ (if is_taken j key then 0 else 1)
+at_most_one j ts key = let all = counted j ts key in omega (arith, all)
+
+-- what was added under it is stored, or was purged
+stored_or_spent : ClosesTheOpen → (j : Journal) (ts : List Turn) (key : List ℕ) → AreLists j.entries j.spent → AreBounds j ts → (e : EntryParts) → Contains (additions j ts) e → e.key ≡ key
+    → (by_key (after j ts).entries key ≡ Some e) ⊎ (is_spent (after j ts).spent key ≡ true)
+stored_or_spent closes j ts key lists bounds e added same = go last.known.state
+  where
+    last : IsLasting (after j ts) e
+    last = added_lasts closes j ts e lists.rising bounds (among-contains e (additions j ts) added)
+
+    go : IsStored (after j ts).entries (after j ts).spent e last.first ⊎ IsPast (after j ts).entries (after j ts).spent e
+        → (by_key (after j ts).entries key ≡ Some e) ⊎ (is_spent (after j ts).spent key ≡ true)
+    go (inl stored) = inl (subst (λ k. by_key (after j ts).entries k ≡ Some e) same stored.found)
+    go (inr past) = inr (subst (λ k. is_spent (after j ts).spent k ≡ true) same past.spent)
+
+pub one_entry_per_key : ClosesTheOpen → OneEntryPerKey
+one_entry_per_key closes j ts key = record { once = at_most_one j ts key; for_good = stored_or_spent closes j ts key }

@@ -1,13 +1,18 @@
 -- What is wanted of a weighing or void.
 use Rattle.std.specs.Prelude.{◌≡◌}
 use Rattle.wb_office.specs.declared.judging.Asked.{Asked}
-use Rattle.wb_office.specs.Answer.{answer_of, asking, entries_after, marks_by}
+use Rattle.wb_office.specs.Answer.{answer_of, asking, entries_after, is_marked, outcome_of, spent_after}
 use Rattle.wb_office.specs.Situation.{Situation}
 use Rattle.wb_office.specs.Wanted.{Wanted}
 use Rattle.wb_office.specs.Verdict.{Verdict, verdict}
 
 abbrev pub wanted_by : Situation → Verdict → Wanted
-wanted_by w v = record { answer = answer_of w.entries v; entries = entries_after w.entries v; spent = w.spent; marks = marks_by v }
+wanted_by w v = record {
+  answer = answer_of w.entries v;
+  entries = entries_after (outcome_of v) w.entries;
+  spent = spent_after (outcome_of v) w.entries w.spent;
+  marks = is_marked (outcome_of v);
+}
 
 -- the answer of the verdict, with what it leaves
 abbrev pub IsWeighingWanted : Asked → Situation → Wanted → Type 0

@@ -13,7 +13,7 @@ returns-in-Ok g c = λ scale at.
     let items = c.deref.ensures.value ∙ l.found w.entries w.spent s h in
     record {
       want = wanted request.TicketsCsv w 0;
-      is = record { bound = 0; is_bound = refl; is = refl };
+      is = record { bound = 0; is_bound = tt; is = refl };
       entries = refl;
       spent = refl;
       marks = refl;
