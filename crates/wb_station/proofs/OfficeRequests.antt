@@ -21,7 +21,7 @@ use Rattle.wb_office.specs.declared.refusal.Refusal.{Refusal}
 use Rattle.wb_office.specs.declared.refusal.Refusal.TheVariants.{KeyReused, Gone, ClockBack, NoLoad, Overload, Underload, Unstable, BelowMin, TareActive, NoPreset, NotCleared, AlreadyOpen, NoOpen, JournalFull, Store, NoTicket, Damaged}
 use Rattle.wb_office.specs.declared.request.Request.{Request}
 use Rattle.wb_office.specs.declared.request.Request.TheVariants.{Weigh, VoidOpen, Ticket, Indication, JournalCsv, TicketsCsv, Purge, Check}
-use Rattle.wb_office.specs.Answer.{Told as Answered, indication_text, text_told, answer_of, asking, entries_after, has_ticket, if_sound, text_of, ticket_of, tickets_answer}
+use Rattle.wb_office.specs.Answer.{Told as Answered, indication_text, text_told, answer_of, asking, has_ticket, if_sound, text_of, ticket_of, tickets_answer}
 use Rattle.wb_office.specs.Situation.{Situation}
 use Rattle.wb_office.specs.WithoutStore.{Outright}
 use Rattle.wb_office.specs.Conditions.{is_damaged}
@@ -107,16 +107,16 @@ with_bound : (request : Request) (w : Situation) (b : ℕ) → HasBound request 
 with_bound request w b has = (wanted request w b, record { bound = b; is_bound = has; is = refl })
 
 pub some_wanted : HasOneBound → (request : Request) (w : Situation) → IsRising w.entries → (want : Wanted) × IsWanted request w want
-some_wanted bounds (Weigh key kind plate) w rising = with_bound (Weigh key kind plate) w 0 refl
-some_wanted bounds (VoidOpen key plate) w rising = with_bound (VoidOpen key plate) w 0 refl
-some_wanted bounds (Ticket number) w rising = with_bound (Ticket number) w 0 refl
-some_wanted bounds Indication w rising = with_bound Indication w 0 refl
-some_wanted bounds JournalCsv w rising = with_bound JournalCsv w 0 refl
-some_wanted bounds TicketsCsv w rising = with_bound TicketsCsv w 0 refl
+some_wanted bounds (Weigh key kind plate) w rising = with_bound (Weigh key kind plate) w 0 tt
+some_wanted bounds (VoidOpen key plate) w rising = with_bound (VoidOpen key plate) w 0 tt
+some_wanted bounds (Ticket number) w rising = with_bound (Ticket number) w 0 tt
+some_wanted bounds Indication w rising = with_bound Indication w 0 tt
+some_wanted bounds JournalCsv w rising = with_bound JournalCsv w 0 tt
+some_wanted bounds TicketsCsv w rising = with_bound TicketsCsv w 0 tt
 some_wanted bounds Purge w rising =
     let one = bounds w.entries (next_number w.entries w.spent) (day_of w.at) w.setup.retention_days rising in
     with_bound Purge w one.0 one.1
-some_wanted bounds Check w rising = with_bound Check w 0 refl
+some_wanted bounds Check w rising = with_bound Check w 0 tt
 
 -- ---- one judgement
 
@@ -340,7 +340,7 @@ outright_comes at bytes Indication judged asks t result is out response a st lis
       judged,
       (
         wanted Indication w 0,
-        record { bound = 0; is_bound = refl; is = refl },
+        record { bound = 0; is_bound = tt; is = refl },
         refl,
         subst (λ r. IsResponse at (told_result Indication r) out) (is.1 ∙ ap (λ x. Ok (text_told x)) text) response,
       ),
@@ -351,7 +351,7 @@ outright_comes at bytes (Ticket number) judged asks t result is out response a s
       judged,
       (
         wanted (Ticket number) w 0,
-        record { bound = 0; is_bound = refl; is = refl },
+        record { bound = 0; is_bound = tt; is = refl },
         refl,
         subst (λ r. IsResponse at (told_result (Ticket number) r) out) (ap told_of is ∙ sym (no_ticket a.entries number (is_zero number asks) lists.storable)) response,
       ),
@@ -369,12 +369,12 @@ outright_any : (at : ℕ) (bytes : List ℕ) (request : Request) → IsJudged by
 outright_any at bytes Indication judged asks s told out response a =
     let want = wanted Indication (situation s at a) 0 in (
       responded (response_text (told_result Indication want.answer) response.0),
-      (Ok Indication, judged, (want, record { bound = 0; is_bound = refl; is = refl }, refl, (response.0, response.1, refl))),
+      (Ok Indication, judged, (want, record { bound = 0; is_bound = tt; is = refl }, refl, (response.0, response.1, refl))),
     )
 outright_any at bytes (Ticket number) judged asks s told out response a =
     let want = wanted (Ticket number) (situation s at a) 0 in (
       responded (response_text (told_result (Ticket number) want.answer) response.0),
-      (Ok (Ticket number), judged, (want, record { bound = 0; is_bound = refl; is = refl }, refl, (response.0, response.1, refl))),
+      (Ok (Ticket number), judged, (want, record { bound = 0; is_bound = tt; is = refl }, refl, (response.0, response.1, refl))),
     )
 outright_any at bytes (Weigh key kind plate) judged asks s told out response a = absurd (cc asks)
 outright_any at bytes (VoidOpen key plate) judged asks s told out response a = absurd (cc asks)

@@ -25,18 +25,22 @@ one_response at told x y a b =
     let same = unix_secs_injective a.1.0 b.1.0 (a.1.1 ∙ sym b.1.1) in
     a.2 ∙ ap (λ d. responded (response_text told d)) (a.1.2 ∙ ap imf_fixdate same ∙ sym b.1.2) ∙ sym b.2
 
-one_bound : (request : Request) (w : Situation) (b c : ℕ) → HasBound request w b → HasBound request w c → b ≡ c
-one_bound (Weigh key kind plate) w b c one two = one ∙ sym two
-one_bound (VoidOpen key plate) w b c one two = one ∙ sym two
-one_bound (Ticket number) w b c one two = one ∙ sym two
-one_bound Indication w b c one two = one ∙ sym two
-one_bound JournalCsv w b c one two = one ∙ sym two
-one_bound TicketsCsv w b c one two = one ∙ sym two
-one_bound Purge w b c one two = let low = one.greatest c two.purgeable in let high = two.greatest b one.purgeable in omega (arith, low, high)
-one_bound Check w b c one two = one ∙ sym two
+same_wanted : (request : Request) (w : Situation) (b c : ℕ) → HasBound request w b → HasBound request w c → wanted request w b ≡ wanted request w c
+same_wanted (Weigh key kind plate) w b c one two = refl
+same_wanted (VoidOpen key plate) w b c one two = refl
+same_wanted (Ticket number) w b c one two = refl
+same_wanted Indication w b c one two = refl
+same_wanted JournalCsv w b c one two = refl
+same_wanted TicketsCsv w b c one two = refl
+same_wanted Purge w b c one two =
+    let low = one.greatest c two.purgeable in
+    let high = two.greatest b one.purgeable in
+    let same : b ≡ c = omega (arith, low, high) in
+    ap (wanted Purge w) same
+same_wanted Check w b c one two = refl
 
 one_wanted : (request : Request) (w : Situation) (x y : Wanted) → IsWanted request w x → IsWanted request w y → x ≡ y
-one_wanted request w x y one two = one.is ∙ ap (wanted request w) (one_bound request w one.bound two.bound one.is_bound two.is_bound) ∙ sym two.is
+one_wanted request w x y one two = one.is ∙ same_wanted request w one.bound two.bound one.is_bound two.is_bound ∙ sym two.is
 
 -- an account and an output
 record IsSame (a b : Account) (x y : Out) : Type 0 where
