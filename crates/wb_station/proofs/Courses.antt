@@ -4,17 +4,10 @@ use Rattle.wb_instrument.specs.Setup.{Setup}
 use Rattle.wb_journal.specs.declared.entry.EntryParts.{EntryParts}
 use Rattle.wb_office.specs.declared.refusal.Refusal.{Refusal}
 use Rattle.wb_office.specs.declared.refusal.Refusal.TheVariants.{Gone}
-use Rattle.wb_journal.specs.declared.journal_check.Finding.{Finding}
-use Rattle.wb_journal.specs.declared.journal_check.Finding.TheVariants as finding
-use Rattle.wb_journal.specs.declared.kind.Kind.TheVariants.{Void}
-use Rattle.wb_journal.specs.Check.{check}
-use Rattle.wb_office.specs.Answer.{Told, asking, outcome_of, unless_damaged}
+use Rattle.wb_office.specs.Answer.{Told}
 use Rattle.wb_office.specs.declared.request.Request.{Request}
-use Rattle.wb_office.specs.declared.request.Request.TheVariants.{Weigh, VoidOpen, Ticket, Indication, JournalCsv, TicketsCsv, Purge, Check}
-use Rattle.wb_office.specs.Situation.{Situation as Office}
-use Rattle.wb_office.specs.Verdict.{Verdict, accepted, refused, repeated, verdict}
 use Rattle.wb_office.specs.CourseOfRequests as course
-use Rattle.wb_office.specs.CourseOfRequests.{AreBounds, Journal, Turn, added, added_by, after, answer_in, answered_with, entry_of, left}
+use Rattle.wb_office.specs.CourseOfRequests.{AreBounds, Journal, Turn, after, answer_in, left}
 use Rattle.wb_office.specs.Laws.{AnsweredAgain, IsGone, IsKept}
 use Rattle.wb_office.specs.Wanted.{Wanted, HasBound, IsWanted, wanted}
 use Rattle.wb_store.specs.Lists.{by_key, is_spent}
@@ -59,26 +52,6 @@ has_course s opening (office at bytes true ∷ h) a is = let c = has_course s op
 has_course s opening (office at bytes false ∷ h) a is =
     one_turn s opening at bytes h is.2.1.0 is.0 a is.2.0 is.2.1.1 is.1 is.2.1.2 (has_course s opening h is.0 is.1)
 
--- a request that adds an entry is answered with it
-added_by_verdict : (v : Verdict) (e : EntryParts) → added_by (outcome_of v) ≡ Some e → entry_of v ≡ Some e
-added_by_verdict (refused why) e is = absurd (cc is)
-added_by_verdict (repeated x) e is = absurd (cc is)
-added_by_verdict (accepted x) e is = is
-
-answers_with : (w : Office) (request : Request) (e : EntryParts) → added w request ≡ Some e → answered_with w request ≡ Some e
-answers_with w (Weigh key kind plate) e is = added_by_verdict (verdict (asking w key kind plate)) e is
-answers_with w (VoidOpen key plate) e is = added_by_verdict (verdict (asking w key Void plate)) e is
-answers_with w (Ticket number) e is = absurd (cc is)
-answers_with w Indication e is = absurd (cc is)
-answers_with w JournalCsv e is = absurd (cc is)
-answers_with w TicketsCsv e is = absurd (cc is)
-answers_with w Purge e is = purged (check w.entries) is
-  where
-    purged : (f : Finding) → added_by (unless_damaged f 0) ≡ Some e → answered_with w Purge ≡ Some e
-    purged (finding.Sound count) none = absurd (cc none)
-    purged (finding.Damaged number) none = absurd (cc none)
-answers_with w Check e is = absurd (cc is)
-
 module _ (law : AnsweredAgain) (s : Setup) (before : Account) (request : Request) (want : Wanted) (e : EntryParts) (adds : Adds s before request want e) (later : List Happening) (c : Account)
     (account : IsAccount s (leaves want before) later c) where
   abbrev first_turn : Turn
@@ -98,7 +71,7 @@ module _ (law : AnsweredAgain) (s : Setup) (before : Account) (request : Request
 
   either : (u : Turn) → u.request ≡ request → IsKept (journal_of c) e (answer_in (journal_of before) first_turn) (answer_in (journal_of c) u) ⊎ IsGone (journal_of c) e (answer_in (journal_of c) u)
   either u same = subst (λ j. IsKept j e (answer_in (journal_of before) first_turn) (answer_in j u) ⊎ IsGone j e (answer_in j u)) (sym ends)
-      (law (journal_of before) adds.lists first_turn e (answers_with _ request e adds.adds) course_of.turns bounds u same)
+      (law (journal_of before) adds.lists first_turn e adds.adds course_of.turns bounds u same)
 
   pub again : (at : ℕ) (want' : Wanted) → IsWanted request (situation s at c) want' → IsKept (journal_of c) e want.answer want'.answer ⊎ IsGone (journal_of c) e want'.answer
   again at want' is' = subst₂ (λ x y. IsKept (journal_of c) e x y ⊎ IsGone (journal_of c) e y) (sym (ap (λ x. x.answer) adds.is.is)) (sym (ap (λ x. x.answer) is'.is))

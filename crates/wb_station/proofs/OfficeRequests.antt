@@ -26,7 +26,7 @@ use Rattle.wb_office.specs.Situation.{Situation}
 use Rattle.wb_office.specs.WithoutStore.{Outright}
 use Rattle.wb_office.specs.Conditions.{is_damaged}
 use Rattle.wb_office.specs.Serves.{IsNow, Leaves, Marks, Serves, is_store_refusal, told_of}
-use Rattle.wb_office.specs.Wanted.{Wanted, HasBound, IsWanted, asks_store, wanted}
+use Rattle.wb_office.specs.Wanted.{Wanted, IsWanted, asks_store, wanted}
 use Rattle.wb_office.specs.Verdict.{Verdict, accepted, refused, repeated, verdict}
 use Rattle.wb_scale.specs.History.{moments}
 use Rattle.wb_scale.specs.Indication.{indicated}
@@ -103,20 +103,11 @@ export_is_quiet Check w want is export = is_quiet w want _ is.is (record { entri
 
 -- ---- something is wanted of every request
 
-with_bound : (request : Request) (w : Situation) (b : ℕ) → HasBound request w b → (want : Wanted) × IsWanted request w want
-with_bound request w b has = (wanted request w b, record { bound = b; is_bound = has; is = refl })
-
 pub some_wanted : HasOneBound → (request : Request) (w : Situation) → IsRising w.entries → (want : Wanted) × IsWanted request w want
-some_wanted bounds (Weigh key kind plate) w rising = with_bound (Weigh key kind plate) w 0 tt
-some_wanted bounds (VoidOpen key plate) w rising = with_bound (VoidOpen key plate) w 0 tt
-some_wanted bounds (Ticket number) w rising = with_bound (Ticket number) w 0 tt
-some_wanted bounds Indication w rising = with_bound Indication w 0 tt
-some_wanted bounds JournalCsv w rising = with_bound JournalCsv w 0 tt
-some_wanted bounds TicketsCsv w rising = with_bound TicketsCsv w 0 tt
 some_wanted bounds Purge w rising =
     let one = bounds w.entries (next_number w.entries w.spent) (day_of w.at) w.setup.retention_days rising in
-    with_bound Purge w one.0 one.1
-some_wanted bounds Check w rising = with_bound Check w 0 tt
+    (wanted Purge w one.0, record { bound = one.0; is_bound = one.1; is = refl })
+some_wanted bounds request w rising = (wanted request w 0, record { bound = 0; is_bound = tt; is = refl })
 
 -- ---- one judgement
 

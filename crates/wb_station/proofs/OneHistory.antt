@@ -4,7 +4,7 @@ use Rattle.httpdate.proofs.Theorems.{unix_secs_injective}
 use Rattle.httpdate.specs.Text.{imf_fixdate}
 use Rattle.wb_instrument.specs.Setup.{Setup}
 use Rattle.wb_office.specs.declared.request.Request.{Request}
-use Rattle.wb_office.specs.declared.request.Request.TheVariants.{Weigh, VoidOpen, Ticket, Indication, JournalCsv, TicketsCsv, Purge, Check}
+use Rattle.wb_office.specs.declared.request.Request.TheVariants.{Purge}
 use Rattle.wb_office.specs.Situation.{Situation}
 use Rattle.wb_office.specs.Wanted.{Wanted, HasBound, IsWanted, wanted}
 use Rattle.wb_sics.specs.Event as terminal
@@ -26,18 +26,12 @@ one_response at told x y a b =
     a.2 ∙ ap (λ d. responded (response_text told d)) (a.1.2 ∙ ap imf_fixdate same ∙ sym b.1.2) ∙ sym b.2
 
 same_wanted : (request : Request) (w : Situation) (b c : ℕ) → HasBound request w b → HasBound request w c → wanted request w b ≡ wanted request w c
-same_wanted (Weigh key kind plate) w b c one two = refl
-same_wanted (VoidOpen key plate) w b c one two = refl
-same_wanted (Ticket number) w b c one two = refl
-same_wanted Indication w b c one two = refl
-same_wanted JournalCsv w b c one two = refl
-same_wanted TicketsCsv w b c one two = refl
 same_wanted Purge w b c one two =
     let low = one.greatest c two.purgeable in
     let high = two.greatest b one.purgeable in
     let same : b ≡ c = omega (arith, low, high) in
     ap (wanted Purge w) same
-same_wanted Check w b c one two = refl
+same_wanted _ w b c one two = refl
 
 one_wanted : (request : Request) (w : Situation) (x y : Wanted) → IsWanted request w x → IsWanted request w y → x ≡ y
 one_wanted request w x y one two = one.is ∙ same_wanted request w one.bound two.bound one.is_bound two.is_bound ∙ sym two.is

@@ -3,7 +3,7 @@ use Rattle.std.specs.Prelude.{◌≡◌, ◌⊎◌, ℕ, Bool, true, false, List
 use Rattle.wb_instrument.specs.Setup.{Setup}
 use Rattle.wb_journal.specs.declared.entry.EntryParts.{EntryParts}
 use Rattle.wb_office.specs.declared.request.Request.{Request}
-use Rattle.wb_office.specs.CourseOfRequests.{AreBounds, Journal, Turn, added, after}
+use Rattle.wb_office.specs.CourseOfRequests.{AreBounds, Journal, Turn, after, answered_with}
 use Rattle.wb_office.specs.Laws.{IsGone, IsKept}
 use Rattle.wb_office.specs.Wanted.{Wanted, IsWanted}
 use Rattle.wb_scale.specs.History.{moments}
@@ -49,14 +49,14 @@ pub record IsCourse (s : Setup) (opening : Account) (h : List Happening) (a : Ac
 abbrev pub HasCourse : Type 0
 HasCourse = (s : Setup) (opening : Account) (h : List Happening) (a : Account) → IsAccount s opening h a → IsCourse s opening h a
 
--- ---- an entry that was added
+-- ---- an entry that was added or repeated
 
--- in a situation of this account the request adds the entry, and this is wanted of it
+-- in a situation of this account the request is answered with the entry, which it adds or repeats, and this is wanted of it
 pub record Adds (s : Setup) (before : Account) (request : Request) (want : Wanted) (e : EntryParts) : Type 0 where
   pub lists : AreLists before.entries before.spent
   pub at : ℕ
   pub is : IsWanted request (situation s at before) want
-  pub adds : added (situation s at before) request ≡ Some e
+  pub adds : answered_with (situation s at before) request ≡ Some e
 
 -- it is asked again after whatever came: its entry is stored, and the answer and the ticket of its number are those that it had at first; or
 -- it was purged, and it is refused as gone

@@ -34,15 +34,15 @@ pub fn law_of_courses()
     ensures { HasCourse }
 {}
 
-/// A request that added an entry is answered as at first whenever it is made again, and so is the ticket of its number, whatever
-/// came between; or its entry was purged, and it is refused as gone.
+/// A request that was answered with an entry, its own or one that it repeated, is answered so whenever it is made again, and so is the
+/// ticket of its number, whatever came between; or its entry was purged, and it is refused as gone.
 pub fn law_of_same_again()
     ensures { SameAgain }
 {
     law_of_repeated_requests();
 }
 
-/// An entry that was added is stored in every later account, or its key is spent.
+/// An entry that was added or repeated is stored in every later account, or its key is spent.
 pub fn law_of_kept_entries()
     ensures { KeptForGood }
 {
