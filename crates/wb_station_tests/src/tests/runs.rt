@@ -57,6 +57,30 @@ const ASKED: [Event<'static>; 9] = [
     Event::Byte(b'\n'),
 ];
 
+/// Empty lines: each is answered `ES`.
+const EMPTY_LINES: [Event<'static>; 20] = [
+    Event::Byte(b'\n'),
+    Event::Byte(b'\n'),
+    Event::Byte(b'\n'),
+    Event::Byte(b'\n'),
+    Event::Byte(b'\n'),
+    Event::Byte(b'\n'),
+    Event::Byte(b'\n'),
+    Event::Byte(b'\n'),
+    Event::Byte(b'\n'),
+    Event::Byte(b'\n'),
+    Event::Byte(b'\n'),
+    Event::Byte(b'\n'),
+    Event::Byte(b'\n'),
+    Event::Byte(b'\n'),
+    Event::Byte(b'\n'),
+    Event::Byte(b'\n'),
+    Event::Byte(b'\n'),
+    Event::Byte(b'\n'),
+    Event::Byte(b'\n'),
+    Event::Byte(b'\n'),
+];
+
 #[test]
 fn hands_on_each_reply_until_one_is_refused(rt: HostRuntime) -> Result<(), Fail> {
     let alloc = rt.alloc();
@@ -73,17 +97,15 @@ fn hands_on_each_reply_until_one_is_refused(rt: HostRuntime) -> Result<(), Fail>
     }
 }
 
-/// Each of three replies is handed on at its place, in 100 runs one after the other.
+/// Each of 20 replies is handed on at its place.
 fn hands_on_each(rt: &impl Abort, alloc: Global, station: &mut Station<RingWindow, MemStore>) {
     let mut outputs = OutputList::new(alloc);
-    for _ in 0..100 {
-        assert_eq!(rt; station.run(&ASKED, &mut outputs), Ok(()));
-    }
+    assert_eq!(rt; station.run(&EMPTY_LINES, &mut outputs), Ok(()));
     let taken = outputs.outputs();
-    assert_eq!(rt; taken.len(), 300);
+    assert_eq!(rt; taken.len(), 20);
     for (place, output) in taken.iter().enumerate() {
-        assert_eq!(rt; output.at, 3 * (place as u64 % 3 + 1));
-        assert_eq!(rt; output.bytes.as_slice(), b"S I\r\n".as_slice());
+        assert_eq!(rt; output.at, place as u64 + 1);
+        assert_eq!(rt; output.bytes.as_slice(), b"ES\r\n".as_slice());
     }
 }
 
