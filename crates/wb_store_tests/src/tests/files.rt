@@ -1,5 +1,6 @@
 //! Files that hold no store.
 use std::fs;
+use std::os::unix::fs::MetadataExt;
 use std::test::Fail;
 use wb_file::JournalFile;
 use wb_store::StoreFault;
@@ -9,6 +10,21 @@ const FOLDER: &str = "weighbridge_test";
 /// What refuses the file, if anything does.
 fn refusal(rt: &HostRuntime, path: &str) -> Option<StoreFault> {
     JournalFile::open_kept(rt, path).err()
+}
+
+#[test]
+fn makes_files_for_their_owner_alone(rt: HostRuntime) -> Result<(), Fail> {
+    let folder = "weighbridge_test_modes";
+    let _ = fs::remove_dir_all(&rt, folder);
+    fs::create_dir(&rt, folder)?;
+    let path = "weighbridge_test_modes/journal.db";
+    let journal = JournalFile::open(&rt, path)?;
+    for made in [path, "weighbridge_test_modes/journal.db-wal"] {
+        assert_eq!(rt; fs::metadata(&rt, made)?.mode() & 0o777, 0o600, "{made}");
+    }
+    drop(journal);
+    fs::remove_dir_all(&rt, folder)?;
+    Ok(())
 }
 
 #[test]
