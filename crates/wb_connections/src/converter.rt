@@ -1,11 +1,11 @@
 //! The converter, which alone is waited for.
 ghost use Rattle.std.specs.Prelude.{IfSome};
 ghost use Rattle.wb_sources.specs.SourceAnswers.{IsConverted};
-ghost use Rattle.wb_connections.specs.Ready.{IsWithin};
+ghost use Rattle.wb_window.specs.Reading.{IsReading};
 
-use crate::limits::{ENDLESS_LINE, SILENCE_SECONDS};
+use crate::limits::{ENDLESS_LINE, FRESH_SECONDS, LOOK_MILLIS};
 use crate::lines::Lines;
-use crate::ready::Ready;
+use crate::ready::{Ready, is_past};
 use crate::source::Source;
 use std::fs::{File, Files};
 use std::io::Read;
@@ -25,10 +25,12 @@ pub struct ConverterFault;
 pub struct Converter<S: Read + OpenStream + Drop> {
     source: Source<S>,
     lines: Lines,
-    /// When the last line or silent second was handed in.
+    /// What the last read found.
+    found: Ready,
+    /// When a read last found nothing. What is read later came after that.
+    looked: Instant,
+    /// Before the last line came, but no longer than a look; or when the silent second was over that was handed in after it.
     heard: Instant,
-    /// Whether nothing was ready at some time since the line before.
-    has_waited: bool,
 }
 
 impl<S: Read + OpenStream + Drop> Converter<S> {
@@ -55,70 +57,128 @@ impl<S: Read + OpenStream + Drop> Converter<S> {
         Converter {
             source,
             lines: Lines::new(),
+            found: Ready::Nothing,
+            looked: now,
             heard: now,
-            has_waited: false,
         }
-    }
-
-    /// Whether its lines come in their own time, whoever reads them. Those of a plain file don't.
-    pub fn is_live(&self) -> bool {
-        self.source.is_live()
-    }
-
-    /// Whether nothing was ready at some time before the last line: then all that had come was read.
-    pub fn has_waited(&self) -> bool {
-        self.has_waited
     }
 
     /// The reading of the next line, or what came in its place: a lost reading for a second without a line, the end or a fault.
+    ///
+    /// A line that may have come more than a second before is dropped. So a gap of more than a second, in which nobody called, hands
+    /// in a lost reading for each whole second.
     pub fn next(&mut self, clock: &impl Clock) -> Said
         ensures { IsConverted result }
     {
-        self.has_waited = false;
         for _ in 0..ENDLESS_LINE {
-            if let Some(reading) = self.lines.next_reading() {
-                self.hear(clock);
-                return Said::Line(reading);
+            if self.look(clock) {
+                if let Some(reading) = self.next_fresh(clock) {
+                    return Said::Line(reading);
+                }
+            } else if let Some(said) = self.without_line() {
+                return said;
+            } else {
+                self.wait(clock);
+            }
+        }
+        // so many old lines, and no end of them
+        Said::Line(Reading::Lost)
+    }
+
+    /// Whether no line waits that has come, and the last one holds that was handed in: it came less than a second before, or a silent
+    /// second was handed in since. A plain file always stands so: its lines don't come in a time of their own.
+    pub fn is_current(&mut self, clock: &impl Clock) -> bool {
+        if !self.source.is_live() {
+            return true;
+        }
+        !self.look(clock) && self.holds(clock, self.heard)
+    }
+
+    /// Reads what is there up to the end of a line. False if no line waits: all that came is read, or the source is at its end or broken,
+    /// or its line too long to ever end.
+    fn look(&mut self, clock: &impl Clock) -> bool {
+        for _ in 0..ENDLESS_LINE {
+            if self.lines.has_line() {
+                return true;
             }
             if self.lines.is_endless() {
-                return Said::Fault;
+                self.found = Ready::Fault;
             }
-            match self.read(clock) {
-                Some(Ready::Bytes(count)) => self.lines.fill(count),
-                Some(Ready::Nothing) => {}
-                Some(Ready::End) => return Said::End,
-                Some(Ready::Fault) => return Said::Fault,
-                None => return Said::Line(Reading::Lost),
+            if matches!(self.found, Ready::End | Ready::Fault) {
+                return false;
+            }
+            // before the read: what comes between the two is read later, and came after it
+            let now = Instant::now(clock);
+            let ready = self.source.read_now(&mut self.lines.room);
+            match (ready, now) {
+                (Ready::Bytes(_), _) => self.take_in(ready),
+                (Ready::Nothing, Ok(now)) => {
+                    self.found = ready;
+                    self.looked = now;
+                    return false;
+                }
+                (Ready::Nothing, Err(_)) => self.found = Ready::Fault,
+                (Ready::End | Ready::Fault, _) => self.found = ready,
             }
         }
-        Said::Fault
+        self.found = Ready::Fault;
+        false
     }
 
-    /// Notes when a line was handed in.
-    fn hear(&mut self, clock: &impl Clock) {
-        if let Ok(now) = Instant::now(clock) {
-            self.heard = now;
+    /// Keeps what a read found.
+    fn take_in(&mut self, ready: Ready) {
+        self.found = ready;
+        if let Ready::Bytes(count) = ready {
+            self.lines.fill(count);
         }
     }
 
-    /// Reads what is ready, or else waits for it. None once there was no line for a second.
-    fn read(&mut self, clock: &impl Clock) -> Option<Ready>
-        ensures { IfSome result (λ ready. IsWithin ready 512) }
+    /// The reading of the line that waits, unless it may have come more than a second before.
+    fn next_fresh(&mut self, clock: &impl Clock) -> Option<Reading>
+        ensures { IfSome result IsReading }
     {
-        let ready = self.source.read_now(&mut self.lines.room);
-        if !matches!(ready, Ready::Nothing) || !self.is_live() {
-            return Some(ready);
-        }
-        self.has_waited = true;
-        let Ok(now) = Instant::now(clock) else {
-            return Some(Ready::Fault);
-        };
-        let second = Duration::from_secs(SILENCE_SECONDS);
-        let left = second.saturating_sub(now.duration_since(self.heard));
-        if left.is_zero() {
-            self.heard = self.heard.checked_add(second).unwrap_or(now);
+        let reading = self.lines.next_reading()?;
+        if self.source.is_live() && !self.holds(clock, self.looked) {
             return None;
         }
-        Some(self.source.read_within(clock, left, &mut self.lines.room))
+        self.heard = self.looked;
+        Some(reading)
+    }
+
+    /// What is handed in where no line waits: the end, a fault, or a lost reading for a second without a line.
+    fn without_line(&mut self) -> Option<Said>
+        ensures { IfSome result IsConverted }
+    {
+        match self.found {
+            Ready::End => Some(Said::End),
+            Ready::Fault => Some(Said::Fault),
+            Ready::Bytes(_) | Ready::Nothing => {
+                if !is_past(self.heard, FRESH_SECONDS, self.looked) {
+                    return None;
+                }
+                let second = Duration::from_secs(FRESH_SECONDS);
+                self.heard = self.heard.checked_add(second).unwrap_or(self.looked);
+                Some(Said::Line(Reading::Lost))
+            }
+        }
+    }
+
+    /// Waits for what comes, a look long at most.
+    fn wait(&mut self, clock: &impl Clock) {
+        let look = Duration::from_millis(LOOK_MILLIS);
+        let silent = self.looked.duration_since(self.heard);
+        let left = Duration::from_secs(FRESH_SECONDS).saturating_sub(silent);
+        let ready = self
+            .source
+            .read_within(clock, left.min(look), &mut self.lines.room);
+        self.take_in(ready);
+    }
+
+    /// Whether a reading of that time holds still. None does once the clock can't be read.
+    fn holds(&self, clock: &impl Clock, then: Instant) -> bool {
+        match Instant::now(clock) {
+            Ok(now) => !is_past(then, FRESH_SECONDS, now),
+            Err(_) => false,
+        }
     }
 }

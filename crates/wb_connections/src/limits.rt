@@ -31,13 +31,17 @@ pub(crate) const WAITING_REPLIES: usize = 65_536;
 /// For so many seconds at most, what waits for clients is still written at the end. A client that reads has it long before.
 pub const FINISH_SECONDS: u64 = 5;
 
-/// A converter that sends no whole line for so many seconds hands in a lost reading. The slowest converters send twice a second,
-/// so a second without a line is a fault, and nobody is shown an older weight.
-pub(crate) const SILENCE_SECONDS: u64 = 1;
+/// A reading holds for so many seconds after its line came: then a line that still waits is old, and is dropped, and a converter that
+/// sent no whole line since hands in a lost reading. The slowest converters send twice a second, so a second without a line is a
+/// fault, and nobody is shown an older weight.
+pub(crate) const FRESH_SECONDS: u64 = 1;
 
-/// After an exchange that took longer than so many milliseconds, the converter's lines come first. At ten readings a second that
-/// is one reading, so shorter exchanges leave nothing behind.
-pub const LONG_EXCHANGE_MILLIS: u64 = 100;
+/// A wait for the converter is broken off after so many milliseconds, to see that nothing came. What is found by the next look came
+/// since, so the age of a line is known to that.
+pub(crate) const LOOK_MILLIS: u64 = 50;
+
+/// A converter that is connected to answers at once, or within so many seconds.
+pub(crate) const CONNECT_SECONDS: u64 = 3;
 
 /// For so many milliseconds, a device or a client that has nothing now is left alone. At 200 looks a second a line is read at
 /// once, and the processor does next to nothing.

@@ -22,6 +22,8 @@ pub struct Lines {
     line: [u8; LINE_AND_CR],
     /// How many bytes came since the last LF; those that have no place in `line` are only counted.
     count: usize,
+    /// Whether its end came, and its reading wasn't handed out yet.
+    is_whole: bool,
 }
 
 impl Lines {
@@ -33,6 +35,7 @@ impl Lines {
             end: 0,
             line: [0; LINE_AND_CR],
             count: 0,
+            is_whole: false,
         }
     }
 
@@ -47,25 +50,37 @@ impl Lines {
         self.count >= ENDLESS_LINE
     }
 
+    /// Whether a line waits whose end came. If none does, all bytes are used.
+    pub fn has_line(&mut self) -> bool {
+        for _ in 0..CONVERTER_ROOM {
+            if self.is_whole || self.next >= self.end || self.is_endless() {
+                return self.is_whole;
+            }
+            let Some(byte) = self.room.get(self.next) else {
+                return false;
+            };
+            self.next = self.next.saturating_add(1);
+            if *byte == b'\n' {
+                self.is_whole = true;
+            } else {
+                if let Some(place) = self.line.get_mut(self.count) {
+                    *place = *byte;
+                }
+                self.count = self.count.saturating_add(1);
+            }
+        }
+        self.is_whole
+    }
+
     /// The reading of the next line whose end came. None once all bytes are used.
     pub fn next_reading(&mut self) -> Option<Reading>
         ensures { IfSome result IsReading }
     {
-        for _ in 0..CONVERTER_ROOM {
-            if self.next >= self.end || self.is_endless() {
-                return None;
-            }
-            let byte = *self.room.get(self.next)?;
-            self.next = self.next.saturating_add(1);
-            if byte == b'\n' {
-                return Some(self.finished_line());
-            }
-            if let Some(place) = self.line.get_mut(self.count) {
-                *place = byte;
-            }
-            self.count = self.count.saturating_add(1);
+        if self.has_line() {
+            Some(self.finished_line())
+        } else {
+            None
         }
-        None
     }
 
     /// The reading of the line that has ended, and a new line begins.
@@ -74,6 +89,7 @@ impl Lines {
     {
         let count = self.count;
         self.count = 0;
+        self.is_whole = false;
         match self.line.get(..count) {
             Some(line) => reading_of(line.strip_suffix(b"\r").unwrap_or(line)),
             None => Reading::Lost,

@@ -2,12 +2,12 @@
 ghost use Rattle.wb_connections.specs.Ready.{IsWithin};
 
 use crate::address::loopback;
-use crate::limits::PAUSE_MILLIS;
+use crate::limits::{CONNECT_SECONDS, PAUSE_MILLIS};
 use crate::lines::CONVERTER_ROOM;
 use crate::ready::{Ready, read_ready};
 use std::fs::{File, Files, OpenOptions};
 use std::io::Read;
-use std::net::{Net, OpenStream, TcpStream};
+use std::net::{Net, OpenStream, SocketAddr, SocketAddrV4, TcpStream};
 use std::os::fd::OwnedFd;
 use std::os::unix::fs::FileTypeExt;
 use std::time::{Clock, Duration};
@@ -31,10 +31,7 @@ impl<S: Read + OpenStream + Drop> Source<S> {
         text: &str,
     ) -> Option<Self> {
         match text.strip_prefix("tcp:") {
-            Some(address) => {
-                let address = loopback(address)?;
-                Some(Source::Stream(TcpStream::connect(rt, address).ok()?))
-            }
+            Some(address) => Some(Source::Stream(connect(rt, loopback(address)?)?)),
             None => open_file(rt, text),
         }
     }
@@ -56,7 +53,7 @@ impl<S: Read + OpenStream + Drop> Source<S> {
                 Ok(()) => read_ready(stream, room),
                 Err(_) => Ready::Fault,
             },
-            Source::Device(file) => read_ready(file, room),
+            Source::Device(file) => read_device(file, room),
             Source::Plain(file) => read_ready(file, room),
         }
     }
@@ -81,6 +78,28 @@ impl<S: Read + OpenStream + Drop> Source<S> {
             }
             Source::Plain(_) => self.read_now(room),
         }
+    }
+}
+
+/// Connects to an address. None after some seconds, and where the stream's two ends are the same: to a port of this machine on which
+/// nobody listens, a stream can connect from that port itself.
+fn connect<R: Net>(rt: &R, address: SocketAddrV4) -> Option<R::Stream> {
+    let patience = Duration::from_secs(CONNECT_SECONDS);
+    let stream = TcpStream::connect_timeout(rt, &SocketAddr::V4(address), patience).ok()?;
+    if stream.local_addr().ok()? == stream.peer_addr().ok()? {
+        None
+    } else {
+        Some(stream)
+    }
+}
+
+/// A read of a device or FIFO that doesn't wait. These have no end: a device that gives none of its bytes any more is gone.
+fn read_device(file: &mut File, room: &mut [u8; CONVERTER_ROOM]) -> Ready
+    ensures { IsWithin result 512 }
+{
+    match read_ready(file, room) {
+        Ready::End => Ready::Fault,
+        ready => ready,
     }
 }
 

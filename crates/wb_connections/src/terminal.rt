@@ -17,6 +17,8 @@ struct Connection<S: Drop> {
     peer: SocketAddr,
     /// When the socket last took a byte of the replies, or the first of those that wait came.
     moved: Instant,
+    /// Whether it sends no more.
+    has_ended: bool,
 }
 
 /// The listener, and the connection if there is one.
@@ -30,8 +32,9 @@ where
     /// The replies that wait, behind so many bytes that are written already.
     replies: Vec<u8>,
     written: usize,
-    /// Whether the connection was closed on this side, which is still to be told.
-    was_dropped: bool,
+    /// What came and wasn't handed out yet: so many bytes in the room, and whether the connection ended after them.
+    came: Taken,
+    room: [u8; TERMINAL_ROOM],
 }
 
 impl<L: OpenListener + Drop> Terminal<L>
@@ -45,40 +48,30 @@ where
             connection: None,
             replies: Vec::with_capacity(alloc, WAITING_REPLIES)?,
             written: 0,
-            was_dropped: false,
+            came: taken(0, false),
+            room: [0; TERMINAL_ROOM],
         })
     }
 
-    /// The bytes that came, and whether the connection ended after them. Where there is no connection, it accepts one.
-    pub fn take<R: Eprint>(
-        &mut self,
-        now: Instant,
-        report: &Report<'_, R>,
-        room: &mut [u8; TERMINAL_ROOM],
-    ) -> Taken
+    /// A turn of the connection: replies are written, and what came is read, if all was handed out that came before. Where there is
+    /// no connection, it accepts one.
+    pub fn step<R: Eprint>(&mut self, now: Instant, report: &Report<'_, R>) {
+        self.write(now, report);
+        if self.came.count == 0 && !self.came.hung_up {
+            self.accept(now, report);
+            self.read(report);
+        }
+    }
+
+    /// Hands out the bytes that came, and whether the connection ended after them.
+    pub fn take(&mut self, room: &mut [u8; TERMINAL_ROOM]) -> Taken
         ensures { result.count ≤ 256 }
     {
-        self.write(now, report);
-        if self.was_dropped {
-            self.was_dropped = false;
-            return taken(0, true);
-        }
-        self.accept(now, report);
-        let Some(connection) = &mut self.connection else {
-            return taken(0, false);
-        };
-        match read_ready(&mut connection.stream, room) {
-            Ready::Bytes(count) => taken(count, false),
-            Ready::Nothing => taken(0, false),
-            Ready::End => {
-                self.hang_up(report, "it ended");
-                taken(0, true)
-            }
-            Ready::Fault => {
-                self.hang_up(report, "it is broken");
-                taken(0, true)
-            }
-        }
+        let count = self.came.count.min(TERMINAL_ROOM);
+        room[..count].copy_from_slice(&self.room[..count]);
+        let hung_up = self.came.hung_up;
+        self.came = taken(0, false);
+        taken(count, hung_up)
     }
 
     /// Takes the replies of an event, and writes what its socket takes. A terminal for which too many would wait is hung up.
@@ -118,6 +111,31 @@ where
         }
     }
 
+    /// Reads what came. One that sends no more is closed once the replies are written that wait for it.
+    fn read<R: Eprint>(&mut self, report: &Report<'_, R>) {
+        let waits = self.waits();
+        let Some(connection) = &mut self.connection else {
+            return;
+        };
+        if !connection.has_ended {
+            match read_ready(&mut connection.stream, &mut self.room) {
+                Ready::Bytes(count) => {
+                    self.came = taken(count, false);
+                    return;
+                }
+                Ready::Nothing => return,
+                Ready::End => connection.has_ended = true,
+                Ready::Fault => {
+                    self.drop_connection(report, "it is broken");
+                    return;
+                }
+            }
+        }
+        if !waits {
+            self.drop_connection(report, "it ended");
+        }
+    }
+
     /// Accepts a connection, if there is none. An error of the system is no connection: a later turn asks again.
     fn accept<R: Eprint>(&mut self, now: Instant, report: &Report<'_, R>) {
         if self.connection.is_some() {
@@ -137,6 +155,7 @@ where
             stream,
             peer,
             moved: now,
+            has_ended: false,
         });
     }
 
@@ -183,10 +202,10 @@ where
         }
     }
 
-    /// Closes the connection on this side, which the next turn tells.
+    /// Closes the connection, which is handed out after the bytes that came.
     fn drop_connection<R: Eprint>(&mut self, report: &Report<'_, R>, why: &str) {
         self.hang_up(report, why);
-        self.was_dropped = true;
+        self.came.hung_up = true;
     }
 
     /// Closes the connection, if there is one, and forgets the replies that wait for it.

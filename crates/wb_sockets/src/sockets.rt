@@ -8,15 +8,18 @@ use std::net::{OpenListener, OpenStream, SocketAddr};
 use std::time::{Clock, Duration, Instant, SystemTime, UNIX_EPOCH};
 use std::{str, thread};
 use thiserror::Error;
-use wb_connections::{
-    Converter, FINISH_SECONDS, LONG_EXCHANGE_MILLIS, Office, PAUSE_MILLIS, Report, Terminal,
-    is_past,
-};
+use wb_connections::{Converter, FINISH_SECONDS, Office, PAUSE_MILLIS, Report, Terminal, is_past};
 use wb_journal::Moment;
 use wb_sources::{Converter as Said, REQUEST_ROOM, Sources, TERMINAL_ROOM, Taken};
 
 /// How often what waits for clients is looked at at the end.
 const FINISH_STEPS: u64 = FINISH_SECONDS * 1_000 / PAUSE_MILLIS;
+
+/// What a terminal's connection gives while lines of the converter come first.
+const NOTHING_TAKEN: Taken = Taken {
+    count: 0,
+    hung_up: false,
+};
 
 /// Why sources can't be made of what is open.
 #[derive(Clone, Copy, Debug, PartialEq, Eq, Error)]
@@ -50,8 +53,6 @@ where
     now: Instant,
     /// When the request that isn't answered yet was handed out.
     asked: Option<Instant>,
-    /// Whether lines of the converter may wait that came during a long exchange.
-    is_behind: bool,
 }
 
 impl<'a, R: Clock + Eprint + AllocGlobal, L: OpenListener + Drop> Sockets<'a, R, L>
@@ -85,7 +86,6 @@ where
                 clients,
                 now,
                 asked: None,
-                is_behind: false,
             }),
             Err(error) => Err(StartFault::from(error)),
         }
@@ -125,14 +125,6 @@ where
         self.clients.step(self.rt.alloc(), now, &self.report);
     }
 
-    /// Whether an exchange may follow: after a long one, only once the lines were read that came meanwhile.
-    fn has_caught_up(&mut self) -> bool {
-        if self.is_behind && self.converter.has_waited() {
-            self.is_behind = false;
-        }
-        !self.is_behind
-    }
-
     /// Hands out the next request, with which an exchange begins.
     fn hand_out(&mut self, room: &mut [u8; REQUEST_ROOM]) -> Option<usize>
         ensures { IfSome result (λ count. count ≤ 9216) }
@@ -142,14 +134,16 @@ where
         Some(count)
     }
 
-    /// How long the exchange took that has ended. After a long one the converter's lines come first.
+    /// How long the exchange took that has ended.
     fn end_exchange(&mut self) -> Duration {
         let now = self.look_at_clock();
-        let took = now.duration_since(self.asked.take().unwrap_or(now));
-        if took > Duration::from_millis(LONG_EXCHANGE_MILLIS) {
-            self.is_behind = self.converter.is_live();
-        }
-        took
+        now.duration_since(self.asked.take().unwrap_or(now))
+    }
+
+    /// Whether what came may be handed out now: the reading that was handed in last holds, and no line waits behind it. Asked after
+    /// what came was read, so that nothing which came later than a reading held is answered by it.
+    fn is_current(&mut self) -> bool {
+        self.converter.is_current(self.rt)
     }
 }
 
@@ -169,7 +163,12 @@ where
 
     fn terminal(&mut self, room: &mut [u8; TERMINAL_ROOM]) -> Taken {
         let now = self.look_at_clock();
-        self.clients.terminal.take(now, &self.report, room)
+        self.clients.terminal.step(now, &self.report);
+        if self.is_current() {
+            self.clients.terminal.take(room)
+        } else {
+            NOTHING_TAKEN
+        }
     }
 
     fn reply(&mut self, bytes: &[u8]) {
@@ -179,7 +178,7 @@ where
 
     fn office(&mut self, room: &mut [u8; REQUEST_ROOM]) -> Option<usize> {
         self.step();
-        if self.has_caught_up() {
+        if self.is_current() {
             self.hand_out(room)
         } else {
             None

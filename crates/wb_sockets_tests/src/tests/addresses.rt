@@ -54,6 +54,7 @@ fn listens_where_nobody_else_does(rt: HostRuntime) -> Result<(), Fail> {
     let listener = listen(&rt, "127.0.0.1:0")?;
     let address = listener.local_addr()?;
     let text = address.to_string(rt.alloc())?;
+    assert!(rt; text.as_str().starts_with("127.0.0.1:"), "{text}");
     for text in [text.as_str(), "0.0.0.0:0"] {
         assert!(rt; has_no_listener(&rt, text)?, "{text}");
     }

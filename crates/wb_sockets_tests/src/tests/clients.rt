@@ -1,5 +1,6 @@
 //! What clients do in a test, and what they must find.
 use super::memory::Wire;
+use std::io::ErrorKind;
 
 /// One byte more than a request has room for.
 static MANY: [u8; 9_217] = [b'x'; 9_217];
@@ -11,12 +12,16 @@ pub(crate) enum Client {
     Sends(&'static [u8]),
     /// It sends so many bytes, each an x.
     SendsMany(usize),
+    /// It sends pieces that `|` stands between, ten at most, each to be read once.
+    SendsPieces(&'static [u8]),
+    /// The next read of it finds an error.
+    Fails(ErrorKind),
     /// It sends nothing more.
     Ends,
     /// Its socket takes so many bytes more.
     Takes(usize),
-    /// It was sent so many bytes, and these are all or not.
-    Got(usize, bool),
+    /// It was sent just these bytes, and they are all or not.
+    Got(&'static [u8], bool),
     /// The service didn't close it.
     IsOpen,
     /// The service closed it.
@@ -29,9 +34,11 @@ impl Wire<'_> {
         match client {
             Client::Sends(bytes) => self.send(bytes),
             Client::SendsMany(count) => self.send(MANY.get(..*count).unwrap_or(&MANY)),
+            Client::SendsPieces(script) => self.send_pieces(script),
+            Client::Fails(error) => self.fail(*error),
             Client::Ends => self.end(),
             Client::Takes(count) => self.take(*count),
-            Client::Got(count, is_all) => return self.got() == (*count, *is_all),
+            Client::Got(bytes, is_all) => return self.was_sent(bytes, *is_all),
             Client::IsOpen => return self.is_open(),
             Client::IsClosed => return !self.is_open(),
         }

@@ -1,11 +1,12 @@
 //! A converter that falls silent, one that is read late, its end, and a plain file.
-use self::Step::{Ends, Hears, Set};
+use self::Step::{Ends, Fails, Hears, IsCurrent, Set};
 use super::memory::{Bench, Plug, Wire};
 use std::fs;
+use std::io::ErrorKind::{self, ConnectionReset, Interrupted};
 use std::process::Abort;
 use std::test::Fail;
 use std::time::Instant;
-use wb_connections::{Converter, Source};
+use wb_connections::{Converter, ENDLESS_LINE, Source};
 use wb_sources::Converter as Said;
 use wb_window::Reading::{Load, Lost};
 
@@ -16,30 +17,60 @@ enum Step {
     Set(u64),
     /// It sends nothing more.
     Ends,
-    /// What comes next: what it says, at which millisecond, and whether it had to be waited for.
-    Hears(Said, u128, bool),
+    /// The next read finds an error.
+    Fails(ErrorKind),
+    /// What comes next: what it says, and at which millisecond.
+    Hears(Said, u128),
+    /// Whether no line waits, and the last reading holds.
+    IsCurrent(bool),
 }
 
 static SILENT: [Step; 9] = [
-    Hears(Said::Line(Load(9_170)), 0, false),
-    Hears(Said::Line(Load(9_171)), 0, false),
-    Hears(Said::Line(Lost), 1_000, true),
-    Hears(Said::Line(Lost), 2_000, true),
-    Hears(Said::Line(Load(9_172)), 2_400, true),
-    Hears(Said::Line(Load(0)), 3_399, true),
-    Hears(Said::Line(Lost), 4_399, true),
+    Hears(Said::Line(Load(9_170)), 0),
+    Hears(Said::Line(Load(9_171)), 0),
+    Hears(Said::Line(Lost), 1_000),
+    Hears(Said::Line(Lost), 2_000),
+    Hears(Said::Line(Load(9_172)), 2_400),
+    Hears(Said::Line(Load(0)), 3_340),
+    // a second after the look before the line
+    Hears(Said::Line(Lost), 4_300),
     Ends,
-    Hears(Said::End, 4_399, false),
+    Hears(Said::End, 4_300),
 ];
 
-static READ_LATE: [Step; 7] = [
-    Set(3_000),
-    Hears(Said::Line(Load(1)), 3_000, false),
-    Hears(Said::Line(Load(2)), 3_000, false),
-    Set(5_500),
-    Hears(Said::Line(Lost), 5_500, true),
-    Hears(Said::Line(Lost), 5_500, true),
-    Hears(Said::Line(Load(3)), 5_600, true),
+/// Nobody reads for less than a second, and then for three and a half.
+static READ_LATE: [Step; 19] = [
+    IsCurrent(true),
+    Set(990),
+    // two lines came, of which none is old
+    IsCurrent(false),
+    Hears(Said::Line(Load(1)), 990),
+    IsCurrent(false),
+    Hears(Said::Line(Load(2)), 990),
+    IsCurrent(true),
+    // a second after the first of them may have come
+    Set(1_000),
+    IsCurrent(false),
+    Hears(Said::Line(Lost), 1_000),
+    IsCurrent(true),
+    Set(4_500),
+    // the lines that came meanwhile are dropped
+    IsCurrent(false),
+    Hears(Said::Line(Lost), 4_500),
+    IsCurrent(false),
+    Hears(Said::Line(Lost), 4_500),
+    Hears(Said::Line(Lost), 4_500),
+    IsCurrent(true),
+    Hears(Said::Line(Load(5)), 4_600),
+];
+
+/// A read that was interrupted is made again; a connection that is broken is a fault from then on.
+static BROKEN: [Step; 5] = [
+    Fails(Interrupted),
+    Hears(Said::Line(Load(1)), 0),
+    Fails(ConnectionReset),
+    Hears(Said::Fault, 0),
+    Hears(Said::Fault, 0),
 ];
 
 /// A converter on a connection, and its clock.
@@ -56,22 +87,28 @@ impl Desk<'_> {
         match step {
             Set(millis) => self.bench.set(*millis),
             Ends => self.wire.end(),
-            Hears(said, at, waited) => return self.hear() == (*said, *at, *waited),
+            Fails(error) => self.wire.fail(*error),
+            Hears(said, at) => return self.hear() == (*said, *at),
+            IsCurrent(is_current) => return self.is_current() == *is_current,
         }
         true
     }
 
-    /// What comes next: what the converter says, at which millisecond, and whether it had to be waited for.
-    fn hear(&mut self) -> (Said, u128, bool) {
+    /// What comes next: what the converter says, and at which millisecond.
+    fn hear(&mut self) -> (Said, u128) {
         let said = self.converter.next(self.bench);
-        (said, self.bench.millis(), self.converter.has_waited())
+        (said, self.bench.millis())
+    }
+
+    fn is_current(&mut self) -> bool {
+        self.converter.is_current(self.bench)
     }
 }
 
 /// Takes steps at a converter that sends these pieces at these milliseconds.
 fn play(
     rt: &(impl AllocGlobal + Abort),
-    times: &[u64],
+    times: &'static [u64],
     script: &'static [u8],
     steps: &[Step],
 ) -> Result<(), Fail> {
@@ -96,15 +133,33 @@ fn take_steps(rt: &impl Abort, desk: &mut Desk<'_>, steps: &[Step]) {
 fn hands_in_a_lost_reading_for_each_silent_second(rt: HostRuntime) -> Result<(), Fail> {
     play(
         &rt,
-        &[0, 200, 1_100, 2_400, 3_399, 4_300],
+        &[0, 200, 1_100, 2_400, 3_340, 4_200],
         b"9170\n9171\n|91|7|2\n|0\n|1",
         &SILENT,
     )
 }
 
 #[test]
-fn reads_late_what_came_meanwhile(rt: HostRuntime) -> Result<(), Fail> {
-    play(&rt, &[100, 200, 5_600], b"1\n|2\n|3\n", &READ_LATE)
+fn drops_lines_that_came_more_than_a_second_before(rt: HostRuntime) -> Result<(), Fail> {
+    play(
+        &rt,
+        &[100, 980, 2_000, 4_450, 4_600],
+        b"1\n|2\n|3\n|4\n|5\n",
+        &READ_LATE,
+    )
+}
+
+#[test]
+fn tells_an_interrupted_read_from_a_broken_connection(rt: HostRuntime) -> Result<(), Fail> {
+    play(&rt, &[0, 100], b"1\n|2\n", &BROKEN)
+}
+
+#[test]
+fn gives_up_a_file_without_the_end_of_a_line(rt: HostRuntime) -> Result<(), Fail> {
+    fs::write(&rt, "endless.txt", [b'0'; ENDLESS_LINE].as_slice())?;
+    let mut converter = Converter::open(&rt, "endless.txt")?;
+    assert_eq!(rt; converter.next(&rt), Said::Fault);
+    Ok(())
 }
 
 #[test]
@@ -112,7 +167,10 @@ fn reads_a_plain_file_to_its_end(rt: HostRuntime) -> Result<(), Fail> {
     fs::write(&rt, "converter.txt", "9170\r\nx\n9171")?;
     let mut converter = Converter::open(&rt, "converter.txt")?;
     for said in [Said::Line(Load(9_170)), Said::Line(Lost), Said::End] {
-        assert_eq!(rt; (converter.is_live(), converter.next(&rt)), (false, said));
+        assert_eq!(rt;
+            (converter.is_current(&rt), converter.next(&rt)),
+            (true, said)
+        );
     }
     Ok(())
 }

@@ -12,6 +12,8 @@ use std::time::{Clock, Duration, Instant};
 pub(crate) struct Bench {
     alloc: Global,
     now: Cell<Duration>,
+    /// Whether the calendar reads a time before 1970.
+    is_before_1970: Cell<bool>,
     told: RefCell<String>,
 }
 
@@ -20,6 +22,7 @@ impl Bench {
         Bench {
             alloc,
             now: Cell::new(Duration::ZERO),
+            is_before_1970: Cell::new(false),
             told: RefCell::new(String::new(alloc)),
         }
     }
@@ -27,6 +30,11 @@ impl Bench {
     /// Moves the clock to so many milliseconds from its start.
     pub(crate) fn set(&self, millis: u64) {
         self.now.set(Duration::from_millis(millis));
+    }
+
+    /// Sets the calendar to a time before 1970.
+    pub(crate) fn lose_calendar(&self) {
+        self.is_before_1970.set(true);
     }
 
     /// Moves the clock on by so many milliseconds.
@@ -53,6 +61,9 @@ impl Clock for Bench {
     }
 
     fn since_1970(&self) -> io::Result<Duration> {
+        if self.is_before_1970.get() {
+            return Err(io::Error::from(ErrorKind::InvalidData));
+        }
         Ok(self.now.get())
     }
 
@@ -91,20 +102,25 @@ pub(crate) fn after(start: Instant, seconds: u64) -> Instant {
         .unwrap_or(start)
 }
 
-/// A connection: what the client sends, and how much it is sent.
+/// The times of pieces that are sent at once.
+static NOW: [u64; 10] = [0; 10];
+
+/// A connection: what the client sends, and what it is sent.
 #[derive(Drop)]
 pub(crate) struct Wire<'a> {
     bench: &'a Bench,
     /// At which milliseconds the client sends, and what: pieces that `|` stands between.
-    times: &'a [u64],
+    times: Cell<&'static [u64]>,
     script: Cell<&'static [u8]>,
     next: Cell<usize>,
     /// What the client sent, and wasn't read yet.
     sent: Cell<&'static [u8]>,
     has_ended: Cell<bool>,
+    /// What the next read finds in the place of bytes.
+    error: Cell<Option<ErrorKind>>,
     /// How many bytes the socket still takes.
     takes: Cell<usize>,
-    got: Cell<usize>,
+    got: RefCell<Vec<u8>>,
     is_shut: Cell<bool>,
     is_open: Cell<bool>,
     /// For how long a read waits.
@@ -118,16 +134,17 @@ impl<'a> Wire<'a> {
     }
 
     /// On which a client sends pieces at these milliseconds.
-    pub(crate) fn playing(bench: &'a Bench, times: &'a [u64], script: &'static [u8]) -> Self {
+    pub(crate) fn playing(bench: &'a Bench, times: &'static [u64], script: &'static [u8]) -> Self {
         Wire {
             bench,
-            times,
+            times: Cell::new(times),
             script: Cell::new(script),
             next: Cell::new(0),
             sent: Cell::new(b""),
             has_ended: Cell::new(false),
+            error: Cell::new(None),
             takes: Cell::new(usize::MAX),
-            got: Cell::new(0),
+            got: RefCell::new(Vec::new(bench.alloc)),
             is_shut: Cell::new(false),
             is_open: Cell::new(true),
             patience: Cell::new(Duration::ZERO),
@@ -137,6 +154,18 @@ impl<'a> Wire<'a> {
     /// The client sends these bytes now; those that it sent before were read.
     pub(crate) fn send(&self, bytes: &'static [u8]) {
         self.sent.set(bytes);
+    }
+
+    /// The client sends pieces now that `|` stands between, ten at most, each to be read once.
+    pub(crate) fn send_pieces(&self, script: &'static [u8]) {
+        self.times.set(&NOW);
+        self.next.set(0);
+        self.script.set(script);
+    }
+
+    /// The next read finds this error.
+    pub(crate) fn fail(&self, error: ErrorKind) {
+        self.error.set(Some(error));
     }
 
     /// The client sends nothing more.
@@ -149,9 +178,12 @@ impl<'a> Wire<'a> {
         self.takes.set(count);
     }
 
-    /// How many bytes the client was sent, and whether they are all.
-    pub(crate) fn got(&self) -> (usize, bool) {
-        (self.got.get(), self.is_shut.get())
+    /// Whether the client was sent just these bytes, and they are all or not.
+    pub(crate) fn was_sent(&self, bytes: &[u8], is_all: bool) -> bool {
+        match self.got.try_borrow() {
+            Ok(got) => got.as_slice() == bytes && self.is_shut.get() == is_all,
+            Err(_) => false,
+        }
     }
 
     /// Whether the service hasn't closed it.
@@ -161,7 +193,7 @@ impl<'a> Wire<'a> {
 
     /// When the next piece of the script comes.
     fn next_time(&self) -> Option<Duration> {
-        let at = self.times.get(self.next.get())?;
+        let at = self.times.get().get(self.next.get())?;
         Some(Duration::from_millis(*at))
     }
 
@@ -204,6 +236,10 @@ impl Drop for Plug<'_> {
 
 impl Read for Plug<'_> {
     fn read(&mut self, buf: &mut [u8]) -> io::Result<usize> {
+        if let Some(error) = self.0.error.get() {
+            self.0.error.set(None);
+            return Err(io::Error::from(error));
+        }
         self.0.arrive();
         if self.0.sent.get().is_empty() && !self.0.has_ended.get() {
             self.0.wait();
@@ -226,7 +262,9 @@ impl Write for Plug<'_> {
         if count == 0 {
             return Err(io::Error::from(ErrorKind::WouldBlock));
         }
-        self.0.got.set(self.0.got.get().saturating_add(count));
+        if let Ok(mut got) = self.0.got.try_borrow_mut() {
+            got.extend_from_slice(&buf[..count])?;
+        }
         self.0.takes.set(self.0.takes.get().saturating_sub(count));
         Ok(count)
     }

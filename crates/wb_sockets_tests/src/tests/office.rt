@@ -1,9 +1,10 @@
 //! Connections of the office over turns.
 use self::Step::{Answer, Turn, WithoutRequest};
-use super::clients::Client::{Ends, Got, IsClosed, Sends, SendsMany, Takes};
+use super::clients::Client::{Ends, Fails, Got, IsClosed, Sends, SendsMany, SendsPieces, Takes};
 use super::clients::{Client, plays};
 use super::memory::{Bench, Door, Wire, after};
 use std::alloc::Global;
+use std::io::ErrorKind::{ConnectionReset, Interrupted};
 use std::process::Abort;
 use std::test::Fail;
 use std::time::Instant;
@@ -32,7 +33,7 @@ static IN_PIECES: [Step; 11] = [
     Step::Client(0, Sends(b"cation HTTP/1.1\r\n\r\n")),
     Turn(1, 28, 1),
     Answer(1),
-    Step::Client(0, Got(27, true)),
+    Step::Client(0, Got(ANSWER, true)),
     // it is read to its end
     Turn(5, 0, 1),
     Step::Client(0, Sends(b"more")),
@@ -111,11 +112,40 @@ static REST: [Step; 16] = [
     Turn(29, 0, 2),
     // the other one took nothing for thirty seconds
     Turn(30, 0, 1),
-    Step::Client(0, Got(14, false)),
-    Step::Client(1, Got(4, false)),
+    Step::Client(0, Got(b"HTTP/1.1 200 O", false)),
+    Step::Client(1, Got(b"HTTP", false)),
     Step::Client(0, Takes(100)),
     Turn(58, 0, 1),
-    Step::Client(0, Got(27, true)),
+    Step::Client(0, Got(ANSWER, true)),
+];
+
+/// One that goes on sending after its response, and one whose connection breaks in the middle of its request.
+static STAYS: [Step; 16] = [
+    Step::Client(0, Sends(b"GET /indication HTTP/1.1\r\n\r\n")),
+    Step::Client(0, Fails(Interrupted)),
+    Turn(0, 0, 2),
+    Turn(0, 28, 2),
+    Answer(0),
+    Step::Client(0, Sends(b"x")),
+    Turn(3, 0, 2),
+    Step::Client(0, Sends(b"x")),
+    Turn(4, 0, 2),
+    Step::Client(1, Sends(b"GET /")),
+    Turn(4, 0, 2),
+    Step::Client(1, Fails(ConnectionReset)),
+    Step::Client(0, Sends(b"x")),
+    // as it stands; the first one is closed five seconds after its response
+    Turn(5, 5, 1),
+    Step::Client(0, Got(ANSWER, true)),
+    Step::Client(0, IsClosed),
+];
+
+/// A request whose end is the fifth piece: four are read in a turn.
+static PIECES: [Step; 4] = [
+    Step::Client(0, SendsPieces(b"GET /|indica|tion HT|TP/1.1\r\n|\r\n")),
+    Turn(0, 0, 1),
+    Turn(0, 28, 1),
+    Answer(0),
 ];
 
 /// An office, and what its turns take.
@@ -214,6 +244,16 @@ fn closes_sixteen_silent_ones_for_the_next(rt: HostRuntime) -> Result<(), Fail> 
 #[test]
 fn judges_as_it_stands_what_comes_too_slowly(rt: HostRuntime) -> Result<(), Fail> {
     play(&rt, 2, &SLOW)
+}
+
+#[test]
+fn closes_one_that_stays_and_one_that_is_broken(rt: HostRuntime) -> Result<(), Fail> {
+    play(&rt, 2, &STAYS)
+}
+
+#[test]
+fn reads_four_times_a_turn(rt: HostRuntime) -> Result<(), Fail> {
+    play(&rt, 1, &PIECES)
 }
 
 #[test]

@@ -1,6 +1,6 @@
-//! Sources over connections in memory: what comes first after a long exchange, the end, and what is told.
-use self::Step::{Finish, Told, Turn};
-use super::clients::Client::{Ends, Got, Sends, Takes};
+//! Sources over connections in memory: what comes first after a long exchange or a stop, the end, and what is told.
+use self::Step::{Finish, Loses, Moment, Passes, Reply, Stopped, Told, Turn};
+use super::clients::Client::{Ends, Got, IsClosed, Sends, Takes};
 use super::clients::{Client, plays};
 use super::memory::{Bench, Door, Plug, Wire};
 use std::process::Abort;
@@ -10,6 +10,7 @@ use wb_connections::{Converter, Source};
 use wb_sockets::Sockets;
 use wb_sources::{Converter as Said, REQUEST_ROOM, Sources, TERMINAL_ROOM};
 use wb_window::Reading;
+use wb_window::Reading::{Load, Lost};
 
 const ASKED: &[u8] = b"GET /check HTTP/1.1\r\n\r\n";
 
@@ -29,8 +30,20 @@ office 127.0.0.1:0: closed, the service ends
 enum Step {
     /// What one of the clients does or finds.
     Client(usize, Client),
-    /// A turn that reads this load, and hands a request out or not, which is answered after so many milliseconds.
-    Turn(i32, bool, u64),
+    /// A turn with this reading, in which the terminal gives so many bytes, and a request is handed out or not, which is answered
+    /// after so many milliseconds.
+    Turn(Reading, usize, bool, u64),
+    /// A turn with this reading, in which the process stands still for so many milliseconds before the terminal and the office are
+    /// asked. Meanwhile the terminal sends `SI`, and a client of the office a request. Neither is handed out.
+    Stopped(Reading, u64),
+    /// So many milliseconds pass.
+    Passes(u64),
+    /// The calendar reads a time before 1970.
+    Loses,
+    /// The moment is of so many seconds, or none.
+    Moment(Option<u64>),
+    /// Replies for the terminal.
+    Reply(&'static [u8]),
     /// The service ends.
     Finish,
     /// Standard error was told just this.
@@ -47,22 +60,76 @@ struct Course {
     steps: &'static [Step],
 }
 
-static LONG_EXCHANGE: Course = Course {
-    times: &[0, 250, 350, 450],
-    script: b"1\n2\n3\n|4\n5\n|6\n|7\n",
+/// An exchange of less than a second, and then one of more than two.
+static LONG_EXCHANGES: Course = Course {
+    times: &[0, 250, 350, 450, 2_900, 3_000, 3_100],
+    script: b"1\n2\n3\n|4\n5\n|6\n|7\n|8\n|9\n|10\n",
     clients: 3,
     is_verbose: false,
     steps: &[
         Step::Client(0, Sends(ASKED)),
         Step::Client(1, Sends(ASKED)),
         Step::Client(2, Sends(ASKED)),
-        Turn(1, true, 100),
-        Turn(2, true, 201),
-        Turn(3, false, 0),
-        Turn(4, false, 0),
-        Turn(5, false, 0),
-        Turn(6, true, 0),
+        Step::Client(3, Sends(b"SI\r\n")),
+        // lines wait behind it
+        Turn(Load(1), 0, false, 0),
+        Turn(Load(2), 0, false, 0),
+        Step::Client(0, Takes(10)),
+        Turn(Load(3), 4, true, 401),
+        Step::Client(0, Takes(100)),
+        Turn(Load(4), 0, false, 0),
+        // a response goes on while lines wait
+        Step::Client(0, Got(ANSWER, true)),
+        Turn(Load(5), 0, false, 0),
+        Step::Client(3, Sends(b"S\r\n")),
+        Turn(Load(6), 3, true, 2_500),
+        Step::Client(3, Sends(b"SI\r\n")),
+        // the lines that came in the meantime are old
+        Turn(Lost, 0, false, 0),
+        Turn(Lost, 4, true, 0),
+        Turn(Load(9), 0, false, 0),
         Told(""),
+    ],
+};
+
+/// The process stands still for a while before the terminal and the office are asked, and they have asked meanwhile.
+static STANDS_STILL: Course = Course {
+    times: &[0, 100, 200, 5_150],
+    script: b"1\n|2\n|3\n|4\n",
+    clients: 1,
+    is_verbose: false,
+    steps: &[
+        Turn(Load(1), 0, false, 0),
+        Stopped(Load(2), 5_000),
+        Turn(Lost, 0, false, 0),
+        Turn(Lost, 0, false, 0),
+        Turn(Lost, 0, false, 0),
+        Turn(Lost, 0, false, 0),
+        Turn(Lost, 4, true, 0),
+        Turn(Load(4), 0, false, 0),
+    ],
+};
+
+/// The calendar's moment; and replies that wait for the terminal at the end, whose socket takes some of them then.
+static ENDS: Course = Course {
+    times: &[0],
+    script: b"1\n",
+    clients: 1,
+    is_verbose: false,
+    steps: &[
+        Passes(1_741_593_600_999),
+        Moment(Some(1_741_593_600)),
+        Loses,
+        Moment(None),
+        Turn(Lost, 0, false, 0),
+        Step::Client(1, Takes(3)),
+        Reply(b"ES\r\nES\r\n"),
+        Step::Client(1, Got(b"ES\r", false)),
+        Step::Client(1, Takes(100)),
+        Step::Client(1, Ends),
+        Finish,
+        Step::Client(1, Got(b"ES\r\nES\r\n", true)),
+        Step::Client(1, IsClosed),
     ],
 };
 
@@ -74,13 +141,13 @@ static ALL_IS_TOLD: Course = Course {
     steps: &[
         Step::Client(0, Sends(ASKED)),
         Step::Client(0, Takes(10)),
-        Turn(1, true, 7),
+        Turn(Load(1), 0, true, 7),
         Step::Client(0, Takes(100)),
         Step::Client(1, Sends(b"GET")),
         Step::Client(2, Ends),
-        Turn(2, false, 0),
+        Turn(Load(2), 0, false, 0),
         Finish,
-        Step::Client(0, Got(27, true)),
+        Step::Client(0, Got(ANSWER, true)),
         Told(TOLD),
     ],
 };
@@ -114,26 +181,46 @@ impl<'a> Desk<'a> {
     fn plays(&mut self, step: &Step) -> bool {
         match step {
             Step::Client(at, client) => return plays(self.wires, *at, client),
-            Turn(load, is_asked, took) => {
-                let said = Said::Line(Reading::Load(*load));
-                return self.turn(*took) == (said, *is_asked);
+            Turn(reading, count, is_asked, took) => {
+                return self.turn(*took) == (Said::Line(*reading), *count, *is_asked);
             }
+            Stopped(reading, millis) => return self.stops(*reading, *millis),
+            Passes(millis) => self.bench.pass(*millis),
+            Loses => self.bench.lose_calendar(),
+            Moment(seconds) => return self.sockets.moment().map(|it| it.seconds()) == *seconds,
+            Reply(bytes) => self.sockets.reply(bytes),
             Finish => self.sockets.finish(),
             Told(text) => return self.bench.was_told(text),
         }
         true
     }
 
-    /// A turn: what the converter says, and whether a request was handed out, which is answered after so many milliseconds.
-    fn turn(&mut self, took: u64) -> (Said, bool) {
+    /// A turn: what the converter says, how many bytes the terminal gives, and whether a request was handed out, which is answered after
+    /// so many milliseconds.
+    fn turn(&mut self, took: u64) -> (Said, usize, bool) {
         let said = self.sockets.converter();
-        self.sockets.terminal(&mut [0u8; TERMINAL_ROOM]);
-        let is_asked = self.sockets.office(&mut [0u8; REQUEST_ROOM]).is_some();
+        let (count, is_asked) = self.ask();
         if is_asked {
             self.bench.pass(took);
             self.sockets.respond(ANSWER);
         }
-        (said, is_asked)
+        (said, count, is_asked)
+    }
+
+    /// How many bytes the terminal gives, and whether a request is handed out.
+    fn ask(&mut self) -> (usize, bool) {
+        let taken = self.sockets.terminal(&mut [0u8; TERMINAL_ROOM]);
+        let request = self.sockets.office(&mut [0u8; REQUEST_ROOM]);
+        (taken.count, request.is_some())
+    }
+
+    /// A turn in which the process stands still for so many milliseconds.
+    fn stops(&mut self, reading: Reading, millis: u64) -> bool {
+        let said = self.sockets.converter();
+        plays(self.wires, 0, &Sends(ASKED));
+        plays(self.wires, 1, &Sends(b"SI\r\n"));
+        self.bench.pass(millis);
+        said == Said::Line(reading) && self.ask() == (0, false)
     }
 }
 
@@ -141,7 +228,12 @@ impl<'a> Desk<'a> {
 fn play(rt: &(impl AllocGlobal + Abort), course: &Course) -> Result<(), Fail> {
     let bench = Bench::new(rt.alloc());
     let converter = Wire::playing(&bench, course.times, course.script);
-    let wires = [Wire::new(&bench), Wire::new(&bench), Wire::new(&bench)];
+    let wires = [
+        Wire::new(&bench),
+        Wire::new(&bench),
+        Wire::new(&bench),
+        Wire::new(&bench),
+    ];
     let mut desk = Desk::new(&bench, &converter, &wires, course)?;
     take_steps(rt, &mut desk, course.steps);
     Ok(())
@@ -155,7 +247,17 @@ fn take_steps(rt: &impl Abort, desk: &mut Desk<'_>, steps: &[Step]) {
 
 #[test]
 fn reads_what_came_meanwhile_after_a_long_exchange(rt: HostRuntime) -> Result<(), Fail> {
-    play(&rt, &LONG_EXCHANGE)
+    play(&rt, &LONG_EXCHANGES)
+}
+
+#[test]
+fn hands_out_nothing_over_an_old_reading(rt: HostRuntime) -> Result<(), Fail> {
+    play(&rt, &STANDS_STILL)
+}
+
+#[test]
+fn tells_the_moment_and_sends_what_waits_at_the_end(rt: HostRuntime) -> Result<(), Fail> {
+    play(&rt, &ENDS)
 }
 
 #[test]

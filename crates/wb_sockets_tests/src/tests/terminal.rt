@@ -1,9 +1,10 @@
 //! The terminal's connection over turns.
 use self::Step::{HangsUp, Replies, Reply, Turn};
-use super::clients::Client::{Ends, Got, IsClosed, IsOpen, Sends, SendsMany, Takes};
+use super::clients::Client::{Ends, Fails, Got, IsClosed, IsOpen, Sends, SendsMany, Takes};
 use super::clients::{Client, plays};
 use super::memory::{Bench, Door, Wire, after};
 use std::alloc::Global;
+use std::io::ErrorKind::{ConnectionReset, Interrupted};
 use std::process::Abort;
 use std::test::Fail;
 use std::time::Instant;
@@ -31,7 +32,7 @@ static ALL_BYTES: [Step; 12] = [
     Turn(0, 256),
     Turn(1, 44),
     Reply(1, b"ES\r\n"),
-    Step::Client(0, Got(4, false)),
+    Step::Client(0, Got(b"ES\r\n", false)),
     HangsUp(2),
     Step::Client(0, IsClosed),
     Reply(2, b"ES\r\n"),
@@ -39,7 +40,7 @@ static ALL_BYTES: [Step; 12] = [
     // the next one is accepted in a later turn
     Turn(3, 4),
     // it gets no reply of the one before
-    Step::Client(1, Got(0, false)),
+    Step::Client(1, Got(b"", false)),
 ];
 
 static DEAF: [Step; 10] = [
@@ -49,7 +50,7 @@ static DEAF: [Step; 10] = [
     Reply(10, b"ES\r\n"),
     Reply(14, b"ES\r\n"),
     Turn(14, 0),
-    Step::Client(0, Got(5, false)),
+    Step::Client(0, Got(b"ES\r\nE", false)),
     Step::Client(0, Sends(b"SI")),
     HangsUp(15),
     Step::Client(0, IsClosed),
@@ -66,6 +67,34 @@ static TOO_MANY: [Step; 9] = [
     Step::Client(0, IsClosed),
     HangsUp(2),
     Turn(2, 0),
+];
+
+/// One that sends no more, and reads its replies slowly; and another that reads none.
+static LEAVING: [Step; 15] = [
+    Step::Client(0, Takes(3)),
+    Step::Client(0, Sends(b"x\r\nx\r\n")),
+    Step::Client(0, Ends),
+    Turn(0, 6),
+    Reply(0, b"ES\r\nES\r\n"),
+    Turn(1, 0),
+    Step::Client(0, Takes(100)),
+    HangsUp(2),
+    Step::Client(0, Got(b"ES\r\nES\r\n", false)),
+    Step::Client(1, Takes(0)),
+    Turn(2, 0),
+    Reply(3, b"ES\r\n"),
+    Step::Client(1, Ends),
+    Turn(7, 0),
+    HangsUp(8),
+];
+
+static BROKEN: [Step; 6] = [
+    Step::Client(0, Sends(b"SI\r\n")),
+    Step::Client(0, Fails(Interrupted)),
+    Turn(0, 0),
+    Turn(0, 4),
+    Step::Client(0, Fails(ConnectionReset)),
+    HangsUp(1),
 ];
 
 /// A terminal, and what its turns take.
@@ -103,7 +132,8 @@ impl<'a> Desk<'a> {
     fn turn(&mut self, seconds: u64) -> (usize, bool) {
         let mut room = [0u8; TERMINAL_ROOM];
         let now = after(self.start, seconds);
-        let Taken { count, hung_up } = self.terminal.take(now, &self.report, &mut room);
+        self.terminal.step(now, &self.report);
+        let Taken { count, hung_up } = self.terminal.take(&mut room);
         (count, hung_up)
     }
 
@@ -151,6 +181,16 @@ fn take_steps(rt: &impl Abort, desk: &mut Desk<'_>, steps: &[Step]) {
 #[test]
 fn hands_in_all_bytes_before_the_hang_up(rt: HostRuntime) -> Result<(), Fail> {
     play(&rt, 2, &ALL_BYTES)
+}
+
+#[test]
+fn sends_the_replies_that_wait_to_one_that_sends_no_more(rt: HostRuntime) -> Result<(), Fail> {
+    play(&rt, 2, &LEAVING)
+}
+
+#[test]
+fn hangs_up_one_that_is_broken(rt: HostRuntime) -> Result<(), Fail> {
+    play(&rt, 1, &BROKEN)
 }
 
 #[test]
