@@ -62,13 +62,14 @@ impl Ends {
         Ok(())
     }
 
+    /// It is asked once no line waits, so its answer is of the tenth reading.
     fn client_is_answered(&mut self, rt: &impl Abort) -> Result<(), Fail> {
         let mut room = [0u8; 512];
         let count = self.client.read(&mut room)?;
         let answer = room.get(..count).unwrap_or(&[]);
         let is_answered = answer.starts_with(b"HTTP/1.1 200 OK\r\nDate: ")
             && answer.ends_with(
-                b"\r\nConnection: close\r\n\r\nMOVING G      18340 kg N      18340 kg\n",
+                b"\r\nConnection: close\r\n\r\nSTABLE G      18340 kg N      18340 kg\n",
             );
         assert!(rt; is_answered, "{answer:?}");
         Ok(())
