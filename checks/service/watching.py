@@ -1,0 +1,45 @@
+"""A terminal that asks for the weight again and again, and sees how old the reading behind each reply is."""
+
+import threading
+import time
+
+import bridge
+
+# How old a reading may be whose reply comes in: a second, and what a reply takes on a busy machine.
+OLD = 1.25
+
+# The loads, in intervals, after which they begin from the start.
+ROUND = 2_900
+
+
+def load(number):
+    """The tenths of line `number`: one interval more a line, so that each reply tells which line it was made of."""
+    return 10 * (number % ROUND)
+
+
+class Watch(threading.Thread):
+    """Asks `SI` again and again, and keeps how long each reply took, how old its reading was, and how many there were of each kind."""
+
+    def __init__(self, service, pause=0.03):
+        super().__init__(daemon=True)
+        self.service, self.pause = service, pause
+        self.took, self.aged, self.kinds = [], [], {}
+        self.over = threading.Event()
+
+    def run(self):
+        terminal = bridge.Terminal(self.service, 60)
+        sent = self.service.converter.sent
+        while not self.over.is_set():
+            asked = time.monotonic()
+            reply = terminal.ask("SI")
+            now = time.monotonic()
+            self.took.append(now - asked)
+            self.kinds[reply[:3]] = self.kinds.get(reply[:3], 0) + 1
+            if reply.startswith("S D"):
+                shown = int(reply[4:14]) // 20
+                count = len(sent)
+                # the newest line that shows this
+                number = count - 1 - ((count - 1 - shown) % ROUND)
+                self.aged.append(now - sent[number])
+            time.sleep(self.pause)
+        terminal.close()
