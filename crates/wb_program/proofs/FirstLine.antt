@@ -8,13 +8,13 @@ use Rattle.std.proofs.lemmas.Bool.Decides.{nat_tests}
 use Rattle.std.proofs.lemmas.List.Elements.{All-weaker}
 use Rattle.std.proofs.lemmas.List.Sums.{AllPass-from_list_all}
 
-abbrev line_feed : ℕ → Bool
+abbrev pub line_feed : ℕ → Bool
 line_feed b = b == 10
 
 abbrev split : List ℕ → List (List ℕ)
 split bs = slice_split line_feed bs
 
-some_parts : (x : List ℕ) (bs : List ℕ) → lines_of_parts (x ∷ split bs) ≡ strip_carriage_return x ∷ lines bs
+pub some_parts : (x : List ℕ) (bs : List ℕ) → lines_of_parts (x ∷ split bs) ≡ strip_carriage_return x ∷ lines bs
 some_parts x [] = refl
 some_parts x (b ∷ bs) = go (line_feed b) (split bs)
   where

@@ -1,8 +1,11 @@
 mod FirstLine
+mod HeadLines
 mod LineKinds
+mod OneLine
 mod PerformedHappenings
 mod ReplayedLines
 mod SourceAnswers
+pub mod Theorems
 mod TraceEnds
 mod Turns
 mod TypedTexts

@@ -1,10 +1,9 @@
 -- Events handled, one after the other, and turns of them.
-use Rattle.std.proofs.Common.{◌≡◌, ℕ, ◌+◌, ◌<◌, Bool, false, List, [], ◌∷◌, ◌++◌, get_or, length, map, take, Option, None, Some, inl, inr, refl, sym, ap, subst, ◌∙◌, arith}
-use Rattle.std.specs.Prelude.{⊤, Ok, Err, reverse}
+use Rattle.std.proofs.Common.{◌≡◌, ℕ, ◌+◌, ◌<◌, Bool, false, List, [], ◌∷◌, ◌++◌, length, map, Option, inl, inr, refl, sym, ap, subst, ◌∙◌, arith}
+use Rattle.std.specs.Prelude.{⊤, Ok, Err}
 use Rattle.std.specs.declared.result.Result.{Result}
 use Rattle.std.proofs.lemmas.List.{append-nil, map-append}
 use Rattle.sqlite.specs.Store.{Ghosts}
-use Rattle.wb_program.specs.declared.serving.ServeEnd.{ServeEnd}
 use Rattle.wb_program.specs.declared.serving.ServeEnd.TheVariants as end
 use Rattle.wb_program.specs.declared.serving.Stop.{Stop}
 use Rattle.wb_program.specs.declared.serving.Stop.TheVariants as stop

@@ -1,10 +1,12 @@
 -- The printed form of what is put out.
-use Rattle.std.specs.Prelude.{ℕ, Bool, true, false, List, [], ◌∷◌, ◌++◌, codes}
+use Rattle.std.specs.Prelude.{◌≡◌, ℕ, Bool, true, false, List, [], ◌∷◌, ◌++◌, codes, decimal}
 use Rattle.std.specs.List.{after_first}
 use Rattle.std.specs.Str.Lines.{lines}
 use Rattle.wb_program.specs.Words.{after_word, first_word}
 use Rattle.wb_sics.specs.declared.reply.Reply.{Reply}
 use Rattle.wb_sics.specs.ReplyText.{reply_text}
+use Rattle.wb_station.specs.declared.outcome.Outcome.{Outcome}
+use Rattle.wb_station.specs.Response.{IsResponse, told}
 use Rattle.wb_station.specs.Account.{Out, nothing, replied, responded}
 
 -- `t `, the reply without its CR LF, and a line feed
@@ -38,6 +40,11 @@ printed_lines (line ∷ more) = printed_line line ++ printed_lines more
 -- `o `, the status and a line feed, then the lines of the body
 abbrev pub printed_response : List ℕ → List ℕ
 printed_response response = codes "o " ++ status_of response ++ codes "\n" ++ printed_lines (body_lines response)
+
+-- of a response, its own status and the lines of its own body
+abbrev pub PrintsTold : Type 0
+PrintsTold = (moment : ℕ) (outcome : Outcome) (response : List ℕ) → IsResponse moment outcome response
+    → printed_response response ≡ codes "o " ++ decimal (told outcome).status ++ codes "\n" ++ printed_lines (lines (told outcome).body)
 
 abbrev pub printed_out : Out → List ℕ
 printed_out (replied rs) = printed_replies rs
