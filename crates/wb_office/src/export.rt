@@ -9,6 +9,11 @@ use itoa::Buffer;
 use std::alloc::{AllocError, Global};
 use std::marker::Model;
 
+/// The bytes of a record of the journal, and its fields; those of a ticket are fewer.
+const RECORD: usize = 192;
+
+const FIELDS: usize = 11;
+
 /// The fields of a record, seen as their bytes.
 #[derive(Drop)]
 pub(crate) struct Fields {
@@ -28,12 +33,12 @@ impl Model for Fields {
 
 impl Fields {
     /// No field.
-    pub(crate) fn new(alloc: Global) -> Self
-        ensures { result ≡ [] }
+    pub(crate) fn new(alloc: Global) -> Result<Self, AllocError>
+        ensures { IfOk result (λ fields. fields ≡ []) }
     {
-        Fields {
-            record: ByteRecord::new(alloc),
-        }
+        Ok(Fields {
+            record: ByteRecord::with_capacity(alloc, RECORD, FIELDS)?,
+        })
     }
 
     /// With a text as one field more.
@@ -77,10 +82,10 @@ impl Fields {
     }
 }
 
-/// Records one after the other, seen as their text.
+/// Records one after the other, seen as their text. The writer has a room of 8 kB, so it is handed on by its place.
 #[derive(Drop)]
 pub(crate) struct Export {
-    writer: Writer<Vec<u8>>,
+    writer: Box<Writer<Vec<u8>>>,
 }
 
 impl Model for Export {
@@ -89,19 +94,19 @@ impl Model for Export {
 
     ghost Value = { List ℕ };
 
-    ghost view = { λ e. (writer_under e.writer).items ++ writer_pending e.writer };
+    ghost view = { λ e. (writer_under e.writer.value).items ++ writer_pending e.writer.value };
 
-    ghost invariant = { λ e. (writer_setup e.writer ≡ default_writer) × (fields_written e.writer ≡ 0) × (has_written e.writer ≡ false) };
+    ghost invariant = { λ e. (writer_setup e.writer.value ≡ default_writer) × (fields_written e.writer.value ≡ 0) × (has_written e.writer.value ≡ false) };
 }
 
 impl Export {
     /// No record.
-    pub(crate) fn new(alloc: Global) -> Self
-        ensures { result ≡ [] }
+    pub(crate) fn new(alloc: Global) -> Result<Self, AllocError>
+        ensures { IfOk result (λ export. export ≡ []) }
     {
-        Export {
-            writer: Writer::from_writer(Vec::new(alloc)),
-        }
+        Ok(Export {
+            writer: Box::new(alloc, Writer::from_writer(Vec::new(alloc)))?,
+        })
     }
 
     /// With one record more.
@@ -121,7 +126,7 @@ impl Export {
         ensures { IfOk result (λ text. text ≡ self) }
     {
         let Export { writer } = self;
-        match writer.into_inner() {
+        match Box::into_inner(writer).into_inner() {
             Ok(bytes) => Ok(CsvText::new(bytes)),
             Err(_) => Err(AllocError),
         }

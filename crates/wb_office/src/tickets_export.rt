@@ -14,7 +14,7 @@ use wb_journal::{Entry, Kind, net, partner_at, text_of_moment};
 pub fn tickets_text(alloc: Global, entries: &[Entry]) -> Result<CsvText, AllocError>
     ensures { IsRising entries.now → IfOk result (λ text. text ≡ tickets_csv entries.now) }
 {
-    let mut export = Export::new(alloc).with(&columns(alloc)?)?;
+    let mut export = Export::new(alloc)?.with(&columns(alloc)?)?;
     for (place, entry) in entries.iter().enumerate() {
         let fields = fields_of(alloc, entry, partner_at(entries, place))?;
         export = with_ticket(export, fields)?;
@@ -35,7 +35,7 @@ fn with_ticket(export: Export, fields: Option<Fields>) -> Result<Export, AllocEr
 fn columns(alloc: Global) -> Result<Fields, AllocError>
     ensures { IfOk result (λ fields. fields ≡ ticket_columns) }
 {
-    Fields::new(alloc)
+    Fields::new(alloc)?
         .text("ticket")?
         .text("kind")?
         .text("plate")?
@@ -67,7 +67,7 @@ fn fields_of_pair(alloc: Global, entry: &Entry, partner: &Entry) -> Result<Field
     ensures { IfOk result (λ fields. fields ≡ pair_record entry.now partner.now) }
 {
     let at = text_of_moment(entry.moment())?;
-    let fields = Fields::new(alloc)
+    let fields = Fields::new(alloc)?
         .number(entry.number())?
         .text("pair")?
         .text(entry.plate().as_str())?
@@ -84,7 +84,7 @@ fn fields_of_single(alloc: Global, entry: &Entry) -> Result<Fields, AllocError>
     ensures { IfOk result (λ fields. fields ≡ preset_record entry.now) }
 {
     let at = text_of_moment(entry.moment())?;
-    let fields = Fields::new(alloc)
+    let fields = Fields::new(alloc)?
         .number(entry.number())?
         .text("preset")?
         .text(entry.plate().as_str())?
