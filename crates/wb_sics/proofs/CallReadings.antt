@@ -8,7 +8,7 @@ use Rattle.wb_scale.specs.History.{moments}
 use Rattle.wb_scale.specs.Moment.{readings}
 use Rattle.wb_scale.proofs.offered.Readings.{readings-clear_tare, readings-preset, readings-read, readings-read_for_zero, readings-set_zero, readings-stored, readings-tare}
 use Rattle.wb_sics.specs.declared.command.Command.{Command}
-use Rattle.wb_sics.specs.declared.command.Command.TheVariants.{Weight, WeightNow, Zero, Tare, TareValue, PresetTare, BadTare, ClearTare, Cancel, Commands, SerialNumber, Unknown}
+use Rattle.wb_sics.specs.declared.command.Command.TheVariants.{Weight, WeightNow, Repeat, Zero, Tare, TareValue, PresetTare, BadTare, ClearTare, Cancel, Commands, SerialNumber, Unknown}
 use Rattle.wb_sics.specs.Calls.{asked, asked_at, calls}
 use Rattle.wb_sics.specs.Event.{Event, reading, byte, hang_up, stored, readings_of}
 use Rattle.wb_sics.specs.Lines.{line_command}
@@ -22,6 +22,7 @@ readings-asked_at i false false r k = readings-read i r k
 readings-asked : (i : Setup) (c : Command) (k : List Call) → readings (moments i (asked c ++ k)) ≡ readings (moments i k)
 readings-asked i Weight k = refl
 readings-asked i WeightNow k = refl
+readings-asked i Repeat k = refl
 readings-asked i Zero k = readings-set_zero i k
 readings-asked i Tare k = readings-tare i k
 readings-asked i TareValue k = refl

@@ -1,6 +1,6 @@
 -- A condition of waiting, one event later, whatever is awaited.
 use Rattle.std.proofs.Common.{◌≡◌, ℕ, ◌+◌, Bool, true, false, ◌&&◌, ◌||◌, List, [], ◌∷◌, refl, arith}
-use Rattle.std.specs.Prelude.{nat_lt, ◌==◌, not, option_and_then, Some}
+use Rattle.std.specs.Prelude.{nat_lt, ◌==◌, not, option_and_then}
 use Rattle.std.proofs.lemmas.Bool.Decides.{nat_tests}
 use Rattle.wb_window.specs.declared.reading.Reading.{Reading}
 use Rattle.wb_sics.specs.declared.waiting.Awaited.{Awaited}

@@ -1,21 +1,23 @@
 -- Stored weighings change no reply.
 use Rattle.std.proofs.Common.{◌≡◌, ℕ, ◌+◌, Bool, true, false, cond, List, [], ◌∷◌, ◌++◌, Option, Some, None, refl, sym, ◌∙◌, ap}
-use Rattle.std.specs.Prelude.{◌==◌, ◌||◌, is_some}
+use Rattle.std.specs.List.{filter_map}
+use Rattle.std.specs.Prelude.{◌==◌}
 use Rattle.wb_instrument.specs.Setup.{Setup}
 use Rattle.wb_window.specs.declared.reading.Reading.{Reading}
 use Rattle.wb_scale.specs.Call.{Call, read}
 use Rattle.wb_scale.specs.History.{moments}
 use Rattle.wb_scale.specs.Unmarked.{AllSameUnmarked, SameUnmarked, unmarked}
 use Rattle.wb_sics.specs.declared.command.Command.{Command}
-use Rattle.wb_sics.specs.declared.command.Command.TheVariants.{Weight, WeightNow, Zero, Tare, TareValue, PresetTare, BadTare, ClearTare, Cancel, Commands, SerialNumber, Unknown}
+use Rattle.wb_sics.specs.declared.command.Command.TheVariants.{Weight, WeightNow, Repeat, Zero, Tare, TareValue, PresetTare, BadTare, ClearTare, Cancel, Commands, SerialNumber, Unknown}
 use Rattle.wb_sics.specs.declared.waiting.Awaited.{Awaited}
 use Rattle.wb_sics.specs.declared.waiting.Awaited.TheVariants.{Weight as AwaitedWeight, Zero as AwaitedZero, Tare as AwaitedTare}
 use Rattle.wb_sics.specs.declared.waiting.Waiting.{Waiting}
 use Rattle.wb_sics.specs.Calls.{asked, asked_at, calls}
 use Rattle.wb_sics.specs.Event.{Event, reading, byte, hang_up, stored, readings_of}
 use Rattle.wb_sics.specs.Heard.{RepliesToHeard, heard}
-use Rattle.wb_sics.specs.Lines.{commanded, line_command, stream}
-use Rattle.wb_sics.specs.Replies.{decided, own_reply, replies, replies_read, reply_at, waiting_after, weight_at, weight_waits}
+use Rattle.wb_sics.specs.Lines.{commanded, commands, line_command, stream}
+use Rattle.wb_sics.specs.Repetition.{is_repeating, newest_or_off, turned_by}
+use Rattle.wb_sics.specs.Replies.{decided, moments_of, own_reply, repeated, replies, replies_read, reply_at, waiting_after, weight_at, weight_waits}
 use Rattle.wb_sics.specs.Waiting.{held_since, readings_since, stable_at, tare_waits, waits, zero_waits}
 
 -- ---- the words on events
@@ -37,6 +39,16 @@ commanded-heard (reading r ∷ h) = commanded-heard h
 commanded-heard (byte b ∷ h) = rw (line_command-heard h, commanded-heard h) refl
 commanded-heard (hang_up ∷ h) = refl
 commanded-heard (stored ∷ h) = commanded-heard h
+
+commands-heard : (h : List Event) → commands (heard h) ≡ commands h
+commands-heard [] = refl
+commands-heard (reading r ∷ h) = commands-heard h
+commands-heard (byte b ∷ h) = rw (line_command-heard h, commands-heard h) refl
+commands-heard (hang_up ∷ h) = refl
+commands-heard (stored ∷ h) = commands-heard h
+
+is_repeating-heard : (h : List Event) → is_repeating (heard h) ≡ is_repeating h
+is_repeating-heard h = ap (λ cs. newest_or_off (filter_map turned_by cs)) (commands-heard h)
 
 readings_since-heard : (h : List Event) → readings_since (heard h) ≡ readings_since h
 readings_since-heard [] = refl
@@ -78,6 +90,7 @@ tare_waits-heard s h = waits-heard AwaitedTare (stable_at s) s.wait (stable_at-h
 asked-unmarked : (c : Command) (k : List Call) → unmarked (asked c ++ k) ≡ asked c ++ unmarked k
 asked-unmarked Weight k = refl
 asked-unmarked WeightNow k = refl
+asked-unmarked Repeat k = refl
 asked-unmarked Zero k = refl
 asked-unmarked Tare k = refl
 asked-unmarked TareValue k = refl
@@ -117,6 +130,7 @@ weight_waits-heard same s h = waits-heard AwaitedWeight (weight_at s) s.wait (we
 own_reply-unmarked : (s : Setup) (k : List Call) (c : Command) → SameUnmarked s k → own_reply s (moments s (unmarked k)) c ≡ own_reply s (moments s k) c
 own_reply-unmarked s k Weight u = rw u.indicated refl
 own_reply-unmarked s k WeightNow u = rw u.indicated refl
+own_reply-unmarked s k Repeat u = refl
 own_reply-unmarked s k Zero u = rw u.readings refl
 own_reply-unmarked s k Tare u = rw u.tare refl
 own_reply-unmarked s k TareValue u = rw u.tare_now refl
@@ -140,10 +154,24 @@ replies_read-unmarked : (s : Setup) (k : List Call) (r : Reading) (w : Option Wa
 replies_read-unmarked s k r None u = refl
 replies_read-unmarked s k r (Some w) u = ap (λ d. reply_at d w) (decided-unmarked s (read r ∷ k) w.awaited u)
 
+repeated-unmarked : (s : Setup) (k : List Call) (on : Bool) → SameUnmarked s k → repeated s (moments s (unmarked k)) on ≡ repeated s (moments s k) on
+repeated-unmarked s k true u = rw u.indicated refl
+repeated-unmarked s k false u = refl
+
+repeated-heard : AllSameUnmarked → (s : Setup) (r : Reading) (h : List Event)
+    → repeated s (moments_of s (reading r ∷ heard h)) (is_repeating (heard h)) ≡ repeated s (moments_of s (reading r ∷ h)) (is_repeating h)
+repeated-heard same s r h =
+    let k = calls s (reading r ∷ h) in
+    ap (λ on. repeated s (moments_of s (reading r ∷ heard h)) on) (is_repeating-heard h) ∙ ap (λ c. repeated s (moments s c) (is_repeating h)) (calls-heard s (reading r ∷ h))
+    ∙ repeated-unmarked s k (is_repeating h) (same s k)
+
+waited-heard : AllSameUnmarked → (s : Setup) (r : Reading) (h : List Event)
+    → replies_read s (calls s (heard h)) r (waiting_after s (heard h)) ≡ replies_read s (calls s h) r (waiting_after s h)
+waited-heard same s r h = rw (waiting_after-heard same s h, calls-heard s h) (replies_read-unmarked s (calls s h) r (waiting_after s h) (same s (read r ∷ calls s h)))
+
 pub replies_to_heard : AllSameUnmarked → RepliesToHeard
 unfolding replies
-replies_to_heard same s (reading r) h =
-    rw (waiting_after-heard same s h, calls-heard s h) (replies_read-unmarked s (calls s h) r (waiting_after s h) (same s (read r ∷ calls s h)))
+replies_to_heard same s (reading r) h = rw (waited-heard same s r h) (ap (λ rs. replies_read s (calls s h) r (waiting_after s h) ++ rs) (repeated-heard same s r h))
 replies_to_heard same s (byte b) h =
     let own = own_reply-unmarked s (calls s h) (line_command h) (same s (calls s h)) in
     rw (waiting_after-heard same s h, line_command-heard h, calls-heard s h, own) refl

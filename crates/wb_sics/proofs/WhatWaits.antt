@@ -1,5 +1,5 @@
 -- The one command that waits, after a reading and from a line's end on.
-use Rattle.std.proofs.Common.{◌≡◌, ℕ, ◌+◌, ◌-◌, ◌≤◌, Bool, true, false, cond, ◌&&◌, List, [], ◌∷◌, ◌++◌, refl, sym, ◌∙◌, ap, arith, Option, Some, None}
+use Rattle.std.proofs.Common.{◌≡◌, ℕ, ◌+◌, ◌-◌, ◌≤◌, Bool, true, false, cond, ◌&&◌, List, ◌∷◌, ◌++◌, refl, sym, ◌∙◌, ap, arith, Option, Some, None}
 use Rattle.std.specs.Prelude.{◌==◌, nat_lt, not, is_some, option_and_then}
 use Rattle.std.proofs.lemmas.Bool.Decides.{nat_tests}
 use Rattle.wb_instrument.specs.Setup.{Setup}
@@ -7,7 +7,7 @@ use Rattle.wb_window.specs.declared.reading.Reading.{Reading}
 use Rattle.wb_scale.specs.Call.{Call, read}
 use Rattle.wb_scale.specs.History.{moments}
 use Rattle.wb_sics.specs.declared.command.Command.{Command}
-use Rattle.wb_sics.specs.declared.command.Command.TheVariants.{Weight, WeightNow, Zero, Tare, TareValue, PresetTare, BadTare, ClearTare, Cancel, Commands, SerialNumber, Unknown}
+use Rattle.wb_sics.specs.declared.command.Command.TheVariants.{Weight, WeightNow, Repeat, Zero, Tare, TareValue, PresetTare, BadTare, ClearTare, Cancel, Commands, SerialNumber, Unknown}
 use Rattle.wb_sics.specs.declared.reply.Reply.{Reply}
 use Rattle.wb_sics.specs.declared.waiting.Awaited.{Awaited}
 use Rattle.wb_sics.specs.declared.waiting.Awaited.TheVariants.{Weight as AwaitedWeight, Zero as AwaitedZero, Tare as AwaitedTare}
@@ -96,6 +96,7 @@ line-one : (i : Setup) (k : List Call) (c : Command) (z t : Bool) → 1 ≤ i.wa
     (may_be AwaitedZero (awaited_by c) && not z && nat_lt 0 i.wait) (may_be AwaitedTare (awaited_by c) && not t && nat_lt 0 i.wait) (i.wait - 0)
 line-one i k Weight z t l e f = from-one AwaitedWeight i _ _ l refl
 line-one i k WeightNow z t l e f = refl
+line-one i k Repeat z t l e f = refl
 line-one i k Zero z t l e f = from-one AwaitedZero i _ z l e
 line-one i k Tare z t l e f = from-one AwaitedTare i _ t l f
 line-one i k TareValue z t l e f = refl

@@ -4,7 +4,7 @@ use Rattle.wb_instrument.specs.Setup.{Setup}
 use Rattle.wb_window.specs.declared.reading.Reading.{Reading}
 use Rattle.wb_scale.specs.Call.{Call, read, read_for_zero, set_zero, tare, preset, clear_tare, stored as stored_call}
 use Rattle.wb_sics.specs.declared.command.Command.{Command}
-use Rattle.wb_sics.specs.declared.command.Command.TheVariants.{Weight, WeightNow, Zero, Tare, TareValue, PresetTare, BadTare, ClearTare, Cancel, Commands, SerialNumber, Unknown}
+use Rattle.wb_sics.specs.declared.command.Command.TheVariants.{Weight, WeightNow, Repeat, Zero, Tare, TareValue, PresetTare, BadTare, ClearTare, Cancel, Commands, SerialNumber, Unknown}
 use Rattle.wb_sics.specs.Event.{Event, reading, byte, hang_up, stored}
 use Rattle.wb_sics.specs.Lines.{line_command}
 use Rattle.wb_sics.specs.Waiting.{zero_waits, tare_waits}
@@ -13,6 +13,7 @@ use Rattle.wb_sics.specs.Waiting.{zero_waits, tare_waits}
 abbrev pub asked : Command → List Call
 asked Weight = []
 asked WeightNow = []
+asked Repeat = []
 asked Zero = set_zero ∷ []
 asked Tare = tare ∷ []
 asked TareValue = []

@@ -4,7 +4,7 @@ use Rattle.std.specs.Cmp.Lexicographic.{pointwise}
 use Rattle.std.specs.List.{position, before_first, after_first}
 use Rattle.wb_text.specs.Digits.{digits}
 use Rattle.wb_sics.specs.declared.command.Command.{Command}
-use Rattle.wb_sics.specs.declared.command.Command.TheVariants.{Weight, WeightNow, Zero, Tare, TareValue, PresetTare, BadTare, ClearTare, Cancel, Commands, SerialNumber, Unknown}
+use Rattle.wb_sics.specs.declared.command.Command.TheVariants.{Weight, WeightNow, Repeat, Zero, Tare, TareValue, PresetTare, BadTare, ClearTare, Cancel, Commands, SerialNumber, Unknown}
 
 abbrev pub is : List ℕ → List ℕ → Bool
 is text word = pointwise nat_eq text word
@@ -42,6 +42,7 @@ abbrev pub word_command : List ℕ → Command
 word_command text =
     if is text (codes "S") then Weight
     else if is text (codes "SI") then WeightNow
+    else if is text (codes "SIR") then Repeat
     else if is text (codes "Z") then Zero
     else if is text (codes "T") then Tare
     else if is text (codes "TA") then TareValue

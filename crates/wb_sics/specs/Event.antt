@@ -8,7 +8,7 @@ pub data Event : Type 0 where
   reading : Reading → Event
   -- a byte of the terminal's stream
   byte : ℕ → Event
-  -- the connection ends: the unfinished line and the command that waits are dropped without a reply; zero and tare stay
+  -- the connection ends: the unfinished line, the command that waits and the repetition are dropped without a reply; zero and tare stay
   hang_up : Event
   -- the office stored a weighing
   stored : Event

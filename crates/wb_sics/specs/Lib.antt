@@ -3,6 +3,7 @@ pub mod Event
 pub mod Lines
 pub mod Commands
 pub mod Waiting
+pub mod Repetition
 pub mod Calls
 pub mod Answers
 pub mod Replies

@@ -33,3 +33,11 @@ commanded (reading r ∷ h) = commanded h
 commanded (byte b ∷ h) = if b == 10 then Some (line_command h) else commanded h
 commanded (hang_up ∷ h) = None
 commanded (stored ∷ h) = commanded h
+
+-- the commands of the lines since the last hang-up, the newest first
+abbrev pub commands : List Event → List Command
+commands [] = []
+commands (reading r ∷ h) = commands h
+commands (byte b ∷ h) = if b == 10 then line_command h ∷ commands h else commands h
+commands (hang_up ∷ h) = []
+commands (stored ∷ h) = commands h

@@ -9,8 +9,8 @@ use Rattle.wb_scale.specs.Moment.{Moment, readings}
 use Rattle.wb_scale.specs.Tare.{preset_answer, tare_answer, tare_kg, tare_now}
 use Rattle.wb_scale.specs.Zero.{zero_answer}
 use Rattle.wb_sics.specs.declared.command.Command.{Command}
-use Rattle.wb_sics.specs.declared.command.Command.TheVariants.{Weight, WeightNow, Zero, Tare, TareValue, PresetTare, BadTare, ClearTare, Cancel, Commands, SerialNumber, Unknown}
-use Rattle.wb_sics.specs.declared.reply.CommandName.TheVariants.{Cancel as CancelName, Commands as CommandsName, SerialNumber as SerialNumberName, Weight as WeightName, WeightNow as WeightNowName, Zero as ZeroName, Tare as TareName, TareValue as TareValueName, ClearTare as ClearTareName}
+use Rattle.wb_sics.specs.declared.command.Command.TheVariants.{Weight, WeightNow, Repeat, Zero, Tare, TareValue, PresetTare, BadTare, ClearTare, Cancel, Commands, SerialNumber, Unknown}
+use Rattle.wb_sics.specs.declared.reply.CommandName.TheVariants.{Cancel as CancelName, Commands as CommandsName, SerialNumber as SerialNumberName, Weight as WeightName, WeightNow as WeightNowName, Repeat as RepeatName, Zero as ZeroName, Tare as TareName, TareValue as TareValueName, ClearTare as ClearTareName}
 use Rattle.wb_sics.specs.declared.reply.Reply.{Reply}
 use Rattle.wb_sics.specs.declared.reply.Reply.TheVariants.{PresetBad, TareCleared, TareValue as TareReply, SerialNumber as SerialReply, Listed, Error}
 use Rattle.wb_sics.specs.declared.waiting.Awaited.{Awaited}
@@ -20,6 +20,7 @@ use Rattle.wb_sics.specs.Answers.{weight_now, weight_reply, zero_reply, tare_rep
 use Rattle.wb_sics.specs.Calls.{calls}
 use Rattle.wb_sics.specs.Event.{Event, reading, byte, hang_up, stored}
 use Rattle.wb_sics.specs.Lines.{line_command}
+use Rattle.wb_sics.specs.Repetition.{is_repeating}
 use Rattle.wb_sics.specs.Waiting.{waits, zero_waits, tare_waits, readings_since}
 
 -- what came of the scale's calls
@@ -55,13 +56,14 @@ waiting_after s h = one_of (weight_waits s h) (zero_waits s h) (tare_waits s h) 
 -- the commands, in their order
 abbrev pub listed : List Reply
 listed =
-    Listed CancelName ∷ Listed CommandsName ∷ Listed SerialNumberName ∷ Listed WeightName ∷ Listed WeightNowName ∷ Listed ZeroName ∷ Listed TareName
-    ∷ Listed TareValueName ∷ Listed ClearTareName ∷ []
+    Listed CancelName ∷ Listed CommandsName ∷ Listed SerialNumberName ∷ Listed WeightName ∷ Listed WeightNowName ∷ Listed RepeatName ∷ Listed ZeroName
+    ∷ Listed TareName ∷ Listed TareValueName ∷ Listed ClearTareName ∷ []
 
--- a command's own reply at its LF, after these moments of the scale; none where it waits
+-- a command's own reply at its LF, after these moments of the scale; none where it waits, and none to `SIR`
 abbrev pub own_reply : Setup → List Moment → Command → List Reply
 own_reply s ms Weight = option_to_list (decided s ms AwaitedWeight)
 own_reply s ms WeightNow = weight_now s (indicated s ms) ∷ []
+own_reply s ms Repeat = []
 own_reply s ms Zero = option_to_list (decided s ms AwaitedZero)
 own_reply s ms Tare = option_to_list (decided s ms AwaitedTare)
 own_reply s ms TareValue = TareReply (tare_kg s (tare_now ms)) ∷ []
@@ -76,6 +78,7 @@ own_reply s ms Unknown = Error ∷ []
 abbrev pub is_cancel : Command → Bool
 is_cancel Weight = false
 is_cancel WeightNow = false
+is_cancel Repeat = false
 is_cancel Zero = false
 is_cancel Tare = false
 is_cancel TareValue = false
@@ -97,15 +100,20 @@ abbrev pub reply_at : Option Reply → Waiting → List Reply
 reply_at (Some reply) w = reply ∷ []
 reply_at None w = if nat_lt 1 w.left then [] else (refusal w.awaited ∷ [])
 
--- the replies at a reading, after these calls of the scale and with this waiting
+-- the replies to what waits at a reading, after these calls of the scale
 abbrev pub replies_read : Setup → List Call → Reading → Option Waiting → List Reply
 replies_read s k r None = []
 replies_read s k r (Some w) = reply_at (decided s (moments s (read r ∷ k)) w.awaited) w
 
--- the replies at the newest event; a hang-up has none, whatever waits
+-- the reply to `SI` once more, after these moments of the scale, if the value is repeated
+abbrev pub repeated : Setup → List Moment → Bool → List Reply
+repeated s ms true = weight_now s (indicated s ms) ∷ []
+repeated s ms false = []
+
+-- the replies at the newest event: at a reading that to what waited, and then the repeated value; a hang-up has none, whatever waits
 unfoldable pub replies : Setup → List Event → List Reply
 replies s [] = []
-replies s (reading r ∷ h) = replies_read s (calls s h) r (waiting_after s h)
+replies s (reading r ∷ h) = replies_read s (calls s h) r (waiting_after s h) ++ repeated s (moments_of s (reading r ∷ h)) (is_repeating h)
 replies s (byte b ∷ h) =
     if b == 10
     then refused_by (line_command h) (waiting_after s h) ++ own_reply s (moments_of s h) (line_command h)

@@ -2,7 +2,7 @@
 use Rattle.std.specs.Prelude.{ℕ, List, ◌++◌, codes, ℤ}
 use Rattle.wb_instrument.specs.WeightField.{weight_field}
 use Rattle.wb_sics.specs.declared.reply.CommandName.{CommandName}
-use Rattle.wb_sics.specs.declared.reply.CommandName.TheVariants.{Cancel, Commands, SerialNumber as SerialNumberName, Weight, WeightNow, Zero, Tare, TareValue as TareValueName, ClearTare}
+use Rattle.wb_sics.specs.declared.reply.CommandName.TheVariants.{Cancel, Commands, SerialNumber as SerialNumberName, Weight, WeightNow, Repeat, Zero, Tare, TareValue as TareValueName, ClearTare}
 use Rattle.wb_sics.specs.declared.reply.Reply.{Reply}
 use Rattle.wb_sics.specs.declared.reply.Reply.TheVariants.{WeightStable, WeightMoving, WeightRefused, WeightOver, WeightUnder, ZeroDone, ZeroRefused, ZeroAbove, ZeroBelow, TareDone, TareRefused, TareAbove, TareBelow, TareValue, PresetRefused, PresetBad, TareCleared, SerialNumber, Listed, Error}
 
@@ -17,6 +17,7 @@ listed_text Commands = codes "I0 B 0 \"I0\""
 listed_text SerialNumberName = codes "I0 B 0 \"I4\""
 listed_text Weight = codes "I0 B 0 \"S\""
 listed_text WeightNow = codes "I0 B 0 \"SI\""
+listed_text Repeat = codes "I0 B 0 \"SIR\""
 listed_text Zero = codes "I0 B 0 \"Z\""
 listed_text Tare = codes "I0 B 1 \"T\""
 listed_text TareValueName = codes "I0 B 1 \"TA\""

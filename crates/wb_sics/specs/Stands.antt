@@ -1,5 +1,5 @@
 -- A terminal stands after a history.
-use Rattle.std.specs.Prelude.{◌≡◌, ℕ, List, [], ◌∷◌, ◌++◌, take, reverse, Option, None}
+use Rattle.std.specs.Prelude.{◌≡◌, ℕ, Bool, false, List, [], ◌∷◌, ◌++◌, take, reverse, Option, None}
 use Rattle.wb_instrument.specs.Setup.{Setup}
 use Rattle.wb_scale.specs.Call.{stored as stored_call}
 use Rattle.wb_scale.specs.Stands.{Stands as ScaleStands, Takes as ScaleTakes}
@@ -8,6 +8,7 @@ use Rattle.wb_sics.specs.declared.waiting.Waiting.{Waiting}
 use Rattle.wb_sics.specs.Calls.{calls}
 use Rattle.wb_sics.specs.Event.{Event, stored}
 use Rattle.wb_sics.specs.Lines.{unfinished}
+use Rattle.wb_sics.specs.Repetition.{is_repeating}
 use Rattle.wb_sics.specs.Replies.{waiting_after}
 
 -- what a terminal keeps
@@ -15,18 +16,22 @@ pub record TerminalState : Type 0 where
   pub scale : State
   -- the waiting command, with the readings that it still waits
   pub waiting : Option Waiting
+  -- the value is repeated at each reading
+  pub repeating : Bool
   -- the first bytes of the unfinished line
   pub line : List ℕ
 
--- nothing waits, and no line is begun
+-- nothing waits, nothing is repeated, and no line is begun
 pub record IsIdle (s : TerminalState) : Type 0 where
   pub waiting : s.waiting ≡ None
+  pub repeating : s.repeating ≡ false
   pub line : s.line ≡ []
 
 -- what a terminal keeps is what the definitions say of the history
 pub record StandsAt (i : Setup) (s : TerminalState) (h : List Event) : Type 0 where
   pub scale : ScaleStands s.scale (calls i h)
   pub waiting : s.waiting ≡ waiting_after i h
+  pub repeating : s.repeating ≡ is_repeating h
   pub line : s.line ≡ take 42 (reverse (unfinished h))
 
 -- the terminal stands after the history

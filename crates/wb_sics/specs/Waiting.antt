@@ -3,7 +3,7 @@ use Rattle.std.specs.Prelude.{ℕ, ◌==◌, ◌+◌, Bool, true, false, not, �
 use Rattle.wb_instrument.specs.Setup.{Setup}
 use Rattle.wb_window.specs.Stability.{is_stable}
 use Rattle.wb_sics.specs.declared.command.Command.{Command}
-use Rattle.wb_sics.specs.declared.command.Command.TheVariants.{Weight, WeightNow, Zero, Tare, TareValue, PresetTare, BadTare, ClearTare, Cancel, Commands, SerialNumber, Unknown}
+use Rattle.wb_sics.specs.declared.command.Command.TheVariants.{Weight, WeightNow, Repeat, Zero, Tare, TareValue, PresetTare, BadTare, ClearTare, Cancel, Commands, SerialNumber, Unknown}
 use Rattle.wb_sics.specs.declared.waiting.Awaited.{Awaited}
 use Rattle.wb_sics.specs.declared.waiting.Awaited.TheVariants.{Weight as AwaitedWeight, Zero as AwaitedZero, Tare as AwaitedTare}
 use Rattle.wb_sics.specs.Event.{Event, reading, byte, hang_up, stored, readings_of}
@@ -13,6 +13,7 @@ use Rattle.wb_sics.specs.Lines.{commanded}
 abbrev pub awaited_by : Command → Option Awaited
 awaited_by Weight = Some AwaitedWeight
 awaited_by WeightNow = None
+awaited_by Repeat = None
 awaited_by Zero = Some AwaitedZero
 awaited_by Tare = Some AwaitedTare
 awaited_by TareValue = None

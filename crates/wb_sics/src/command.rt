@@ -15,6 +15,8 @@ pub enum Command {
     Weight,
     /// `SI`: the weight at once.
     WeightNow,
+    /// `SIR`: the weight at each reading from now on.
+    Repeat,
     /// `Z`: zero setting, when stable.
     Zero,
     /// `T`: tare balancing, when stable.
@@ -27,7 +29,7 @@ pub enum Command {
     BadTare,
     /// `TAC`: the tare is cleared.
     ClearTare,
-    /// `@`: the waiting command is dropped and the tare cleared.
+    /// `@`: the waiting command is dropped, the repetition ended and the tare cleared.
     Cancel,
     /// `I0`: the commands.
     Commands,
@@ -58,6 +60,8 @@ fn word(text: &[u8]) -> Command
         Command::Weight
     } else if text == b"SI".as_slice() {
         Command::WeightNow
+    } else if text == b"SIR".as_slice() {
+        Command::Repeat
     } else if text == b"Z".as_slice() {
         Command::Zero
     } else if text == b"T".as_slice() {

@@ -2,9 +2,9 @@
 //!
 //! The terminal takes readings of the load converter and single bytes of its stream, and gives the replies at each.
 //! A line is cut at an LF, however the stream came in pieces; its command answers at once or, for `S`, `Z` and `T`,
-//! waits for its condition up to a limit of readings. What a terminal keeps and answers is proved for every history of
-//! readings, bytes, hang-ups and stored weighings; of the scale nothing is defined again here: a terminal's history maps
-//! to the calls of its scale. No call takes memory.
+//! waits for its condition up to a limit of readings; `SIR` has the value repeated at each reading. What a terminal keeps
+//! and answers is proved for every history of readings, bytes, hang-ups and stored weighings; of the scale nothing is
+//! defined again here: a terminal's history maps to the calls of its scale. No call takes memory.
 #![tactic(auto)]
 
 mod answers;
@@ -12,6 +12,7 @@ mod command;
 mod grams;
 mod laws;
 mod line;
+mod repetition;
 mod reply;
 mod terminal;
 mod waiting;

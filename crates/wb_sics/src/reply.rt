@@ -9,7 +9,7 @@ use wb_instrument::{Serial, weight_field};
 /// The text or the bytes of a reply: at most 32.
 pub type ReplyText = ArrayString<32>;
 
-/// The replies at one event, in their order.
+/// The replies at one event, in their order: eleven at most.
 pub type Replies = ArrayVec<Reply, 12>;
 
 /// A reply of the terminal; weights are in kilograms.
@@ -66,6 +66,7 @@ pub enum CommandName {
     SerialNumber,
     Weight,
     WeightNow,
+    Repeat,
     Zero,
     Tare,
     TareValue,
@@ -122,6 +123,7 @@ fn listed(name: CommandName) -> &'static str
         CommandName::SerialNumber => "I0 B 0 \"I4\"",
         CommandName::Weight => "I0 B 0 \"S\"",
         CommandName::WeightNow => "I0 B 0 \"SI\"",
+        CommandName::Repeat => "I0 B 0 \"SIR\"",
         CommandName::Zero => "I0 B 0 \"Z\"",
         CommandName::Tare => "I0 B 1 \"T\"",
         CommandName::TareValue => "I0 B 1 \"TA\"",

@@ -14,6 +14,7 @@ ghost use Rattle.wb_window.specs.Reading.{IsReading};
 use crate::answers::{preset_reply, tare_reply, weight_now, weight_reply, zero_reply};
 use crate::command::Command;
 use crate::line::{Line, keep, kept_command};
+use crate::repetition::{repeat, repeating_from};
 use crate::reply::{CommandName, Replies, Reply};
 use crate::waiting::{Awaited, Waiting, after_reading, at_line_end, give_up};
 use std::marker::Model;
@@ -28,6 +29,7 @@ const LINE_FEED: u8 = b'\n';
 pub struct Terminal<W: Window> {
     scale: Scale<W>,
     waiting: Option<Waiting>,
+    repeating: bool,
     line: Line,
 }
 
@@ -36,7 +38,7 @@ impl<W: Window> Model for Terminal<W> {
 
     ghost Value = { TerminalState };
 
-    ghost view = { λ t. record { scale = t.scale; waiting = t.waiting; line = t.line.items } };
+    ghost view = { λ t. record { scale = t.scale; waiting = t.waiting; repeating = t.repeating; line = t.line.items } };
 }
 
 impl<W: Window> Terminal<W> {
@@ -47,7 +49,7 @@ impl<W: Window> Terminal<W> {
     ghost use Rattle.wb_sics.specs.Stands.{IsIdle, Stands, Takes};
     ghost use Rattle.wb_sics.specs.contracts.terminal.Terminal.{the_row};
 
-    /// A terminal over a scale, with nothing waiting and no line begun.
+    /// A terminal over a scale, with nothing waiting or repeated and no line begun.
     pub fn new(scale: Scale<W>) -> Self
         ensures scale { result.scale ≡ scale }
         ensures idle { IsIdle result }
@@ -56,6 +58,7 @@ impl<W: Window> Terminal<W> {
         Terminal {
             scale,
             waiting: None,
+            repeating: false,
             line: Line::new(),
         }
     }
@@ -88,8 +91,8 @@ impl<W: Window> Terminal<W> {
         replies
     }
 
-    /// Takes a reading, and leaves the replies at it in the room, in place of what was there. Where nothing waits no
-    /// list is made.
+    /// Takes a reading, and leaves the replies at it in the room, in place of what was there. Where nothing waits or is
+    /// repeated no list is made.
     pub fn reading_into(&mut self, reading: Reading, room: &mut Replies)
         requires { IsReading reading }
         ensures takes { Takes self.old self.new (reading_event reading) }
@@ -99,6 +102,7 @@ impl<W: Window> Terminal<W> {
         room.clear();
         let waiting = take_reading(&mut self.scale, reading, self.waiting, room);
         self.waiting = waiting;
+        repeat(&self.scale, self.repeating, room);
     }
 
     /// Takes a byte of the stream, and gives the replies at it.
@@ -125,18 +129,21 @@ impl<W: Window> Terminal<W> {
         }
         let command = kept_command(self.line.as_slice());
         self.line.clear();
+        let repeating = repeating_from(command, self.repeating);
+        self.repeating = repeating;
         give_up(self.waiting, command, room);
         let waiting = perform(&mut self.scale, command, room);
         self.waiting = waiting;
     }
 
-    /// The connection ended: the unfinished line and a waiting command are dropped without a reply.
+    /// The connection ended: the unfinished line, a waiting command and the repetition are dropped without a reply.
     pub fn hangup(&mut self)
         ensures takes { Takes self.old self.new hang_up }
         ensures idle { IsIdle self.new }
         ensures scale { self.new.scale ≡ self.old.scale }
     {
         self.waiting = None;
+        self.repeating = false;
         self.line.clear();
     }
 }
@@ -151,6 +158,7 @@ fn take_reading<W: Window>(
     requires reading { IsReading reading }
     requires empty { replies.old.items ≡ [] }
     ensures window { 1 ≤ scale.old.setup.window }
+    ensures few { array_vec_len replies.new ≤ 1 }
     ensures takes { ScaleTakesAll scale.old scale.new (asked_waiting waiting reading) }
     ensures waiting { (h : List Call) → ScaleStands scale.old h
         → result ≡ waiting_read scale.old.setup h reading waiting }
@@ -222,6 +230,7 @@ fn perform<W: Window>(
             return at_line_end(Awaited::Tare, decided, wait, replies);
         }
         Command::WeightNow => replies.push(weight_now(scale.instrument(), scale.indicated())),
+        Command::Repeat => {}
         Command::TareValue => replies.push(Reply::TareValue(scale.tare_kg())),
         Command::PresetTare(grams) => replies.push(preset_reply(scale.preset(grams))),
         Command::BadTare => replies.push(Reply::PresetBad),
@@ -256,6 +265,7 @@ fn list_commands(replies: &mut Replies)
     replies.push(Reply::Listed(CommandName::SerialNumber));
     replies.push(Reply::Listed(CommandName::Weight));
     replies.push(Reply::Listed(CommandName::WeightNow));
+    replies.push(Reply::Listed(CommandName::Repeat));
     replies.push(Reply::Listed(CommandName::Zero));
     replies.push(Reply::Listed(CommandName::Tare));
     replies.push(Reply::Listed(CommandName::TareValue));

@@ -33,6 +33,7 @@ pub(crate) fn after_reading(
     requires empty { replies.old.items ≡ [] }
     ensures waiting { result ≡ still (is_some decided) waiting }
     ensures replies { replies.new.items ≡ reply_at decided waiting }
+    ensures few { array_vec_len replies.new ≤ 1 }
 {
     match decided {
         Some(reply) => {
@@ -47,6 +48,7 @@ fn not_decided(waiting: Waiting, replies: &mut Replies) -> Option<Waiting>
     requires empty { replies.old.items ≡ [] }
     ensures waiting { result ≡ still false waiting }
     ensures replies { replies.new.items ≡ reply_at None waiting }
+    ensures few { array_vec_len replies.new ≤ 1 }
 {
     if 1 < waiting.left {
         Some(Waiting {

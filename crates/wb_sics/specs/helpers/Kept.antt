@@ -1,4 +1,5 @@
--- What becomes of a waiting command, at a reading and at a line's end.
+-- What becomes of a waiting command, at a reading and at a line's end, and of the repetition at a line's end.
+use Rattle.std.specs.Option.{unwrap_or}
 use Rattle.std.specs.Prelude.{◌-◌, Bool, true, false, nat_lt, List, ◌∷◌, if◌then◌else◌, Option, Some, None, is_some}
 use Rattle.wb_instrument.specs.Setup.{Setup}
 use Rattle.wb_window.specs.declared.reading.Reading.{Reading}
@@ -11,6 +12,7 @@ use Rattle.wb_sics.specs.declared.waiting.Awaited.{Awaited}
 use Rattle.wb_sics.specs.declared.waiting.Awaited.TheVariants.{Zero, Tare}
 use Rattle.wb_sics.specs.declared.waiting.Waiting.{Waiting}
 use Rattle.wb_sics.specs.Calls.{asked_at}
+use Rattle.wb_sics.specs.Repetition.{turned_by}
 use Rattle.wb_sics.specs.Replies.{decided}
 use Rattle.wb_sics.specs.Waiting.{awaited_by, same}
 
@@ -41,3 +43,7 @@ waiting_for s ms (Some kind) = unless_decided s kind (decided s ms kind)
 -- what waits from a command's LF on
 abbrev pub waiting_from : Setup → List Moment → Command → Option Waiting
 waiting_from s ms command = waiting_for s ms (awaited_by command)
+
+-- whether the value is repeated from a command's LF on, where it was or not before
+abbrev pub repeating_from : Command → Bool → Bool
+repeating_from command repeating = unwrap_or (turned_by command) repeating

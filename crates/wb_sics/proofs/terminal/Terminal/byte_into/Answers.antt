@@ -13,8 +13,8 @@ pub returns-then-byte-ne-LINE_FEED-clause-takes : goal.returns-then-byte-ne-LINE
 returns-then-byte-ne-LINE_FEED-clause-takes g c =
     let s = c.self.inside in
     let no : (c.args.byte == 10) ≡ false = grind (arith, nat_tests) in
-    Takes-behind (kept s.scale s.waiting s.line.items) _ _ (byte c.args.byte) c.self.view_is refl
-    (λ h from. record { now = StandsAt-byte s.scale.setup s.scale s.waiting s.line.items c.keep.new.line.items c.args.byte h no c.keep.ensures from.now })
+    Takes-behind (kept s.scale s.waiting s.repeating s.line.items) _ _ (byte c.args.byte) c.self.view_is refl
+    (λ h from. record { now = StandsAt-byte s.scale.setup s.scale s.waiting s.repeating s.line.items c.keep.new.line.items c.args.byte h no c.keep.ensures from.now })
 
 pub returns-then-byte-ne-LINE_FEED-clause-replies : goal.returns-then-byte-ne-LINE_FEED-clause-replies
 returns-then-byte-ne-LINE_FEED-clause-replies g c = λ h st.
@@ -27,7 +27,7 @@ returns-clause-takes g c =
     let i = s.scale.setup in
     let b = c.perform-waiting.new.scale in
     let command = c.kept_command-command.result in
-    Takes-behind (kept s.scale s.waiting s.line.items) _ _ (byte c.args.byte) c.self.view_is c.perform-waiting.ensures.takes.setup (λ h from.
+    Takes-behind (kept s.scale s.waiting s.repeating s.line.items) _ _ (byte c.args.byte) c.self.view_is c.perform-waiting.ensures.takes.setup (λ h from.
     let lf : (c.args.byte == 10) ≡ true = grind (arith, nat_tests) in
     let is : command ≡ line_command h = line_command-kept c.as_slice.result.now h command (c.as_slice.ensures.value ∙ from.now.line) c.kept_command-command.ensures in
     let did : Performs i (calls i h) command b s.waiting c.perform-waiting.result c.perform-waiting.new.replies.items = record {
@@ -35,9 +35,9 @@ returns-clause-takes g c =
       waits = c.perform-waiting.ensures.waiting (calls i h) from.now.scale;
       replied = rw c.give_up.ensures.items at (c.perform-waiting.ensures.replies (calls i h) from.now.scale);
     } in
-    let stands = StandsAt-line i s.scale b s.waiting c.perform-waiting.result s.line.items c.args.byte command c.perform-waiting.new.replies.items h lf
-    c.perform-waiting.ensures.wait c.perform-waiting.ensures.window is from.now did in
-    rw c.clear-2.ensures (Stands-at i (kept b c.perform-waiting.result []) _ c.perform-waiting.ensures.takes.setup stands))
+    let stands = StandsAt-line i s.scale b s.waiting c.perform-waiting.result s.repeating c.repeating_from-repeating.result s.line.items c.args.byte command c.perform-waiting.new.replies.items h lf
+    c.perform-waiting.ensures.wait c.perform-waiting.ensures.window is c.repeating_from-repeating.ensures from.now did in
+    rw c.clear-2.ensures (Stands-at i (kept b c.perform-waiting.result c.repeating_from-repeating.result []) _ c.perform-waiting.ensures.takes.setup stands))
 
 pub returns-clause-replies : goal.returns-clause-replies
 returns-clause-replies g c = λ h st.
@@ -45,7 +45,7 @@ returns-clause-replies g c = λ h st.
     let i = s.scale.setup in
     let b = c.perform-waiting.new.scale in
     let command = c.kept_command-command.result in
-    let from : Stands (kept s.scale s.waiting s.line.items) h = rw c.self.view_is st in
+    let from : Stands (kept s.scale s.waiting s.repeating s.line.items) h = rw c.self.view_is st in
     let lf : (c.args.byte == 10) ≡ true = grind (arith, nat_tests) in
     let is : command ≡ line_command h = line_command-kept c.as_slice.result.now h command (c.as_slice.ensures.value ∙ from.now.line) c.kept_command-command.ensures in
     let did : Performs i (calls i h) command b s.waiting c.perform-waiting.result c.perform-waiting.new.replies.items = record {
@@ -54,4 +54,4 @@ returns-clause-replies g c = λ h st.
       replied = rw c.give_up.ensures.items at (c.perform-waiting.ensures.replies (calls i h) from.now.scale);
     } in
     rw (← c.self.view_is)
-    (replies-line i s.scale b s.waiting c.perform-waiting.result s.line.items c.args.byte command c.perform-waiting.new.replies.items h lf is from.now did)
+    (replies-line i s.scale b s.waiting c.perform-waiting.result s.repeating s.line.items c.args.byte command c.perform-waiting.new.replies.items h lf is from.now did)
