@@ -33,6 +33,7 @@ TRACES = {
     "bytes": ["r 9170 4", "b 53", "b 490d", "b 0a"],
     "waiting": ["t S"] + ["r 9100", "r 9200"] * 8 + ["r 9170 4"],
     "a zero that waits": ["r 3 3", "t Z", "r 3", "r 4", "r 8", "t SI"],
+    "the repetition": ["t SIR", "r 9170 4", "t T", "r 9170", "h", "r 9170"],
     "lines": ["t S", "t SI", "t S", "t @", "t s", "t S 1", "t"],
     "a hang-up": ["r 0 4", "t T", "b 53", "h", "b 490d0a"],
     "drift": ["r -5 43", "r -10", "t SI", "r 600 4", "t Z", "r 601 8", "r 605", "t SI"],

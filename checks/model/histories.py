@@ -133,7 +133,7 @@ history("26 stable at the last reading of the wait", ["t S"] + ["r 9100", "r 920
 history("27 not stable at the last reading", ["t S"] + ["r 9100", "r 9200"] * 8 + ["r 9100", "r 9170 3"], ["t S I"])
 history("28 waits and other lines", ["t S", "t SI", "t S", "t @", "t s", "t S 1", "t"],
         ["t S I", "t S I", 't I4 A "WB01"', "t ES", "t ES", "t ES"])
-history("29 each line ends the wait before it", ["t Z", "t Z", "t T", "t S", "t x", "t T", "t I4", "t SIR"],
+history("29 each line ends the wait before it", ["t Z", "t Z", "t T", "t S", "t x", "t T", "t I4", "t SR"],
         ["t Z I", "t Z I", "t T I", "t S I", "t ES", "t T I", 't I4 A "WB01"', "t ES"])
 history("30 over and under answer a waiting S at once, Z and T wait", ["t S", "r 40000", "t S", "t Z", "r -300", "r 40000 19", "t S",
                                                                        "t T", "r -300", "t S"],
@@ -150,8 +150,29 @@ history("34 long lines", ["t TA " + "x" * 37, "t TA " + "x" * 38, "b " + (b"TA "
                           "b " + (b"TA " + b"x" * 37 + b"\n").hex(), "b " + (b"TA " + b"x" * 36 + b"\r\r\n").hex(),
                           "b " + (b"SI" * 5000 + b"\n").hex(), "t I4"],
         ["t TA L", "t ES", "t ES", "t TA L", "t TA L", "t ES", 't I4 A "WB01"'])
-history("35 the list of commands", ["t I0"], [f't I0 B 0 "{name}"' for name in ("@", "I0", "I4", "S", "SI", "Z")]
+history("35 the list of commands", ["t I0"], [f't I0 B 0 "{name}"' for name in ("@", "I0", "I4", "S", "SI", "SIR", "Z")]
         + ['t I0 B 1 "T"', 't I0 B 1 "TA"', 't I0 A 1 "TAC"'])
+# Repetition.
+history("35.1 the value at each reading, up to SI", ["t SIR", "r 9170 4", "t SI", "r 9170"],
+        ["t S D      18340 kg"] * 3 + ["t S S      18340 kg"] * 2)
+history("35.2 after the answer of a waiting Z, up to @", ["t SIR", "t Z", "r 3 4", "t @", "r 3"],
+        ["t S D          0 kg"] * 3 + ["t Z A", "t S S          0 kg", 't I4 A "WB01"'])
+history("35.3 SIR answers what waits, and a hang-up ends it", ["t S", "t SIR", "r lost", "h", "r 0"], ["t S I", "t S I"])
+history("35.4 a line that isn't understood leaves it on", ["t SIR", "t x", "r lost"], ["t ES", "t S I"])
+history("35.5 SIR while Z waits, twice, then @", ["t Z", "t SIR", "r 0", "t SIR", "r 0", "t @", "r 0 9"],
+        ["t Z I", "t S D          0 kg", "t S D          0 kg", 't I4 A "WB01"'])
+history("35.6 in a half line at a hang-up, and half a line of SI", ["b 534952", "h", "b 0d0a", "r 0", "t SIR", "b 5349", "r 0", "b 0a", "r 0"],
+        ["t ES", "t S D          0 kg", "t S D          0 kg"])
+history("35.7 with a parameter it is no command", ["t SIR 5", "r 0", "t SIR", "t SIR 5", "t TA 100 kg", "r 0", "t S", "r 0 2"],
+        ["t ES", "t ES", "t TA A        100 kg", "t S D       -100 kg", "t S S       -100 kg"])
+history("35.8 a hundred readings with T and TAC among them", ["t SIR", "r 9170 40", "t T", "r 9170 30", "t TAC", "r 9170 30"],
+        ["t S D      18340 kg"] * 3 + ["t S S      18340 kg"] * 37 + ["t T S      18340 kg"] + ["t S S          0 kg"] * 30 + ["t TAC A"]
+        + ["t S S      18340 kg"] * 30)
+history("35.9 the value after a tare is less it; a zero in vain", ["t SIR", "t T", "r 9170 4", "t Z", "r lost 3"],
+        ["t S D      18340 kg"] * 3 + ["t T S      18340 kg", "t S S          0 kg", "t Z +", "t S I", "t S I", "t S I"])
+history("35.10 the last reading of a wait", ["t SIR", "t Z", "r lost 3"], ["t S I", "t Z I", "t S I", "t S I"], "--wait 2")
+history("35.11 a weighing changes no reply", ["t SIR", "r 0", "r 9170 4", weighing(M, "K1", "first", "AB-12"), "r 9170"],
+        ["t S D          0 kg"] + ["t S D      18340 kg"] * 3 + ["t S S      18340 kg"] + SLIP_1 + ["t S S      18340 kg"])
 # Traces.
 history("36 comments, empty lines, CR LF", ["# comment", "", "r 9170 4\r", "t SI\r", "\r", "q"], ["t S S      18340 kg"],
         complaint="trace line 6 not understood\n", status=1)

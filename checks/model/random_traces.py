@@ -11,7 +11,7 @@ import station_model
 
 DAY = 86400
 M = 1741593600
-COMMANDS = ["S", "SI", "Z", "T", "TA", "TAC", "@", "I0", "I4", "SIR", "s", "", "S ", " S", "TA 5000 kg", "TA 100 kg", "TA 0.010 kg",
+COMMANDS = ["S", "SI", "Z", "T", "TA", "TAC", "@", "I0", "I4", "SIR", "SIR", "SIR 1", "s", "", "S ", " S", "TA 5000 kg", "TA 100 kg", "TA 0.010 kg",
     "TA 12.5 kg",
             "TA 9.999 kg", "TA 1 g", "TA x", "TA ", "TA 60009.999 kg", "TA 60010 kg", "TA 18340 kg", "TA 9999999.999 kg",
             "TA 00000001 kg", "I1", "TI"]
@@ -78,7 +78,7 @@ class Maker:
             here = pick([here, here, here + whole(-2, 2), self.zero + whole(-7, 7), pick([-1, 1]) * self.limit + whole(-3, 3)])
             lines.append(f"r {here} {pick([1, 1, 2, self.window, whole(1, 12)])}")
             if self.random.random() < 0.4:
-                lines.append("t " + pick(["Z", "Z", "T", "S", "SI", "I4", "TA", "@", "TAC", f"TA {self.interval * whole(0, 4)} kg",
+                lines.append("t " + pick(["Z", "Z", "T", "S", "SI", "SIR", "I4", "TA", "@", "TAC", f"TA {self.interval * whole(0, 4)} kg",
                     "TA 30 kg"]))
             if self.random.random() < 0.3:
                 lines += [f"r {here + pick([-6, -5, -4, 4, 5, 6])} {pick([1, self.window])}", "t SI"]
