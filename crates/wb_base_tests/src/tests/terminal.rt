@@ -207,7 +207,7 @@ static WAITING: [Row; 11] = [
             Line("S 1"),
             Line(""),
             Line("T"),
-            Line("SIR"),
+            Line("SR"),
         ],
         "S I\r\nS I\r\nI4 A \"WB01\"\r\nES\r\nES\r\nES\r\nT I\r\nES\r\n",
     ),
@@ -237,7 +237,7 @@ static LINES: [Row; 8] = [
     Row(
         "the commands and the serial",
         &[Line("I0"), Line("I4")],
-        "I0 B 0 \"@\"\r\nI0 B 0 \"I0\"\r\nI0 B 0 \"I4\"\r\nI0 B 0 \"S\"\r\nI0 B 0 \"SI\"\r\nI0 B 0 \"Z\"\r\nI0 B 1 \"T\"\r\nI0 B 1 \"TA\"\r\nI0 A 1 \"TAC\"\r\nI4 A \"WB01\"\r\n",
+        "I0 B 0 \"@\"\r\nI0 B 0 \"I0\"\r\nI0 B 0 \"I4\"\r\nI0 B 0 \"S\"\r\nI0 B 0 \"SI\"\r\nI0 B 0 \"SIR\"\r\nI0 B 0 \"Z\"\r\nI0 B 1 \"T\"\r\nI0 B 1 \"TA\"\r\nI0 A 1 \"TAC\"\r\nI4 A \"WB01\"\r\n",
     ),
     Row(
         "a line of forty bytes",
@@ -271,6 +271,105 @@ static LINES: [Row; 8] = [
             Load(9_170, 4),
         ],
         "cleared\r\nnot cleared\r\nS S      18340 kg\r\n",
+    ),
+];
+
+static REPETITION: [Row; 14] = [
+    Row(
+        "the value at each reading, up to `SI`",
+        &[Line("SIR"), Load(9_170, 4), Line("SI"), Load(9_170, 1)],
+        "S D      18340 kg\r\nS D      18340 kg\r\nS D      18340 kg\r\nS S      18340 kg\r\nS S      18340 kg\r\n",
+    ),
+    Row(
+        "a zero is set under repetition, and the value comes after its answer",
+        &[Line("SIR"), Line("Z"), Load(3, 4), Line("@"), Load(3, 1)],
+        "S D          0 kg\r\nS D          0 kg\r\nS D          0 kg\r\nZ A\r\nS S          0 kg\r\nI4 A \"WB01\"\r\n",
+    ),
+    Row(
+        "the value comes after a tare, and is less it",
+        &[Load(9_170, 3), Line("SIR"), Line("T"), Load(9_170, 2)],
+        "T S      18340 kg\r\nS S          0 kg\r\nS S          0 kg\r\n",
+    ),
+    Row(
+        "a command that waits is answered at once, and a hang-up ends the repetition",
+        &[Line("S"), Line("SIR"), Load(LOST, 1), Hangup, Load(0, 1)],
+        "S I\r\nS I\r\n",
+    ),
+    Row(
+        "a zero that waits is answered at once",
+        &[Line("Z"), Line("SIR"), Load(600, 4)],
+        "Z I\r\nS D       1200 kg\r\nS D       1200 kg\r\nS D       1200 kg\r\nS S       1200 kg\r\n",
+    ),
+    Row(
+        "a zero that waits in vain",
+        &[Line("SIR"), Line("Z"), Load(LOST, 20)],
+        "S I\r\nS I\r\nS I\r\nS I\r\nS I\r\nS I\r\nS I\r\nS I\r\nS I\r\nS I\r\nS I\r\nS I\r\nS I\r\nS I\r\nS I\r\nS I\r\nS I\r\nS I\r\nS I\r\nZ I\r\nS I\r\n",
+    ),
+    Row(
+        "a line that is not understood leaves it on",
+        &[Line("SIR"), Line("x"), Load(LOST, 1)],
+        "ES\r\nS I\r\n",
+    ),
+    Row(
+        "twice, and then cancel",
+        &[
+            Line("SIR"),
+            Line("SIR"),
+            Load(30_095, 1),
+            Line("@"),
+            Load(30_095, 1),
+        ],
+        "S +\r\nI4 A \"WB01\"\r\n",
+    ),
+    Row(
+        "twice with a reading between, and then `S`",
+        &[
+            Line("SIR"),
+            Load(-206, 1),
+            Line("SIR"),
+            Load(-206, 1),
+            Line("S"),
+            Load(-206, 1),
+        ],
+        "S -\r\nS -\r\nS -\r\n",
+    ),
+    Row(
+        "a weight that waits ends it at once",
+        &[Line("SIR"), Load(9_170, 1), Line("S"), Load(9_170, 4)],
+        "S D      18340 kg\r\nS S      18340 kg\r\n",
+    ),
+    Row(
+        "in a half line at a hang-up",
+        &[Bytes("SIR"), Hangup, Bytes("\r\n"), Load(0, 1)],
+        "ES\r\n",
+    ),
+    Row(
+        "a half line of `SI` leaves it on, and its end turns it off",
+        &[
+            Line("SIR"),
+            Bytes("SI"),
+            Load(0, 1),
+            Bytes("\n"),
+            Load(0, 1),
+        ],
+        "S D          0 kg\r\nS D          0 kg\r\n",
+    ),
+    Row(
+        "with a parameter it is not understood, and changes nothing",
+        &[
+            Line("SIR 5"),
+            Load(0, 1),
+            Line("SIR"),
+            Line("SIR 5"),
+            Line("SIR "),
+            Load(0, 1),
+        ],
+        "ES\r\nES\r\nES\r\nS D          0 kg\r\n",
+    ),
+    Row(
+        "a stored weighing leaves it on",
+        &[Line("SIR"), Stored, Load(LOST, 1)],
+        "S I\r\n",
     ),
 ];
 
@@ -409,13 +508,47 @@ fn answers_each_session(rt: HostRuntime) -> Result<(), Fail> {
         TARES.as_slice(),
         WAITING.as_slice(),
         LINES.as_slice(),
+        REPETITION.as_slice(),
     ] {
         rows(&rt, rt.alloc(), table)?;
     }
     Ok(())
 }
 
-static PRESETS: [(&str, Command); 16] = [
+/// What 100 readings under repetition print, with `T` after 40 of them and `TAC` after 30 more.
+static HUNDRED_VALUES: [(&str, u32); 6] = [
+    ("S D      18340 kg\r\n", 3),
+    ("S S      18340 kg\r\n", 37),
+    ("T S      18340 kg\r\n", 1),
+    ("S S          0 kg\r\n", 30),
+    ("TAC A\r\n", 1),
+    ("S S      18340 kg\r\n", 30),
+];
+
+#[test]
+fn repeats_the_value_at_a_hundred_readings(rt: HostRuntime) -> Result<(), Fail> {
+    let alloc = rt.alloc();
+    let mut wanted = String::new(alloc);
+    for (text, times) in HUNDRED_VALUES.as_slice() {
+        for _ in 0..*times {
+            wanted.push_str(text)?;
+        }
+    }
+    let steps = [
+        Line("SIR"),
+        Load(9_170, 40),
+        Line("T"),
+        Load(9_170, 30),
+        Line("TAC"),
+        Load(9_170, 30),
+    ];
+    let mut printed = String::new(alloc);
+    session(alloc, steps.as_slice(), &mut printed)?;
+    assert_text(&rt, "100 readings", printed.as_str(), wanted.as_str());
+    Ok(())
+}
+
+static PRESETS: [(&str, Command); 18] = [
     ("TA 1 kg", Command::PresetTare(1_000)),
     ("TA 9999999.999 kg", Command::PresetTare(9_999_999_999)),
     ("TA 0012.5 kg", Command::PresetTare(12_500)),
@@ -432,6 +565,8 @@ static PRESETS: [(&str, Command); 16] = [
     ("TA", Command::TareValue),
     ("TAX", Command::Unknown),
     (" SI", Command::Unknown),
+    ("SIR", Command::Repeat),
+    ("SIRX", Command::Unknown),
 ];
 
 #[test]
