@@ -56,6 +56,40 @@ static DEAF: [Step; 10] = [
     Step::Client(0, IsClosed),
 ];
 
+/// One that reads the repeated value more slowly than it comes.
+static SLOW_DISPLAY: [Step; 11] = [
+    Turn(0, 0),
+    Step::Client(0, Takes(30)),
+    Reply(0, b"S D         20 kg\r\n"),
+    Reply(1, b"S D         40 kg\r\n"),
+    Reply(2, b"S D         60 kg\r\n"),
+    Step::Client(0, Got(b"S D         20 kg\r\nS D        ", false)),
+    Step::Client(0, Takes(30)),
+    Turn(3, 0),
+    Reply(4, b"S D         80 kg\r\n"),
+    Step::Client(0, IsOpen),
+    Step::Client(
+        0,
+        Got(
+            b"S D         20 kg\r\nS D         40 kg\r\nS D         60 kg\r\nS D",
+            false,
+        ),
+    ),
+];
+
+/// One that reads none of it, though it goes on coming.
+static DEAF_DISPLAY: [Step; 9] = [
+    Turn(0, 0),
+    Step::Client(0, Takes(0)),
+    Reply(0, b"S D         20 kg\r\n"),
+    Reply(1, b"S D         40 kg\r\n"),
+    Reply(2, b"S D         60 kg\r\n"),
+    Reply(3, b"S D         80 kg\r\n"),
+    Reply(4, b"S D        100 kg\r\n"),
+    HangsUp(5),
+    Step::Client(0, IsClosed),
+];
+
 static TOO_MANY: [Step; 9] = [
     Turn(0, 0),
     Step::Client(0, Takes(1)),
@@ -196,6 +230,16 @@ fn hangs_up_one_that_is_broken(rt: HostRuntime) -> Result<(), Fail> {
 #[test]
 fn hangs_up_one_that_takes_nothing_for_five_seconds(rt: HostRuntime) -> Result<(), Fail> {
     play(&rt, 1, &DEAF)
+}
+
+#[test]
+fn sends_each_value_in_its_order_to_one_that_reads_slowly(rt: HostRuntime) -> Result<(), Fail> {
+    play(&rt, 1, &SLOW_DISPLAY)
+}
+
+#[test]
+fn hangs_up_one_that_takes_no_value_for_five_seconds(rt: HostRuntime) -> Result<(), Fail> {
+    play(&rt, 1, &DEAF_DISPLAY)
 }
 
 #[test]
