@@ -107,6 +107,26 @@ const SERVICES: &[Service] = &[
         answered: "0hn0tne",
     },
     Service {
+        shows: "a repeated value at the turn of each reading, up to a hang-up",
+        turns: &[
+            Turn {
+                typed: "SIR\n",
+                ..CALM
+            },
+            LOADED,
+            LOADED,
+            Turn {
+                hung_up: true,
+                ..LOADED
+            },
+            LOADED,
+        ],
+        limit: 1_000,
+        end: ServeEnd::Turns(5),
+        handed: "reply: S D      18340 kg\r\nreply: S D      18340 kg\r\nreply: S D      18340 kg\r\n",
+        answered: "0tnLtnLtnLhnLtne",
+    },
+    Service {
         shows: "the end at a fault of the converter",
         turns: &[
             ASKED,
