@@ -114,6 +114,45 @@ const A_HANG_UP: &[Step] = &[
     Step::Line("SI", "S -\r\n"),
 ];
 
+const REPETITION: &[Step] = &[
+    Step::Line("SIR", ""),
+    Step::Load(
+        9_170,
+        3,
+        "S D      18340 kg\r\nS D      18340 kg\r\nS D      18340 kg\r\n",
+    ),
+    Step::Load(9_170, 1, "S S      18340 kg\r\n"),
+    Step::Line("SI", "S S      18340 kg\r\n"),
+    Step::Load(9_170, 1, ""),
+    Step::Line("SIR", ""),
+    Step::Line("T", "T S      18340 kg\r\n"),
+    Step::Line("SIR", ""),
+    Step::Load(9_170, 1, "S S          0 kg\r\n"),
+    Step::Line("TAC", "TAC A\r\n"),
+    Step::Line("x", "ES\r\n"),
+    Step::Load(9_170, 1, "S S      18340 kg\r\n"),
+    Step::Line("@", "I4 A \"WB01\"\r\n"),
+    Step::Load(9_170, 1, ""),
+];
+
+const REPETITION_AND_WAITING: &[Step] = &[
+    Step::Line("Z", ""),
+    Step::Line("SIR", "Z I\r\n"),
+    Step::Load(3, 2, "S D          0 kg\r\nS D          0 kg\r\n"),
+    Step::Line("Z", ""),
+    Step::Load(3, 1, "S D          0 kg\r\n"),
+    Step::Load(3, 1, "Z A\r\nS S          0 kg\r\n"),
+    Step::Load(LOST, 1, NO_LOAD),
+    Step::Line("S", ""),
+    Step::Load(LOST, 1, ""),
+    Step::Line("SIR", NO_LOAD),
+    Step::Bytes(b"SIR", ""),
+    Step::Hangup,
+    Step::Load(LOST, 1, ""),
+    Step::Bytes(b"\r\n", "ES\r\n"),
+    Step::Load(LOST, 1, ""),
+];
+
 #[test]
 fn replies_as_a_terminal_alone(rt: HostRuntime) -> Result<(), Fail> {
     for row in [
@@ -127,6 +166,8 @@ fn replies_as_a_terminal_alone(rt: HostRuntime) -> Result<(), Fail> {
         A_LOST_READING,
         ZERO_AT_A_READING,
         A_HANG_UP,
+        REPETITION,
+        REPETITION_AND_WAITING,
     ] {
         day(&rt, rt.alloc(), 1_000, row)?;
     }
