@@ -20,6 +20,10 @@ pub(crate) enum Client {
     Ends,
     /// Its socket takes so many bytes more.
     Takes(usize),
+    /// Its socket takes so many bytes of one write at most.
+    TakesAtOnce(usize),
+    /// The next write to it finds an error.
+    Refuses(ErrorKind),
     /// It was sent just these bytes, and they are all or not.
     Got(&'static [u8], bool),
     /// The service didn't close it.
@@ -38,6 +42,8 @@ impl Wire<'_> {
             Client::Fails(error) => self.fail(*error),
             Client::Ends => self.end(),
             Client::Takes(count) => self.take(*count),
+            Client::TakesAtOnce(count) => self.take_at_once(*count),
+            Client::Refuses(error) => self.refuse(*error),
             Client::Got(bytes, is_all) => return self.was_sent(bytes, *is_all),
             Client::IsOpen => return self.is_open(),
             Client::IsClosed => return !self.is_open(),

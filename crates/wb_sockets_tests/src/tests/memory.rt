@@ -118,8 +118,11 @@ pub(crate) struct Wire<'a> {
     has_ended: Cell<bool>,
     /// What the next read finds in the place of bytes.
     error: Cell<Option<ErrorKind>>,
-    /// How many bytes the socket still takes.
+    /// How many bytes the socket still takes, and how many of one write at most.
     takes: Cell<usize>,
+    takes_at_once: Cell<usize>,
+    /// What the next write finds in the place of room.
+    refusal: Cell<Option<ErrorKind>>,
     got: RefCell<Vec<u8>>,
     is_shut: Cell<bool>,
     is_open: Cell<bool>,
@@ -144,6 +147,8 @@ impl<'a> Wire<'a> {
             has_ended: Cell::new(false),
             error: Cell::new(None),
             takes: Cell::new(usize::MAX),
+            takes_at_once: Cell::new(usize::MAX),
+            refusal: Cell::new(None),
             got: RefCell::new(Vec::new(bench.alloc)),
             is_shut: Cell::new(false),
             is_open: Cell::new(true),
@@ -176,6 +181,16 @@ impl<'a> Wire<'a> {
     /// The socket takes so many bytes more.
     pub(crate) fn take(&self, count: usize) {
         self.takes.set(count);
+    }
+
+    /// The socket takes so many bytes of one write at most.
+    pub(crate) fn take_at_once(&self, count: usize) {
+        self.takes_at_once.set(count);
+    }
+
+    /// The next write finds this error.
+    pub(crate) fn refuse(&self, error: ErrorKind) {
+        self.refusal.set(Some(error));
     }
 
     /// Whether the client was sent just these bytes, and they are all or not.
@@ -258,7 +273,12 @@ impl Read for Plug<'_> {
 
 impl Write for Plug<'_> {
     fn write(&mut self, buf: &[u8]) -> io::Result<usize> {
-        let count = self.0.takes.get().min(buf.len());
+        if let Some(error) = self.0.refusal.get() {
+            self.0.refusal.set(None);
+            return Err(io::Error::from(error));
+        }
+        let room = self.0.takes.get().min(self.0.takes_at_once.get());
+        let count = room.min(buf.len());
         if count == 0 {
             return Err(io::Error::from(ErrorKind::WouldBlock));
         }

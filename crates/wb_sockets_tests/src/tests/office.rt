@@ -1,6 +1,8 @@
 //! Connections of the office over turns.
 use self::Step::{Answer, Turn, WithoutRequest};
-use super::clients::Client::{Ends, Fails, Got, IsClosed, Sends, SendsMany, SendsPieces, Takes};
+use super::clients::Client::{
+    Ends, Fails, Got, IsClosed, Refuses, Sends, SendsMany, SendsPieces, Takes,
+};
 use super::clients::{Client, plays};
 use super::memory::{Bench, Door, Wire, after};
 use std::alloc::Global;
@@ -148,6 +150,22 @@ static PIECES: [Step; 4] = [
     Answer(0),
 ];
 
+/// One whose response is interrupted at its first write, and one whose socket refuses it.
+static REFUSES: [Step; 12] = [
+    Step::Client(0, Sends(b"GET /indication HTTP/1.1\r\n\r\n")),
+    Step::Client(1, Sends(b"GET /indication HTTP/1.1\r\n\r\n")),
+    Step::Client(0, Refuses(Interrupted)),
+    Step::Client(1, Refuses(ConnectionReset)),
+    Turn(0, 28, 2),
+    Answer(0),
+    Step::Client(0, Got(b"", false)),
+    Turn(1, 28, 2),
+    Step::Client(0, Got(ANSWER, true)),
+    Answer(1),
+    Turn(1, 0, 1),
+    Step::Client(1, IsClosed),
+];
+
 /// An office, and what its turns take.
 #[derive(Drop)]
 struct Desk<'a> {
@@ -249,6 +267,11 @@ fn judges_as_it_stands_what_comes_too_slowly(rt: HostRuntime) -> Result<(), Fail
 #[test]
 fn closes_one_that_stays_and_one_that_is_broken(rt: HostRuntime) -> Result<(), Fail> {
     play(&rt, 2, &STAYS)
+}
+
+#[test]
+fn tells_an_interrupted_write_from_a_broken_connection(rt: HostRuntime) -> Result<(), Fail> {
+    play(&rt, 2, &REFUSES)
 }
 
 #[test]

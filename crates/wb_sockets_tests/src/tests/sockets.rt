@@ -1,6 +1,6 @@
 //! Sources over connections in memory: what comes first after a long exchange or a stop, the end, and what is told.
 use self::Step::{Finish, Loses, Moment, Passes, Reply, Stopped, Told, Turn};
-use super::clients::Client::{Ends, Got, IsClosed, Sends, Takes};
+use super::clients::Client::{Ends, Got, IsClosed, Sends, Takes, TakesAtOnce};
 use super::clients::{Client, plays};
 use super::memory::{Bench, Door, Plug, Wire};
 use std::process::Abort;
@@ -21,8 +21,10 @@ office 127.0.0.1:0: accepted
 office 127.0.0.1:1: accepted
 office 127.0.0.1:0: 200 in 7 ms
 terminal 127.0.0.1:0: hung up, it ended
+terminal 127.0.0.1:1: accepted
 office 127.0.0.1:1: closed, the service ends
 office 127.0.0.1:0: closed, the service ends
+terminal 127.0.0.1:1: hung up, the service ends
 ";
 
 /// What happens to sources, and what must be seen then.
@@ -110,7 +112,7 @@ static STANDS_STILL: Course = Course {
     ],
 };
 
-/// The calendar's moment; and replies that wait for the terminal at the end, whose socket takes some of them then.
+/// The calendar's moment; and replies that wait for the terminal at the end, whose socket takes them two bytes at a time.
 static ENDS: Course = Course {
     times: &[0],
     script: b"1\n",
@@ -126,6 +128,7 @@ static ENDS: Course = Course {
         Reply(b"ES\r\nES\r\n"),
         Step::Client(1, Got(b"ES\r", false)),
         Step::Client(1, Takes(100)),
+        Step::Client(1, TakesAtOnce(2)),
         Step::Client(1, Ends),
         Finish,
         Step::Client(1, Got(b"ES\r\nES\r\n", true)),
@@ -134,18 +137,20 @@ static ENDS: Course = Course {
 };
 
 static ALL_IS_TOLD: Course = Course {
-    times: &[0, 100],
-    script: b"1\n|2\n",
+    times: &[0, 100, 200],
+    script: b"1\n|2\n|3\n",
     clients: 2,
     is_verbose: true,
     steps: &[
         Step::Client(0, Sends(ASKED)),
         Step::Client(0, Takes(10)),
         Turn(Load(1), 0, true, 7),
-        Step::Client(0, Takes(100)),
         Step::Client(1, Sends(b"GET")),
         Step::Client(2, Ends),
         Turn(Load(2), 0, false, 0),
+        Step::Client(0, Takes(100)),
+        // the next one is accepted in a later turn
+        Turn(Load(3), 0, false, 0),
         Finish,
         Step::Client(0, Got(ANSWER, true)),
         Told(TOLD),

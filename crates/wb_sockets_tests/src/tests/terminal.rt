@@ -1,6 +1,8 @@
 //! The terminal's connection over turns.
 use self::Step::{HangsUp, Replies, Reply, Turn};
-use super::clients::Client::{Ends, Fails, Got, IsClosed, IsOpen, Sends, SendsMany, Takes};
+use super::clients::Client::{
+    Ends, Fails, Got, IsClosed, IsOpen, Refuses, Sends, SendsMany, Takes,
+};
 use super::clients::{Client, plays};
 use super::memory::{Bench, Door, Wire, after};
 use std::alloc::Global;
@@ -131,6 +133,20 @@ static BROKEN: [Step; 6] = [
     HangsUp(1),
 ];
 
+/// A write that is interrupted is made again; one that is refused ends the connection.
+static REFUSES: [Step; 10] = [
+    Turn(0, 0),
+    Step::Client(0, Refuses(Interrupted)),
+    Reply(0, b"ES\r\n"),
+    Step::Client(0, Got(b"", false)),
+    Turn(1, 0),
+    Step::Client(0, Got(b"ES\r\n", false)),
+    Step::Client(0, Refuses(ConnectionReset)),
+    Reply(1, b"ES\r\n"),
+    HangsUp(2),
+    Step::Client(0, IsClosed),
+];
+
 /// A terminal, and what its turns take.
 #[derive(Drop)]
 struct Desk<'a> {
@@ -225,6 +241,11 @@ fn sends_the_replies_that_wait_to_one_that_sends_no_more(rt: HostRuntime) -> Res
 #[test]
 fn hangs_up_one_that_is_broken(rt: HostRuntime) -> Result<(), Fail> {
     play(&rt, 1, &BROKEN)
+}
+
+#[test]
+fn tells_an_interrupted_write_from_a_broken_connection(rt: HostRuntime) -> Result<(), Fail> {
+    play(&rt, 1, &REFUSES)
 }
 
 #[test]
