@@ -6,7 +6,7 @@ ghost use Rattle.wb_program.specs.TraceLines.{typed};
 ghost use Rattle.wb_station.specs.Happening.{IsTaken, byte as byte_happening, happening, reading as reading_happening};
 ghost use Rattle.wb_window.specs.Reading.{IsReading};
 
-use crate::printing::{WriteFault, print_output};
+use crate::printing::{WriteFault, print_output, print_replies};
 use crate::trace_line::TraceLine;
 use sqlite::Alter;
 use std::io::Write;
@@ -50,9 +50,24 @@ fn take_readings<W: Window, D: Alter, O: Write>(
         (O.contents writer.old) (O.contents writer.new)) }
 {
     for _ in 0..times {
-        take_event(station, &Event::Reading(reading), writer)?;
+        take_reading(station, reading, writer)?;
     }
     Ok(())
+}
+
+/// Hands a reading to the station, and prints the replies at it. It costs no more than these do, since no request is at hand.
+fn take_reading<W: Window, D: Alter, O: Write>(
+    station: &mut Station<W, D>,
+    reading: Reading,
+    writer: &mut O,
+) -> Result<(), WriteFault>
+    requires { IsReading reading }
+    ensures { OnOk result (Performed D.Store (reading_happening reading ∷ [])
+        station.old.terminal station.old.office station.new.terminal station.new.office
+        (O.contents writer.old) (O.contents writer.new)) }
+{
+    let replies = station.read(reading);
+    print_replies(replies, writer)
 }
 
 /// Types a text and a line end.

@@ -28,7 +28,7 @@ pub(crate) fn print_output<O: Write>(output: Output<'_>, writer: &mut O) -> Resu
     }
 }
 
-fn print_replies<O: Write>(replies: &Replies, writer: &mut O) -> Result<(), WriteFault>
+pub(crate) fn print_replies<O: Write>(replies: &Replies, writer: &mut O) -> Result<(), WriteFault>
     ensures { OnOk result (Appends
         (O.contents writer.old) (O.contents writer.new) (printed_replies replies.now.items)) }
 {

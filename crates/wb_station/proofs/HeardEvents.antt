@@ -5,19 +5,15 @@ use Rattle.wb_sics.specs.declared.reply.Reply.{Reply}
 use Rattle.wb_sics.specs.Heard.{RepliesToHeard}
 use Rattle.wb_sics.specs.Stands.{TerminalState}
 use Rattle.wb_store.specs.Journal.{StoreView}
-use Rattle.wb_station.specs.declared.event.AtTerminal.TheVariants.{Byte, Hangup, Reading}
+use Rattle.wb_station.specs.declared.event.AtTerminal.TheVariants.{Byte, Hangup}
 use Rattle.wb_station.specs.declared.event.Room.{Room}
 use Rattle.wb_station.specs.helpers.Hearing.{Heard}
 use Rattle.wb_station.specs.helpers.RoomShows.{shown_in}
-use Rattle.wb_station.specs.Happening.{reading, byte, hang_up}
+use Rattle.wb_station.specs.Happening.{byte, hang_up}
 use Rattle.wb_station.specs.Stands.{Took}
-use Rattle.wb_station.proofs.Accounts.{byte_took, hang_up_took, reading_took}
-use Rattle.wb_window.specs.declared.reading.Reading.{Reading as Load}
+use Rattle.wb_station.proofs.Accounts.{byte_took, hang_up_took}
 
 module _ {D : Type 0} (g : Ghosts D) (j : StoreView D) (rs : List Reply) (response : List ℕ) (t t' : TerminalState) (room : Room) where
-  pub reading_heard : RepliesToHeard → (r : Load) → Heard (Reading r) t t' rs room → Took g (reading r) (shown_in room rs response) t j t' j
-  reading_heard law r is = subst (λ x. Took g (reading r) (shown_in x rs response) t j t' j) (sym is.in_room) (reading_took g j law r rs t t' is.takes is.replies)
-
   pub byte_heard : RepliesToHeard → (b : ℕ) → Heard (Byte b) t t' rs room → Took g (byte b) (shown_in room rs response) t j t' j
   byte_heard law b is = subst (λ x. Took g (byte b) (shown_in x rs response) t j t' j) (sym is.in_room) (byte_took g j law b rs t t' is.takes is.replies)
 

@@ -2,14 +2,15 @@
 ghost use Rattle.std.specs.Borrow.{sem};
 ghost use Rattle.std.specs.Prelude.{◌≡◌, [], Bool, IfErr, IfOk, List};
 ghost use Rattle.wb_journal.specs.declared.entry.EntryParts.{EntryParts};
-ghost use Rattle.wb_station.specs.Account.{opened};
-ghost use Rattle.wb_station.specs.Happening.{IsTaken, happening};
+ghost use Rattle.wb_station.specs.Account.{opened, replied};
+ghost use Rattle.wb_station.specs.Happening.{IsTaken, happening, reading as reading_happening};
 ghost use Rattle.wb_station.specs.AfterBorrow.{Leaves};
 ghost use Rattle.wb_station.specs.OutputShows.{shown};
 ghost use Rattle.wb_station.specs.helpers.RoomShows.{shown_in};
 ghost use Rattle.wb_station.specs.Stands.{Hears, Stands, Took};
 ghost use Rattle.wb_store.specs.Journal.{Stands as StoreStands};
 ghost use Rattle.wb_store.specs.Rows.{SpentKey};
+ghost use Rattle.wb_window.specs.Reading.{IsReading};
 
 use crate::asking::ask;
 use crate::event::{AtTerminal, Event, Output, Room};
@@ -23,7 +24,7 @@ use wb_office::Office;
 use wb_scale::Scale;
 use wb_sics::{Replies, Terminal, law_of_replies};
 use wb_store::{Store, law_of_leaving};
-use wb_window::Window;
+use wb_window::{Reading, Window};
 
 /// A weighbridge: readings, the terminal's bytes and the office's requests come to it one by one.
 ///
@@ -100,6 +101,17 @@ impl<W: Window, D: Alter> Station<W, D> {
         self.output(room)
     }
 
+    /// Takes a reading, and shows the replies at it, as `turn` does. It has no room for a request, which makes it fast.
+    pub fn read(&mut self, reading: Reading) -> &Replies
+        requires { IsReading reading }
+        ensures* leaves { sem 𝓛 (Leaves (the_row W.row D.row W.Window D.Store) self.entry (λ new.
+            Took D.Store (reading_happening reading) (replied result.now.items)
+            self.old.terminal self.old.office new.terminal new.office)) }
+    {
+        self.take_reading(reading);
+        &self.replies
+    }
+
     /// Takes an event, and makes what it puts out in a room.
     pub(crate) fn take(&mut self, event: &Event<'_>) -> Room
         requires { IsTaken event.now }
@@ -109,11 +121,10 @@ impl<W: Window, D: Alter> Station<W, D> {
     {
         law_of_replies();
         match event {
-            Event::Reading(reading) => hear(
-                &mut self.terminal,
-                &mut self.replies,
-                AtTerminal::Reading(*reading),
-            ),
+            Event::Reading(reading) => {
+                self.take_reading(*reading);
+                Room::Replies
+            }
             Event::Byte(byte) => hear(
                 &mut self.terminal,
                 &mut self.replies,
@@ -133,6 +144,20 @@ impl<W: Window, D: Alter> Station<W, D> {
                 Room::Response
             }
         }
+    }
+
+    /// Takes a reading, and leaves the replies at it in their room.
+    fn take_reading(&mut self, reading: Reading)
+        requires { IsReading reading }
+        ensures { Took D.Store (reading_happening reading) (replied self.new.replies.items)
+            self.old.terminal self.old.office self.new.terminal self.new.office }
+    {
+        law_of_replies();
+        hear(
+            &mut self.terminal,
+            &mut self.replies,
+            AtTerminal::Reading(reading),
+        );
     }
 
     /// What is in a room.

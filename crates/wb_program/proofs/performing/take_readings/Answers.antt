@@ -9,7 +9,7 @@ loop-init g c = Performed-none g.D.Store c.args.station.now.terminal c.args.stat
 
 pub loop-preserved : goal.loop-preserved
 loop-preserved g c =
-    subst (λ es. Performed g.D.Store es c.args.station.now.terminal c.args.station.now.office c.take_event.new.station.terminal c.take_event.new.station.office (g.O.Write.contents c.args.writer.now)
-    (g.O.Write.contents c.take_event.new.writer)) (replicate-more c.loop.counter (reading c.args.reading))
+    subst (λ es. Performed g.D.Store es c.args.station.now.terminal c.args.station.now.office c.take_reading.new.station.terminal c.take_reading.new.station.office (g.O.Write.contents c.args.writer.now)
+    (g.O.Write.contents c.take_reading.new.writer)) (replicate-more c.loop.counter (reading c.args.reading))
     (Performed-append g.D.Store (replicate c.loop.counter (reading c.args.reading)) (reading c.args.reading ∷ []) _ _ c.loop.station.terminal c.loop.station.office _ _ _ _ _
-    c.loop.invariant c.in_ok-take_event.ensures)
+    c.loop.invariant c.in_ok-take_reading.ensures)

@@ -1,19 +1,15 @@
 use Rattle.std.proofs.Common.{false}
-use Rattle.wb_station.proofs.HeardEvents.{byte_heard, hang_up_heard, reading_heard}
+use Rattle.wb_station.proofs.HeardEvents.{byte_heard, hang_up_heard}
 use Rattle.wb_station.proofs.station.Station.take.Goals as goal
 
 pub returns-in-Reading : goal.returns-in-Reading
-returns-in-Reading g c =
-    rw c.in-Reading.is (
-      false,
-      reading_heard g.D.Store c.args.self.now.office c.hear.new.replies.items _ c.args.self.now.terminal c.hear.new.terminal c.hear.result c.law_of_replies.ensures c.in-Reading.reading c.hear.ensures,
-    )
+returns-in-Reading g c = rw c.in-Reading.is (false, c.take_reading.ensures)
 
 pub returns-in-Byte : goal.returns-in-Byte
 returns-in-Byte g c =
     rw c.in-Byte.is (
       false,
-      byte_heard g.D.Store c.args.self.now.office c.hear-in-Byte.new.replies.items _ c.args.self.now.terminal c.hear-in-Byte.new.terminal c.hear-in-Byte.result c.law_of_replies.ensures c.in-Byte.byte c.hear-in-Byte.ensures,
+      byte_heard g.D.Store c.args.self.now.office c.hear.new.replies.items _ c.args.self.now.terminal c.hear.new.terminal c.hear.result c.law_of_replies.ensures c.in-Byte.byte c.hear.ensures,
     )
 
 pub returns-in-Hangup : goal.returns-in-Hangup
