@@ -1,0 +1,32 @@
+-- Laws of every calibration.
+use Rattle.std.specs.Prelude.{◌≡◌, ◌↔◌, ℕ, ℤ, pos, neg_ℤ, ◌+ℤ◌, ◌-ℤ◌, ◌*ℤ◌, ◌≤ℤ◌, List, Some, None, slice_get}
+use Rattle.wb_calibration.specs.declared.point.Point.{Point}
+use Rattle.wb_calibration.specs.Calibration.{IsCalibration}
+use Rattle.wb_calibration.specs.Fault.{fault_of}
+use Rattle.wb_calibration.specs.Line.{IsLoad, IsOnLine, past, rise, run}
+use Rattle.wb_calibration.specs.Turned.{falls, turned}
+
+-- points without a fault are those of a calibration
+abbrev pub FaultlessAre : Type 0
+FaultlessAre = (points : List Point) → (fault_of points ≡ None) ↔ IsCalibration points
+
+-- all counts are those of some tenths on the line, so that they have no load only where a converter may hand none in
+abbrev pub AllOnLine : Type 0
+AllOnLine = (points : List Point) → IsCalibration points → (counts : ℤ) → (tenths : ℤ) × IsOnLine points counts tenths
+
+-- at each point the load is that point's
+abbrev pub ExactAtPoints : Type 0
+ExactAtPoints = (points : List Point) → IsCalibration points
+    → (place : ℕ) (p : Point) → slice_get points place ≡ Some p → IsLoad points p.counts p.tenths
+
+-- more counts give no less tenths, or fewer counts, where they fall; the same counts give the same
+abbrev pub AllInOrder : Type 0
+AllInOrder = (points : List Point) → IsCalibration points
+    → (counts others tenths more : ℤ) → turned (falls points) counts ≤ℤ turned (falls points) others
+    → IsOnLine points counts tenths → IsOnLine points others more → tenths ≤ℤ more
+
+-- the tenths are at most half a tenth from the straight line: twice what they are apart times the run is at most the run
+abbrev pub AllNear : Type 0
+AllNear = (points : List Point) (counts tenths : ℤ) → (on : IsOnLine points counts tenths)
+    → let s = on.segment; falling = falls points; apart = run falling s *ℤ (tenths -ℤ s.lower.tenths) -ℤ past falling s counts *ℤ rise s in
+    (neg_ℤ (run falling s) ≤ℤ (pos 2 *ℤ apart)) × ((pos 2 *ℤ apart) ≤ℤ run falling s)

@@ -1,0 +1,55 @@
+-- The load of counts: on the straight line between two neighbouring points, in whole numbers.
+use Rattle.std.specs.Prelude.{◌≡◌, Bool, ℤ, pos, neg_ℤ, ◌+ℤ◌, ◌-ℤ◌, ◌*ℤ◌, ◌≤ℤ◌, ◌<ℤ◌, int_lt, List, [], ◌∷◌, Option, Some, None, if◌then◌else◌}
+use Rattle.wb_window.specs.Reading.{greatest_load}
+use Rattle.wb_calibration.specs.declared.point.Point.{Point}
+use Rattle.wb_calibration.specs.declared.segment.Segment.{Segment}
+use Rattle.wb_calibration.specs.Calibration.{AreApart, IsPoint}
+use Rattle.wb_calibration.specs.Turned.{falls, turned}
+
+-- counts stand for less load than others
+abbrev pub is_before : Bool → ℤ → ℤ → Bool
+is_before falling counts others = int_lt (turned falling counts) (turned falling others)
+
+-- the two neighbours whose line holds: the first whose upper point the counts do not reach, or the last two
+abbrev pub segment_of : Bool → List Point → ℤ → Option Segment
+segment_of falling [] counts = None
+segment_of falling (lower ∷ []) counts = None
+segment_of falling (lower ∷ upper ∷ []) counts = Some (record { lower = lower; upper = upper })
+segment_of falling (lower ∷ upper ∷ next ∷ above) counts =
+    if is_before falling counts upper.counts then Some (record { lower = lower; upper = upper }) else segment_of falling (upper ∷ next ∷ above) counts
+
+-- neighbours of a calibration
+pub record IsSegment (falling : Bool) (s : Segment) : Type 0 where
+  pub lower : IsPoint s.lower
+  pub upper : IsPoint s.upper
+  pub apart : AreApart falling s.lower s.upper
+
+-- counts from the lower point to the upper
+abbrev pub run : Bool → Segment → ℤ
+run falling s = turned falling s.upper.counts -ℤ turned falling s.lower.counts
+
+-- tenths from the lower point to the upper
+abbrev pub rise : Segment → ℤ
+rise s = s.upper.tenths -ℤ s.lower.tenths
+
+-- counts from the lower point to these
+abbrev pub past : Bool → Segment → ℤ → ℤ
+past falling s counts = turned falling counts -ℤ turned falling s.lower.counts
+
+-- tenths are those on the line, lower.tenths + past * rise / run, rounded, an exact half up: times twice the run, they
+-- are less than a run below it, and no more than a run above it
+pub record IsRounded (falling : Bool) (s : Segment) (counts tenths : ℤ) : Type 0 where
+  pub below : (pos 2 *ℤ (past falling s counts *ℤ rise s)) <ℤ (pos 2 *ℤ (run falling s *ℤ (tenths -ℤ s.lower.tenths)) +ℤ run falling s)
+  pub above : (pos 2 *ℤ (run falling s *ℤ (tenths -ℤ s.lower.tenths))) ≤ℤ (pos 2 *ℤ (past falling s counts *ℤ rise s) +ℤ run falling s)
+
+-- tenths are those of counts on the line of the two neighbours, however far past the ends
+pub record IsOnLine (points : List Point) (counts tenths : ℤ) : Type 0 where
+  pub segment : Segment
+  pub neighbours : segment_of (falls points) points counts ≡ Some segment
+  pub rounded : IsRounded (falls points) segment counts tenths
+
+-- tenths are the load of counts: those on the line, where a converter may hand them in
+pub record IsLoad (points : List Point) (counts tenths : ℤ) : Type 0 where
+  pub on_line : IsOnLine points counts tenths
+  pub least : neg_ℤ greatest_load ≤ℤ tenths
+  pub most : tenths ≤ℤ greatest_load
