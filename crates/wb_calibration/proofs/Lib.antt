@@ -1,1 +1,5 @@
 pub mod Products
+pub mod Rounding
+pub mod Segments
+pub mod Sizes
+pub mod Turning

@@ -28,5 +28,7 @@ AllInOrder = (points : List Point) → IsCalibration points
 -- the tenths are at most half a tenth from the straight line: twice what they are apart times the run is at most the run
 abbrev pub AllNear : Type 0
 AllNear = (points : List Point) (counts tenths : ℤ) → (on : IsOnLine points counts tenths)
-    → let s = on.segment; falling = falls points; apart = run falling s *ℤ (tenths -ℤ s.lower.tenths) -ℤ past falling s counts *ℤ rise s in
+    → let s = on.segment in
+    let falling = falls points in
+    let apart = run falling s *ℤ (tenths -ℤ s.lower.tenths) -ℤ past falling s counts *ℤ rise s in
     (neg_ℤ (run falling s) ≤ℤ (pos 2 *ℤ apart)) × ((pos 2 *ℤ apart) ≤ℤ run falling s)

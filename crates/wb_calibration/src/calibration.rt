@@ -7,7 +7,7 @@ ghost use Rattle.wb_calibration.specs.Turned.{falls};
 
 use crate::fault::{CalibrationFault, falls, fault_of};
 use crate::point::Point;
-use crate::segment::segment_of;
+use crate::segment::segment_from;
 use arrayvec::ArrayVec;
 use std::marker::Model;
 use wb_window::Reading;
@@ -72,8 +72,11 @@ impl Calibration {
         ensures calibration { IsCalibration self.now }
     {
         let points = self.points.as_slice();
+        let [lower, upper, above @ ..] = points else {
+            return None;
+        };
         let falls = falls(points);
-        let segment = segment_of(falls, points, counts)?;
+        let segment = segment_from(falls, *lower, *upper, above, counts);
         match Reading::of(segment.load(falls, counts)) {
             Reading::Load(tenths) => Some(tenths),
             Reading::Lost => None,

@@ -1,6 +1,6 @@
 //! The straight line between two neighbouring points.
-ghost use Rattle.std.specs.Prelude.{◌≡◌};
-ghost use Rattle.wb_calibration.specs.Line.{IsRounded, IsSegment, is_before, past, segment_of};
+ghost use Rattle.std.specs.Prelude.{◌≡◌, ◌≤◌, ◌^◌, pos, ◌≤ℤ◌, ◌<ℤ◌, unsigned_abs};
+ghost use Rattle.wb_calibration.specs.Line.{IsNearest, IsRounded, IsSegment, is_before, segment_from};
 
 use crate::Point;
 use crate::point::turned;
@@ -12,25 +12,26 @@ pub(crate) struct Segment {
     pub upper: Point,
 }
 
-/// The neighbours between which these counts lie, or those at the end that they are past.
-pub(crate) fn segment_of(falls: bool, points: &[Point], counts: i32) -> Option<Segment>
-    ensures { result ≡ segment_of falls points.now counts }
+/// The neighbours between which these counts lie, from two neighbours and the points above them on, or those at the end that
+/// the counts are past.
+pub(crate) fn segment_from(
+    falls: bool,
+    lower: Point,
+    upper: Point,
+    above: &[Point],
+    counts: i32,
+) -> Segment
+    ensures { result ≡ segment_from falls lower upper above.now counts }
 {
-    match points {
-        [] => None,
-        [lower, rest @ ..] => match rest {
-            [] => None,
-            [upper, above @ ..] => {
-                if above.is_empty() || is_before(falls, counts, upper.counts) {
-                    Some(Segment {
-                        lower: *lower,
-                        upper: *upper,
-                    })
-                } else {
-                    segment_of(falls, rest, counts)
-                }
+    match above {
+        [] => Segment { lower, upper },
+        [next, rest @ ..] => {
+            if is_before(falls, counts, upper.counts) {
+                Segment { lower, upper }
+            } else {
+                segment_from(falls, upper, *next, rest, counts)
             }
-        },
+        }
     }
 }
 
@@ -51,6 +52,17 @@ impl Segment {
         let run = turned(falls, self.upper.counts) - lowest;
         let past = turned(falls, counts) - lowest;
         let rise = i64::from(self.upper.tenths - self.lower.tenths);
-        i64::from(self.lower.tenths) + (2 * (past * rise) + run).div_euclid(2 * run)
+        i64::from(self.lower.tenths) + nearest(past * rise, run)
     }
+}
+
+/// A product divided by a run, rounded to a whole number, an exact half up.
+fn nearest(product: i64, run: i64) -> i64
+    requires product { unsigned_abs product ≤ 2 ^ 60 }
+    requires positive { pos 0 <ℤ run }
+    requires run { run ≤ℤ pos (2 ^ 60) }
+    ensures nearest { IsNearest product run result }
+    ensures small { unsigned_abs result ≤ 2 ^ 62 }
+{
+    (2 * product + run).div_euclid(2 * run)
 }
