@@ -1,3 +1,4 @@
+pub mod Faults
 pub mod Products
 pub mod Rounding
 pub mod Segments
