@@ -1,4 +1,6 @@
 pub mod Faults
+pub mod Lines
+pub mod Loads
 pub mod Products
 pub mod Rounding
 pub mod Segments
