@@ -1,14 +1,13 @@
 -- Points without a fault are those of a calibration.
-use Rattle.std.proofs.Common.{◌≡◌, refl, sym, ◌≤◌, ℕ, ◌+◌, nat_lt, Bool, true, false, ◌&&◌, ℤ, pos, ◌≤ℤ◌, int_le, List, [], ◌∷◌, length, Option, Some, None, if◌then◌else◌, arith, nltb→le, le-ltb}
+use Rattle.std.proofs.Common.{◌≡◌, refl, sym, ℕ, ◌+◌, nat_lt, Bool, true, false, ◌&&◌, pos, int_le, List, [], ◌∷◌, length, Option, Some, None, if◌then◌else◌, arith, le-ltb}
 use Rattle.std.proofs.lemmas.Int.{ints}
 use Rattle.wb_window.specs.Reading.{greatest_load}
-use Rattle.wb_calibration.specs.declared.fault.CalibrationFault.{CalibrationFault}
 use Rattle.wb_calibration.specs.declared.fault.CalibrationFault.TheVariants.{Few, Many, Load, Loads, Counts}
 use Rattle.wb_calibration.specs.declared.point.Point.{Point}
 use Rattle.wb_calibration.specs.Calibration.{AreApart, AreBehind, IsCalibration, IsPoint}
 use Rattle.wb_calibration.specs.Fault.{are_apart_counts, are_apart_loads, fault_from, fault_of, fault_within, is_load}
 use Rattle.wb_calibration.specs.Laws.{FaultlessAre}
-use Rattle.wb_calibration.specs.Turned.{falls, turned}
+use Rattle.wb_calibration.specs.Turned.{falls}
 
 -- the tests
 both : (a b : Bool) → (a && b) ≡ true → (a ≡ true) × (b ≡ true)

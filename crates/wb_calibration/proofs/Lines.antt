@@ -1,12 +1,12 @@
 -- The line of a calibration's counts, and its laws.
-use Rattle.std.proofs.Common.{◌≡◌, refl, sym, ap, ◌≤◌, ℕ, zero as nought, suc, Bool, true, false, ℤ, pos, ◌+ℤ◌, ◌-ℤ◌, ◌*ℤ◌, ◌≤ℤ◌, List, [], ◌∷◌, length, slice_get, Option, Some, None, unwrap_or, if◌then◌else◌, arith}
-use Rattle.std.proofs.lemmas.Int.{ints, by_lt_z}
+use Rattle.std.proofs.Common.{◌≡◌, refl, sym, ap, ℕ, zero as nought, suc, Bool, true, false, ℤ, pos, ◌+ℤ◌, ◌*ℤ◌, ◌≤ℤ◌, List, [], ◌∷◌, slice_get, Option, Some, unwrap_or, if◌then◌else◌, arith}
+use Rattle.std.proofs.lemmas.Int.{ints}
 use Rattle.std.specs.Int.{int_div_euclid}
 use Rattle.wb_calibration.specs.declared.point.Point.{Point}
 use Rattle.wb_calibration.specs.declared.segment.Segment.{Segment}
-use Rattle.wb_calibration.specs.Calibration.{AreBehind, IsCalibration, IsPoint}
+use Rattle.wb_calibration.specs.Calibration.{AreBehind, IsPoint}
 use Rattle.wb_calibration.specs.Laws.{AllInOrder, AllNear, AllOnLine, ExactAtPoints}
-use Rattle.wb_calibration.specs.Line.{IsLoad, IsNearest, IsOnLine, IsRounded, IsSegment, is_before, past, rise, run, segment_from}
+use Rattle.wb_calibration.specs.Line.{IsRounded, IsSegment, is_before, past, rise, run, segment_from}
 use Rattle.wb_calibration.specs.Turned.{falls, turned}
 use Rattle.wb_calibration.proofs.Rounding.{IsNearest-quotient, IsRounded-lower, IsRounded-nearest, IsRounded-order, IsRounded-upper, positive_run}
 use Rattle.wb_calibration.proofs.Segments.{IsRounded-on_line, IsSegment-from}

@@ -1,5 +1,5 @@
 -- The load of counts is the one that is rounded on their segment, where a converter may hand it in.
-use Rattle.std.proofs.Common.{◌≡◌, refl, sym, ap, ◌∙◌, ◌-◌, ◌≤◌, ◌⊎◌, ◌↔◌, inl, inr, Bool, true, false, ◌&&◌, ℤ, pos, neg_ℤ, ◌-ℤ◌, ◌≤ℤ◌, ◌<ℤ◌, int_le, List, [], ◌∷◌, length, get_or, take, drop, Option, Some, None, unwrap_or, if◌then◌else◌, arith}
+use Rattle.std.proofs.Common.{◌≡◌, refl, sym, ap, ◌∙◌, ◌-◌, ◌≤◌, ◌⊎◌, ◌↔◌, inl, inr, Bool, true, false, ◌&&◌, ℤ, neg_ℤ, ◌≤ℤ◌, int_le, List, [], ◌∷◌, length, get_or, take, drop, Option, Some, None, unwrap_or, if◌then◌else◌, arith}
 use Rattle.std.proofs.lemmas.Int.{ints}
 use Rattle.std.proofs.lemmas.List.{take_all}
 use Rattle.wb_window.specs.Reading.{greatest_load, reading_of}

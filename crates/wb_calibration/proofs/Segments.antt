@@ -1,5 +1,5 @@
 -- The segments of a calibration.
-use Rattle.std.proofs.Common.{◌≡◌, ap, Bool, true, false, ℤ, List, [], ◌∷◌, length, ◌≤◌, Option, Some, None, unwrap_or, if◌then◌else◌, subst, arith}
+use Rattle.std.proofs.Common.{◌≡◌, ap, Bool, true, false, ℤ, List, [], ◌∷◌, Option, unwrap_or, if◌then◌else◌}
 use Rattle.wb_calibration.specs.declared.point.Point.{Point}
 use Rattle.wb_calibration.specs.declared.segment.Segment.{Segment}
 use Rattle.wb_calibration.specs.Calibration.{AreBehind, IsPoint}

@@ -1,5 +1,5 @@
 -- How large the numbers of a segment are.
-use Rattle.std.proofs.Common.{◌≡◌, sym, ◌*◌, ◌≤◌, Bool, ℤ, pos, neg_ℤ, ◌+ℤ◌, ◌-ℤ◌, ◌*ℤ◌, ◌≤ℤ◌, unsigned_abs, SFits, w32, arith, le_trans}
+use Rattle.std.proofs.Common.{◌≤◌, Bool, ℤ, pos, ◌*ℤ◌, ◌≤ℤ◌, unsigned_abs, SFits, w32, arith}
 use Rattle.std.proofs.lemmas.Int.{ints, unsigned_abs-mul}
 use Rattle.std.proofs.lemmas.Nat.{mul-le}
 use Rattle.wb_calibration.specs.declared.segment.Segment.{Segment}

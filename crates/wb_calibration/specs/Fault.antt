@@ -1,5 +1,5 @@
 -- What is wrong with the points of a calibration: the first fault, by its place from 1.
-use Rattle.std.specs.Prelude.{ℕ, ◌+◌, nat_lt, Bool, true, false, ℤ, pos, ◌+ℤ◌, int_le, List, [], ◌∷◌, length, Option, Some, None, ◌&&◌, if◌then◌else◌}
+use Rattle.std.specs.Prelude.{ℕ, ◌+◌, nat_lt, Bool, ℤ, pos, ◌+ℤ◌, int_le, List, [], ◌∷◌, length, Option, Some, None, ◌&&◌, if◌then◌else◌}
 use Rattle.wb_window.specs.Reading.{greatest_load}
 use Rattle.wb_calibration.specs.declared.fault.CalibrationFault.{CalibrationFault}
 use Rattle.wb_calibration.specs.declared.fault.CalibrationFault.TheVariants.{Few, Many, Load, Loads, Counts}

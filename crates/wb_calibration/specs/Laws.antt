@@ -1,5 +1,5 @@
 -- Laws of every calibration.
-use Rattle.std.specs.Prelude.{◌≡◌, ◌↔◌, ℕ, ℤ, pos, neg_ℤ, ◌+ℤ◌, ◌-ℤ◌, ◌*ℤ◌, ◌≤ℤ◌, List, Some, None, slice_get}
+use Rattle.std.specs.Prelude.{◌≡◌, ◌↔◌, ℕ, ℤ, pos, neg_ℤ, ◌-ℤ◌, ◌*ℤ◌, ◌≤ℤ◌, List, Some, None, slice_get}
 use Rattle.wb_calibration.specs.declared.point.Point.{Point}
 use Rattle.wb_calibration.specs.Calibration.{IsCalibration}
 use Rattle.wb_calibration.specs.Fault.{fault_of}

@@ -1,4 +1,4 @@
-use Rattle.std.proofs.Common.{◌≡◌, ◌+ℤ◌, pos, SFits, w32, w64, to_z, of_z, rules, arith, refl, sym}
+use Rattle.std.proofs.Common.{◌≡◌, ◌+ℤ◌, pos, SFits, w32, w64, to_z, of_z, rules, arith}
 use Rattle.std.proofs.lemmas.Int.{ints}
 use Rattle.wb_calibration.specs.Turned.{turned}
 use Rattle.wb_calibration.proofs.Turning.{turned_between, turned_passed}

@@ -1,4 +1,4 @@
-use Rattle.std.proofs.Common.{◌≡◌, ◌∙◌, sym, ◌-◌, ◌≤◌, Bool, true, false, ℤ, List, [], ◌∷◌, SFits, w32, to_z, of_z, rules, arith, to_z-of_z, get_or, take, drop, length}
+use Rattle.std.proofs.Common.{◌≡◌, ◌∙◌, sym, ◌-◌, ◌≤◌, Bool, false, ℤ, List, [], ◌∷◌, SFits, w32, to_z, of_z, rules, arith, to_z-of_z, get_or, take, drop, length}
 use Rattle.std.proofs.lemmas.List.{take_all}
 use Rattle.wb_calibration.specs.declared.point.Point.{Point}
 use Rattle.wb_calibration.specs.Line.{segment_from, is_before}

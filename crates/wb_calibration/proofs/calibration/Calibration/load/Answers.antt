@@ -1,8 +1,8 @@
-use Rattle.std.proofs.Common.{◌≡◌, sym, ◌∙◌, ◌-◌, ℕ, get_or, take, drop, length, pos, Some, to_z, of_z, to_z-of_z, w32, w64, SFits, rules}
+use Rattle.std.proofs.Common.{◌≡◌, sym, ◌∙◌, to_z, of_z, to_z-of_z, w32, w64, SFits, rules}
 use Rattle.wb_window.specs.Reading.{reading_of}
 use Rattle.wb_window.specs.declared.reading.Reading.TheVariants.{Load, Lost}
-use Rattle.wb_calibration.specs.Line.{segment_from, segment_of, IsNearest, IsRounded, IsSegment}
-use Rattle.wb_calibration.specs.Turned.{falls, turned}
+use Rattle.wb_calibration.specs.Line.{IsRounded}
+use Rattle.wb_calibration.specs.Turned.{falls}
 use Rattle.wb_calibration.specs.Calibration.{IsCalibration}
 use Rattle.wb_calibration.proofs.Loads.{segment_of-found, IsSegment-found, load_clause, lost_clause}
 use Rattle.wb_calibration.proofs.calibration.Calibration.load.Goals as goal

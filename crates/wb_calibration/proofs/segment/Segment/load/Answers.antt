@@ -1,10 +1,10 @@
-use Rattle.std.proofs.Common.{rules, sym, ◌∙◌, ◌≡◌, ℕ, ◌+◌, ◌-◌, ◌*◌, ◌<◌, ◌≤◌, Bool, Fits, w8, w32, w64, ℤ, pos, ◌+ℤ◌, ◌-ℤ◌, ◌*ℤ◌, ◌≤ℤ◌, ◌<ℤ◌, SFits, FitsSigned, to_z, of_z, to_z-of_z, unsigned_abs, arith}
+use Rattle.std.proofs.Common.{rules, ◌≡◌, ◌≤◌, Bool, w32, w64, ℤ, pos, ◌+ℤ◌, ◌-ℤ◌, ◌*ℤ◌, ◌≤ℤ◌, SFits, to_z, of_z, to_z-of_z, unsigned_abs, arith}
 use Rattle.std.proofs.lemmas.Int.{ints, fits_signed_from_abs}
 use Rattle.wb_calibration.specs.declared.segment.Segment.{Segment}
-use Rattle.wb_calibration.specs.Line.{IsNearest, IsRounded, IsSegment, past, rise, run}
+use Rattle.wb_calibration.specs.Line.{IsNearest, IsSegment, past, rise, run}
 use Rattle.wb_calibration.proofs.Rounding.{IsRounded-nearest, positive_run}
 use Rattle.wb_calibration.proofs.Turning.{turned_apart}
-use Rattle.wb_calibration.proofs.Sizes.{run_small, past_small, rise_small, product_small}
+use Rattle.wb_calibration.proofs.Sizes.{run_small, rise_small, product_small}
 use Rattle.wb_calibration.proofs.segment.Segment.load.Goals as goal
 
 -- the rise as the code has it
