@@ -67,9 +67,9 @@ calibration_from (p ∷ rest) e =
     let n = numbered (nat_lt (length (p ∷ rest)) 2) (nat_lt 8 (length (p ∷ rest))) Few Many (fault_within (p ∷ rest)) e in
     let k = first_of (is_load p.tenths) (Load 1) (fault_from (falls (p ∷ rest)) 2 p rest) n.2 in
     record {
-        two = grind (arith, n.0);
-        eight = grind (arith, n.1);
-        in_order = (IsPoint-tested p k.0, AreBehind-faultless (falls (p ∷ rest)) 2 p rest k.1)
+      two = grind (arith, n.0);
+      eight = grind (arith, n.1);
+      in_order = (IsPoint-tested p k.0, AreBehind-faultless (falls (p ∷ rest)) 2 p rest k.1);
     }
 
 fault_of-calibration : (points : List Point) → IsCalibration points → fault_of points ≡ None

@@ -73,9 +73,9 @@ exact_at_points (q ∷ r ∷ rest) is place p e =
     let k = exact_at falling q r rest is.in_order.0 is.in_order.1 place p e in
     let h = behind_at falling q (r ∷ rest) is.in_order.0 is.in_order.1 place p e in
     record {
-        on_line = record { segment = segment_from falling q r rest p.counts; neighbours = refl; rounded = k };
-        least = omega (arith, ints, h.0.0);
-        most = h.0.1
+      on_line = record { segment = segment_from falling q r rest p.counts; neighbours = refl; rounded = k };
+      least = omega (arith, ints, h.0.0);
+      most = h.0.1;
     }
 
 -- ---- in order
@@ -111,15 +111,15 @@ order_from falling lower upper (next ∷ above) is behind counts others tenths m
     let segment : IsSegment falling s = record { lower = is; upper = behind.0; apart = behind.1 } in
     first_cases (is_before falling counts upper.counts) s (segment_from falling upper next above counts) (λ t. IsRounded falling t counts tenths)
     (λ e k. first_cases (is_before falling others upper.counts) s (segment_from falling upper next above others) (λ t. IsRounded falling t others more)
-        (λ f j. IsRounded-order falling s segment counts others tenths more h k j)
-        (λ f j. let low = IsRounded-order falling s segment counts upper.counts tenths upper.tenths (omega (arith, ints, e)) k (IsRounded-upper falling s segment) in
-            let high = from_first falling upper next above behind.0 behind.2 others more (omega (arith, ints, f)) j in
-            omega (arith, ints, low, high))
-        q)
+    (λ f j. IsRounded-order falling s segment counts others tenths more h k j)
+    (λ f j. let low = IsRounded-order falling s segment counts upper.counts tenths upper.tenths (omega (arith, ints, e)) k (IsRounded-upper falling s segment) in
+    let high = from_first falling upper next above behind.0 behind.2 others more (omega (arith, ints, f)) j in
+    omega (arith, ints, low, high))
+    q)
     (λ e k. first_cases (is_before falling others upper.counts) s (segment_from falling upper next above others) (λ t. IsRounded falling t others more)
-        (λ f j. absurd (omega (arith, ints, e, f, h)))
-        (λ f j. order_from falling upper next above behind.0 behind.2 counts others tenths more h k j)
-        q)
+    (λ f j. absurd (omega (arith, ints, e, f, h)))
+    (λ f j. order_from falling upper next above behind.0 behind.2 counts others tenths more h k j)
+    q)
     r
 
 pub all_in_order : AllInOrder

@@ -65,16 +65,17 @@ pub load_clause : (points : List Point) (counts : ℤ) (s : Segment) (rounded te
     → IsRounded (falls points) s counts rounded → (read : ℤ) → Load read ≡ reading_of rounded → (Some read ≡ Some tenths) ↔ IsLoad points counts tenths
 load_clause points counts s rounded tenths is e r read k =
     elim (reading_cases rounded) as (λ _. (Some read ≡ Some tenths) ↔ IsLoad points counts tenths) [
-    inl h ↦
-        let same : read ≡ rounded = ap (λ v. load_or v read) (k ∙ h.0) in
-        let on : IsOnLine points counts rounded = record { segment = s; neighbours = e; rounded = r } in
-        let there : Some read ≡ Some tenths → IsLoad points counts tenths = λ t.
-            let is_rounded : tenths ≡ rounded = ap (λ o. unwrap_or o tenths) (sym t) ∙ same in
-            rw is_rounded (record { on_line = on; least = h.1.0; most = h.1.1 }) in
-        let back : IsLoad points counts tenths → Some read ≡ Some tenths = λ load.
-            ap Some (same ∙ sym (same_tenths points counts s rounded tenths is e r load.on_line)) in
-        (there, back)
-    | inr h ↦ absurd (cc (k, h.0)) ]
+      | inl h ↦
+          let same : read ≡ rounded = ap (λ v. load_or v read) (k ∙ h.0) in
+          let on : IsOnLine points counts rounded = record { segment = s; neighbours = e; rounded = r } in
+          let there : Some read ≡ Some tenths → IsLoad points counts tenths = λ t.
+          let is_rounded : tenths ≡ rounded = ap (λ o. unwrap_or o tenths) (sym t) ∙ same in
+          rw is_rounded (record { on_line = on; least = h.1.0; most = h.1.1 }) in
+          let back : IsLoad points counts tenths → Some read ≡ Some tenths = λ load.
+          ap Some (same ∙ sym (same_tenths points counts s rounded tenths is e r load.on_line)) in
+          (there, back)
+      | inr h ↦ absurd (cc (k, h.0))
+    ]
 
 -- and what a lost one says
 pub lost_clause : (points : List Point) (counts : ℤ) (s : Segment) (rounded tenths : ℤ) → IsCalibration points → segment_of points counts ≡ Some s
@@ -82,7 +83,9 @@ pub lost_clause : (points : List Point) (counts : ℤ) (s : Segment) (rounded te
 lost_clause points counts s rounded tenths is e r k =
     let there : None ≡ Some tenths → IsLoad points counts tenths = λ t. absurd (cc t) in
     let back : IsLoad points counts tenths → None ≡ Some tenths = λ load.
-        let same = same_tenths points counts s rounded tenths is e r load.on_line in
-        elim (reading_cases rounded) as (λ _. None ≡ Some tenths) [
-        inl h ↦ absurd (cc (k, h.0)) | inr h ↦ absurd (h.1 (rw (← same) (load.least, load.most))) ] in
+    let same = same_tenths points counts s rounded tenths is e r load.on_line in
+    elim (reading_cases rounded) as (λ _. None ≡ Some tenths) [
+      | inl h ↦ absurd (cc (k, h.0))
+      | inr h ↦ absurd (h.1 (rw (← same) (load.least, load.most)))
+    ] in
     (there, back)

@@ -22,7 +22,7 @@ pub mul_cancel : (k a b : ℤ) → pos 0 ≤ℤ k → (k *ℤ a) <ℤ (k *ℤ b 
 mul_cancel k a b p h =
     by_lt_z b a
     (λ less. let more : (b +ℤ pos 1) ≤ℤ a = omega (arith, ints) in
-        absurd (omega (arith, ints, mul_keeps k (b +ℤ pos 1) a p more, mul-one_more k b)))
+    absurd (omega (arith, ints, mul_keeps k (b +ℤ pos 1) a p more, mul-one_more k b)))
     (λ is. is)
 
 -- the quotient is rounded down

@@ -21,7 +21,7 @@ pub IsNearest-quotient : (product run q : ℤ) → pos 0 <ℤ run → q ≡ int_
 IsNearest-quotient product (pos n) q h e =
     let y = pos 2 *ℤ product +ℤ pos n in
     let k : ((pos (2 * n) *ℤ q) ≤ℤ y) × (y <ℤ (pos (2 * n) *ℤ q +ℤ pos (2 * n))) =
-        rw e (quotient_down y (pos (2 * n)) (omega (arith, ints))) in
+    rw e (quotient_down y (pos (2 * n)) (omega (arith, ints))) in
     record { below = omega (arith, ints, k.1); above = omega (arith, ints, k.0) }
 IsNearest-quotient product (negsuc n) q h e = absurd (omega (arith, ints))
 
@@ -38,7 +38,7 @@ IsRounded-order falling s is counts others tenths more h is_less is_more =
     let run_is = positive_run falling s is in
     let rise_is = positive_rise falling s is in
     let k : (tenths -ℤ s.lower.tenths) ≤ℤ (more -ℤ s.lower.tenths) =
-        rounds_in_order (run falling s) (rise s) (past falling s counts) (past falling s others) _ _ (omega (arith, ints, run_is)) (omega (arith, ints, rise_is)) (omega (arith, ints, h)) is_less.above is_more.below in
+    rounds_in_order (run falling s) (rise s) (past falling s counts) (past falling s others) _ _ (omega (arith, ints, run_is)) (omega (arith, ints, rise_is)) (omega (arith, ints, h)) is_less.above is_more.below in
     omega (arith, ints, k)
 
 -- nothing is rounded at the points themselves

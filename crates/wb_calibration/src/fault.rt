@@ -9,6 +9,7 @@ use thiserror::Error;
 
 /// The points that a calibration has.
 const LEAST_POINTS: usize = 2;
+
 const MOST_POINTS: usize = 8;
 
 /// The greatest load that a converter hands in, in tenths of the verification scale interval.
@@ -16,6 +17,7 @@ const GREATEST_LOAD: i32 = 2_000_000;
 
 /// How far neighbours are apart at least, in tenths of the verification scale interval and in counts.
 const LEAST_TENTHS_APART: i32 = 100;
+
 const LEAST_COUNTS_APART: i64 = 100;
 
 /// The first fault of the points of a calibration. Places are counted from 1.
