@@ -75,7 +75,7 @@ pub(crate) fn falls(points: &[Point]) -> bool
 
 /// The first fault of the points that follow one, the first of them at this place.
 fn fault_from(falls: bool, place: u8, before: Point, points: &[Point]) -> Option<CalibrationFault>
-    requires { place + length points.now ≤ 9 }
+    requires { place + length points.now ≤ u8.MAX }
     ensures { result ≡ fault_from falls place before points.now }
 {
     match points {
