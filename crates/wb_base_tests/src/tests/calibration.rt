@@ -124,13 +124,11 @@ fn gives_the_load_on_the_line_between_points(rt: HostRuntime) -> Result<(), Fail
 /// What a row shows, points, and what is said of them.
 struct Judged(&'static str, &'static [Pair], &'static str);
 
-static JUDGED: [Judged; 18] = [
+static JUDGED: [Judged; 16] = [
     Judged("no point", &[], "Few: 1 Few"),
     Judged("one point", &[(0, 0)], "Few: 1 Few"),
     Judged("two points", TIES, "rises, 2"),
     Judged("counts that fall", TURNED, "falls, 3"),
-    Judged("eight points", EIGHT, "rises, 8"),
-    Judged("nine points", NINE, "Many: 2 Many"),
     Judged(
         "a load below zero",
         &[(0, -1), (100, 100)],
@@ -189,30 +187,6 @@ static JUDGED: [Judged; 18] = [
     ),
 ];
 
-/// As many points as there may be, and one more.
-const EIGHT: &[Pair] = &[
-    (0, 0),
-    (100, 100),
-    (200, 200),
-    (300, 300),
-    (400, 400),
-    (500, 500),
-    (600, 600),
-    (700, 700),
-];
-
-const NINE: &[Pair] = &[
-    (0, 0),
-    (100, 100),
-    (200, 200),
-    (300, 300),
-    (400, 400),
-    (500, 500),
-    (600, 600),
-    (700, 700),
-    (800, 800),
-];
-
 fn note_judged(alloc: Global, pairs: &[Pair], answer: &mut String) -> Result<(), Fail> {
     match calibration_of(alloc, pairs)? {
         Ok(calibration) => {
@@ -242,6 +216,39 @@ fn is_judged(rt: &impl Abort, alloc: Global, row: &Judged) -> Result<(), Fail> {
 fn names_the_first_fault_of_points(rt: HostRuntime) -> Result<(), Fail> {
     for row in JUDGED.as_slice() {
         is_judged(&rt, rt.alloc(), row)?;
+    }
+    Ok(())
+}
+
+/// One point more than there may be.
+const NINE: &[Pair] = &[
+    (0, 0),
+    (100, 100),
+    (200, 200),
+    (300, 300),
+    (400, 400),
+    (500, 500),
+    (600, 600),
+    (700, 700),
+    (800, 800),
+];
+
+/// What is said of the first so many of nine points.
+fn judged_of_nine(alloc: Global, number: usize) -> Result<Option<CalibrationFault>, Fail> {
+    let pairs = NINE.get(..number).unwrap_or(&[]);
+    Ok(calibration_of(alloc, pairs)?.err())
+}
+
+#[test]
+fn takes_two_to_eight_points(rt: HostRuntime) -> Result<(), Fail> {
+    for number in 0..=9 {
+        let fault = judged_of_nine(rt.alloc(), number)?;
+        let wanted = match number {
+            0 | 1 => Some(CalibrationFault::Few),
+            9 => Some(CalibrationFault::Many),
+            _ => None,
+        };
+        assert!(rt; fault == wanted, "{number} points: {fault:?}");
     }
     Ok(())
 }
