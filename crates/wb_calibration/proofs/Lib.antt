@@ -1,3 +1,4 @@
+pub mod Between
 pub mod Faults
 pub mod Lines
 pub mod Loads

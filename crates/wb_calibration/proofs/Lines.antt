@@ -6,7 +6,8 @@ use Rattle.wb_calibration.specs.declared.point.Point.{Point}
 use Rattle.wb_calibration.specs.declared.segment.Segment.{Segment}
 use Rattle.wb_calibration.specs.Calibration.{AreBehind, IsPoint}
 use Rattle.wb_calibration.specs.Laws.{AllInOrder, AllNear, AllOnLine, ExactAtPoints}
-use Rattle.wb_calibration.specs.Line.{IsRounded, IsSegment, is_before, past, rise, run, segment_from}
+use Rattle.wb_calibration.specs.Line.{IsRounded, is_before, past, rise, run, segment_from}
+use Rattle.wb_calibration.specs.helpers.Neighbours.{IsSegment}
 use Rattle.wb_calibration.specs.Turned.{falls, turned}
 use Rattle.wb_calibration.proofs.Rounding.{IsNearest-quotient, IsRounded-lower, IsRounded-nearest, IsRounded-order, IsRounded-upper, positive_run}
 use Rattle.wb_calibration.proofs.Segments.{IsRounded-on_line, IsSegment-from}

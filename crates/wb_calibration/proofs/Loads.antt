@@ -1,5 +1,5 @@
 -- The load of counts is the one that is rounded on their segment, where a converter may hand it in.
-use Rattle.std.proofs.Common.{◌≡◌, refl, sym, ap, ◌∙◌, ◌-◌, ◌≤◌, ◌⊎◌, ◌↔◌, inl, inr, Bool, true, false, ◌&&◌, ℤ, neg_ℤ, ◌≤ℤ◌, int_le, List, [], ◌∷◌, length, get_or, take, drop, Option, Some, None, unwrap_or, if◌then◌else◌, arith}
+use Rattle.std.proofs.Common.{◌≡◌, refl, sym, ap, ◌∙◌, ◌-◌, ◌≤◌, ◌⊎◌, ◌↔◌, inl, inr, Bool, true, false, ◌&&◌, ℤ, neg_ℤ, ◌≤ℤ◌, int_le, List, [], ◌∷◌, length, get_or, take, drop, Option, Some, None, unwrap_or, if◌then◌else◌, SFits, w32, to_z, of_z, to_z-of_z, arith}
 use Rattle.std.proofs.lemmas.Int.{ints}
 use Rattle.std.proofs.lemmas.List.{take_all}
 use Rattle.wb_window.specs.Reading.{greatest_load, reading_of}
@@ -8,7 +8,8 @@ use Rattle.wb_window.specs.declared.reading.Reading.TheVariants.{Load, Lost}
 use Rattle.wb_calibration.specs.declared.point.Point.{Point}
 use Rattle.wb_calibration.specs.declared.segment.Segment.{Segment}
 use Rattle.wb_calibration.specs.Calibration.{IsCalibration}
-use Rattle.wb_calibration.specs.Line.{IsLoad, IsOnLine, IsRounded, IsSegment, segment_from, segment_of}
+use Rattle.wb_calibration.specs.Line.{IsLoad, IsOnLine, IsRounded, segment_from, segment_of}
+use Rattle.wb_calibration.specs.helpers.Neighbours.{IsSegment}
 use Rattle.wb_calibration.specs.Turned.{falls}
 use Rattle.wb_calibration.proofs.Rounding.{IsRounded-order}
 use Rattle.wb_calibration.proofs.Segments.{IsSegment-from}
@@ -22,6 +23,20 @@ segment_of-found (p ∷ q ∷ rest) falling counts s d n f e =
     let all : take (length (p ∷ q ∷ rest) - 2) (drop 2 (p ∷ q ∷ rest)) ≡ rest = take_all _ rest (omega arith) in
     let k : s ≡ segment_from (falls (p ∷ q ∷ rest)) p q rest counts = rw (all, f) at e in
     ap Some (sym k)
+
+-- with what the code passes on
+pub segment_of-passed : (points passed : List Point) (falling : Bool) (counts : ℤ) (s : Segment) (d : Point) → passed ≡ points → 2 ≤ length passed → falling ≡ falls passed → SFits w32 counts
+    → s ≡ segment_from falling (get_or passed 0 d) (get_or passed 1 d) (take (length passed - 2) (drop 2 passed)) (to_z w32 (of_z w32 counts))
+    → segment_of points counts ≡ Some s
+segment_of-passed points passed falling counts s d same n f fits e =
+    let k = segment_of-found passed falling counts s d n f (rw (to_z-of_z fits) at e) in
+    rw same at k
+
+pub IsRounded-passed : (points passed : List Point) (falling : Bool) (counts : ℤ) (s : Segment) (rounded : ℤ) → passed ≡ points → falling ≡ falls passed → SFits w32 counts
+    → IsRounded falling s (to_z w32 (of_z w32 counts)) rounded → IsRounded (falls points) s counts rounded
+IsRounded-passed points passed falling counts s rounded same f fits r =
+    let e : falling ≡ falls points = rw same at f in
+    rw (to_z-of_z fits, e) at r
 
 -- it is one of neighbours
 pub IsSegment-found : (points : List Point) (counts : ℤ) (s : Segment) → IsCalibration points → segment_of points counts ≡ Some s → IsSegment (falls points) s

@@ -3,7 +3,8 @@ use Rattle.std.proofs.Common.{◌≡◌, ◌*◌, Bool, ℤ, pos, negsuc, ◌+�
 use Rattle.std.proofs.lemmas.Int.{ints}
 use Rattle.std.specs.Int.{int_div_euclid}
 use Rattle.wb_calibration.specs.declared.segment.Segment.{Segment}
-use Rattle.wb_calibration.specs.Line.{IsNearest, IsRounded, IsSegment, past, rise, run}
+use Rattle.wb_calibration.specs.Line.{IsNearest, IsRounded, past, rise, run}
+use Rattle.wb_calibration.specs.helpers.Neighbours.{IsSegment}
 use Rattle.wb_calibration.specs.Turned.{turned}
 use Rattle.wb_calibration.proofs.Products.{mul_keeps, mul_cancel, quotient_down}
 

@@ -3,7 +3,8 @@ use Rattle.std.proofs.Common.{◌≡◌, ap, Bool, true, false, ℤ, List, [], �
 use Rattle.wb_calibration.specs.declared.point.Point.{Point}
 use Rattle.wb_calibration.specs.declared.segment.Segment.{Segment}
 use Rattle.wb_calibration.specs.Calibration.{AreBehind, IsPoint}
-use Rattle.wb_calibration.specs.Line.{IsOnLine, IsRounded, IsSegment, is_before, segment_from}
+use Rattle.wb_calibration.specs.Line.{IsOnLine, IsRounded, is_before, segment_from}
+use Rattle.wb_calibration.specs.helpers.Neighbours.{IsSegment}
 use Rattle.wb_calibration.specs.Turned.{falls}
 
 -- any of them is one of neighbours of the calibration

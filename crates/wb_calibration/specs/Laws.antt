@@ -1,14 +1,27 @@
 -- Laws of every calibration.
-use Rattle.std.specs.Prelude.{◌≡◌, ◌↔◌, ℕ, ℤ, pos, neg_ℤ, ◌-ℤ◌, ◌*ℤ◌, ◌≤ℤ◌, List, Some, None, slice_get}
+use Rattle.std.specs.Prelude.{◌≡◌, ◌↔◌, ◌⊎◌, ℕ, ◌+◌, ℤ, pos, neg_ℤ, ◌-ℤ◌, ◌*ℤ◌, ◌≤ℤ◌, ◌<ℤ◌, List, length, Some, None, slice_get}
 use Rattle.wb_calibration.specs.declared.point.Point.{Point}
+use Rattle.wb_calibration.specs.declared.segment.Segment.{Segment}
 use Rattle.wb_calibration.specs.Calibration.{IsCalibration}
 use Rattle.wb_calibration.specs.Fault.{fault_of}
-use Rattle.wb_calibration.specs.Line.{IsLoad, IsOnLine, past, rise, run}
+use Rattle.wb_calibration.specs.Line.{IsLoad, IsOnLine, past, rise, run, segment_of}
 use Rattle.wb_calibration.specs.Turned.{falls, turned}
 
 -- points without a fault are those of a calibration
 abbrev pub FaultlessAre : Type 0
 FaultlessAre = (points : List Point) → (fault_of points ≡ None) ↔ IsCalibration points
+
+-- counts lie between two neighbours, or past the end at which these are
+pub record LieBetween (points : List Point) (counts : ℤ) (s : Segment) : Type 0 where
+  pub place : ℕ
+  pub lower : slice_get points place ≡ Some s.lower
+  pub upper : slice_get points (place + 1) ≡ Some s.upper
+  pub from : (place ≡ 0) ⊎ (turned (falls points) s.lower.counts ≤ℤ turned (falls points) counts)
+  pub to : (place + 2 ≡ length points) ⊎ (turned (falls points) counts <ℤ turned (falls points) s.upper.counts)
+
+-- the two whose line holds are such
+abbrev pub AllBetween : Type 0
+AllBetween = (points : List Point) (counts : ℤ) (s : Segment) → segment_of points counts ≡ Some s → LieBetween points counts s
 
 -- all counts are those of some tenths on the line, so that they have no load only where a converter may hand none in
 abbrev pub AllOnLine : Type 0

@@ -3,7 +3,6 @@ use Rattle.std.specs.Prelude.{◌≡◌, Bool, ℤ, pos, neg_ℤ, ◌+ℤ◌, �
 use Rattle.wb_window.specs.Reading.{greatest_load}
 use Rattle.wb_calibration.specs.declared.point.Point.{Point}
 use Rattle.wb_calibration.specs.declared.segment.Segment.{Segment}
-use Rattle.wb_calibration.specs.Calibration.{AreApart, IsPoint}
 use Rattle.wb_calibration.specs.Turned.{falls, turned}
 
 -- counts stand for less load than others
@@ -20,12 +19,6 @@ segment_from falling lower upper (next ∷ above) counts =
 abbrev pub segment_of : List Point → ℤ → Option Segment
 segment_of (lower ∷ upper ∷ above) counts = Some (segment_from (falls (lower ∷ upper ∷ above)) lower upper above counts)
 segment_of _ counts = None
-
--- neighbours of a calibration
-pub record IsSegment (falling : Bool) (s : Segment) : Type 0 where
-  pub lower : IsPoint s.lower
-  pub upper : IsPoint s.upper
-  pub apart : AreApart falling s.lower s.upper
 
 -- counts from the lower point to the upper
 abbrev pub run : Bool → Segment → ℤ

@@ -1,9 +1,14 @@
 //! Laws on every calibration.
-ghost use Rattle.wb_calibration.specs.Laws.{AllInOrder, AllNear, AllOnLine, ExactAtPoints, FaultlessAre};
+ghost use Rattle.wb_calibration.specs.Laws.{AllBetween, AllInOrder, AllNear, AllOnLine, ExactAtPoints, FaultlessAre};
 
 /// The points without a fault are those of a calibration.
 pub fn law_of_faultless_points()
     ensures { FaultlessAre }
+{}
+
+/// The two points whose line holds are those between which the counts lie, or those at the end that the counts are past.
+pub fn law_of_neighbours()
+    ensures { AllBetween }
 {}
 
 /// All counts are those of some tenths on the line.

@@ -1,6 +1,7 @@
 //! The straight line between two neighbouring points.
 ghost use Rattle.std.specs.Prelude.{◌≡◌, ◌≤◌, ◌^◌, pos, ◌≤ℤ◌, ◌<ℤ◌, unsigned_abs};
-ghost use Rattle.wb_calibration.specs.Line.{IsNearest, IsRounded, IsSegment, is_before, segment_from};
+ghost use Rattle.wb_calibration.specs.Line.{IsNearest, IsRounded, is_before, segment_from};
+ghost use Rattle.wb_calibration.specs.helpers.Neighbours.{IsSegment};
 
 use crate::Point;
 use crate::point::turned;
