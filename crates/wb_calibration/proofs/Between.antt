@@ -1,10 +1,10 @@
 -- The two points whose line holds are those between which the counts lie.
-use Rattle.std.proofs.Common.{◌≡◌, refl, sym, ap, ℕ, suc, ◌+◌, ◌⊎◌, inl, inr, Bool, true, false, ℤ, ◌≤ℤ◌, ◌<ℤ◌, List, [], ◌∷◌, length, slice_get, Option, Some, unwrap_or, if◌then◌else◌, arith}
+use Rattle.std.proofs.Common.{◌≡◌, refl, ap, ℕ, suc, ◌+◌, ◌⊎◌, inl, inr, Bool, true, false, ℤ, ◌≤ℤ◌, ◌<ℤ◌, List, [], ◌∷◌, length, slice_get, Option, Some, unwrap_or, if◌then◌else◌, arith}
 use Rattle.std.proofs.lemmas.Int.{ints}
 use Rattle.wb_calibration.specs.declared.point.Point.{Point}
 use Rattle.wb_calibration.specs.declared.segment.Segment.{Segment}
-use Rattle.wb_calibration.specs.Laws.{AllBetween, LieBetween}
-use Rattle.wb_calibration.specs.Line.{is_before, segment_from, segment_of}
+use Rattle.wb_calibration.specs.Laws.{AllBetween}
+use Rattle.wb_calibration.specs.Line.{is_before, segment_from}
 use Rattle.wb_calibration.specs.Turned.{falls, turned}
 
 -- whichever way the counts go
@@ -25,14 +25,14 @@ LieFrom-more : (falling : Bool) (lower upper : Point) (above : List Point) (coun
 LieFrom-more falling lower upper above counts s passed k =
     let next : suc k.place + 1 ≡ suc (k.place + 1) = omega arith in
     let first : k.place ≡ 0 → turned falling s.lower.counts ≤ℤ turned falling counts = λ z.
-        let e : upper ≡ s.lower = ap (λ (o : Option Point). unwrap_or o upper) (rw z at k.lower) in
-        rw (← e) passed in
+    let e : upper ≡ s.lower = ap (λ (o : Option Point). unwrap_or o upper) (rw z at k.lower) in
+    rw (← e) passed in
     record {
-        place = suc k.place;
-        lower = k.lower;
-        upper = rw next k.upper;
-        from = elim k.from as (λ _. (suc k.place ≡ 0) ⊎ (turned falling s.lower.counts ≤ℤ turned falling counts)) [ inl z ↦ inr (first z) | inr h ↦ inr h ];
-        to = elim k.to as (λ _. (suc k.place + 2 ≡ length (lower ∷ upper ∷ above)) ⊎ (turned falling counts <ℤ turned falling s.upper.counts)) [ inl z ↦ inl (omega (arith, z)) | inr h ↦ inr h ]
+      place = suc k.place;
+      lower = k.lower;
+      upper = rw next k.upper;
+      from = elim k.from as (λ _. (suc k.place ≡ 0) ⊎ (turned falling s.lower.counts ≤ℤ turned falling counts)) [ inl z ↦ inr (first z) | inr h ↦ inr h ];
+      to = elim k.to as (λ _. (suc k.place + 2 ≡ length (lower ∷ upper ∷ above)) ⊎ (turned falling counts <ℤ turned falling s.upper.counts)) [ inl z ↦ inl (omega (arith, z)) | inr h ↦ inr h ];
     }
 
 between_from : (falling : Bool) (lower upper : Point) (above : List Point) (counts : ℤ) → LieFrom falling (lower ∷ upper ∷ above) counts (segment_from falling lower upper above counts)

@@ -17,6 +17,7 @@ mod segment;
 pub use calibration::Calibration;
 pub use fault::CalibrationFault;
 pub use laws::{
-    law_of_all_counts, law_of_faultless_points, law_of_nearness, law_of_neighbours, law_of_order, law_of_points,
+    law_of_all_counts, law_of_faultless_points, law_of_nearness, law_of_neighbours, law_of_order,
+    law_of_points,
 };
 pub use point::Point;

@@ -1,4 +1,4 @@
-use Rattle.std.proofs.Common.{◌≡◌, sym, ◌∙◌, to_z, of_z, to_z-of_z, w32, w64, SFits, rules}
+use Rattle.std.proofs.Common.{◌≡◌, sym, ◌∙◌, to_z-of_z, w32, w64, SFits, rules}
 use Rattle.wb_window.specs.Reading.{reading_of}
 use Rattle.wb_window.specs.declared.reading.Reading.TheVariants.{Load, Lost}
 use Rattle.wb_calibration.proofs.Loads.{segment_of-passed, IsSegment-found, IsRounded-passed, load_clause, lost_clause}
