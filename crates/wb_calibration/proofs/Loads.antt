@@ -1,4 +1,4 @@
--- The load of counts is the one that is rounded on their segment, where a converter may hand it in.
+-- The load of counts is the one that is rounded on their segment, if a converter may hand it in.
 use Rattle.std.proofs.Common.{◌≡◌, refl, sym, ap, ◌∙◌, ◌-◌, ◌≤◌, ◌⊎◌, ◌↔◌, inl, inr, Bool, true, false, ◌&&◌, ℤ, neg_ℤ, ◌≤ℤ◌, int_le, List, [], ◌∷◌, length, get_or, take, drop, Option, Some, None, unwrap_or, if◌then◌else◌, SFits, w32, to_z, of_z, to_z-of_z, arith}
 use Rattle.std.proofs.lemmas.Int.{ints}
 use Rattle.std.proofs.lemmas.List.{take_all}

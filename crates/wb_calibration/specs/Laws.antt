@@ -23,7 +23,7 @@ pub record LieBetween (points : List Point) (counts : ℤ) (s : Segment) : Type 
 abbrev pub AllBetween : Type 0
 AllBetween = (points : List Point) (counts : ℤ) (s : Segment) → segment_of points counts ≡ Some s → LieBetween points counts s
 
--- all counts are those of some tenths on the line, so that they have no load only where a converter may hand none in
+-- all counts are those of some tenths on the line, so that they have no load only if a converter may not hand that in
 abbrev pub AllOnLine : Type 0
 AllOnLine = (points : List Point) → IsCalibration points → (counts : ℤ) → (tenths : ℤ) × IsOnLine points counts tenths
 
@@ -32,7 +32,7 @@ abbrev pub ExactAtPoints : Type 0
 ExactAtPoints = (points : List Point) → IsCalibration points
     → (place : ℕ) (p : Point) → slice_get points place ≡ Some p → IsLoad points p.counts p.tenths
 
--- more counts give no less tenths, or fewer counts, where they fall; the same counts give the same
+-- more counts give no less load, or fewer counts, if they fall; the same counts give the same
 abbrev pub AllInOrder : Type 0
 AllInOrder = (points : List Point) → IsCalibration points
     → (counts others tenths more : ℤ) → turned (falls points) counts ≤ℤ turned (falls points) others

@@ -48,7 +48,7 @@ pub record IsOnLine (points : List Point) (counts tenths : ℤ) : Type 0 where
   pub neighbours : segment_of points counts ≡ Some segment
   pub rounded : IsRounded (falls points) segment counts tenths
 
--- tenths are the load of counts: those on the line, where a converter may hand them in
+-- tenths are the load of counts: those on the line, if a converter may hand them in
 pub record IsLoad (points : List Point) (counts tenths : ℤ) : Type 0 where
   pub on_line : IsOnLine points counts tenths
   pub least : neg_ℤ greatest_load ≤ℤ tenths

@@ -7,7 +7,7 @@ abbrev pub falls : List Point → Bool
 falls (first ∷ second ∷ rest) = int_lt second.counts first.counts
 falls _ = false
 
--- counts as they rise with the load: with the other sign where they fall
+-- counts as they rise with the load: with the other sign if they fall
 abbrev pub turned : Bool → ℤ → ℤ
 turned true counts = neg_ℤ counts
 turned false counts = counts
