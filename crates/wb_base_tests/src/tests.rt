@@ -1,4 +1,5 @@
 //! Values from outside, a file for each crate.
+mod calibration;
 mod command_line;
 mod instrument;
 mod journal;

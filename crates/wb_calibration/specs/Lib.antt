@@ -1,0 +1,7 @@
+-- The rules, in the order in which to read them; the helpers are for private functions and proofs alone.
+pub mod Turned
+pub mod Calibration
+pub mod Fault
+pub mod Line
+pub mod Laws
+pub mod helpers
