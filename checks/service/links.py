@@ -21,6 +21,15 @@ def paths(pattern):
     return sorted(glob.glob(pattern, root_dir=TOP, recursive=True))
 
 
+def page_missing(name, section):
+    """Why a page of docs/, or a section of it, isn't there; None if it is."""
+    if not os.path.exists(os.path.join(TOP, "docs", name)):
+        return f"there is no page {name}"
+    if section and section not in re.findall(r"(?m)^#+ (.*)$", read(f"docs/{name}")):
+        return f"docs/{name} has no section {section}"
+    return None
+
+
 # Rules
 
 
