@@ -86,11 +86,11 @@ def formed(text, names):
 
 
 class Shell:
-    """A shell in a folder of its own, in which commands leave what they leave for the next."""
+    """A shell in a folder of its own, in which commands leave what they leave for the next. `weighbridge` is the one in the folder `of`."""
 
-    def __init__(self, folder):
+    def __init__(self, folder, of=TOP):
         commands, self.commands = os.pipe()
-        environment = {**os.environ, "PATH": TOP + os.pathsep + os.environ["PATH"], "LC_ALL": "C", "TZ": "UTC"}
+        environment = {**os.environ, "PATH": of + os.pathsep + os.environ["PATH"], "LC_ALL": "C", "TZ": "UTC"}
         self.process = subprocess.Popen(
             ["bash", "-c", SHELL, "bash", str(commands)],
             cwd=folder,
@@ -142,8 +142,7 @@ def check(name, page, tools, ports, names=()):
     steps = steps_of(os.path.join(TOP, page))
     names = {**dict(names), **ports_of(ports)}
     with tempfile.TemporaryDirectory() as folder:
-        os.symlink(os.path.join(TOP, "clients"), os.path.join(folder, "clients"))
-        shell = Shell(folder)
+        shell = shell_in(folder)
         try:
             for step in steps:
                 check_step(name, page, step, shell, names)
@@ -153,20 +152,35 @@ def check(name, page, tools, ports, names=()):
     return 0
 
 
+def shell_in(folder, program=None):
+    """A shell in this folder, in which clients/ is there. `weighbridge` is the program that is given, else the launcher."""
+    os.symlink(os.path.join(TOP, "clients"), os.path.join(folder, "clients"))
+    if program is None:
+        return Shell(folder)
+    of = os.path.join(folder, ".program")
+    os.mkdir(of)
+    os.symlink(os.path.abspath(program), os.path.join(of, "weighbridge"))
+    return Shell(folder, of)
+
+
 def ports_of(ports):
     """The addresses of these ports as a page writes them, with those of free ports."""
     free = [(port, bridge.free_port()) for port in ports]
     return {f"127.0.0.1{parted}{port}": f"127.0.0.1{parted}{it}" for port, it in free for parted in (":", " ")}
 
 
-def check_step(name, page, step, shell, names):
+def check_step(name, page, step, shell, names, is_told=True, is_exact=False):
+    """Runs a command of the page, and fails unless it prints what the page shows: to the letter if it is exact, else but for what differs each time."""
     command = step.command
     for known, value in names.items():
         command = command.replace(known, value)
     printed = shell.run(command)
     if printed is None:
         raise SystemExit(f"{name}: {page}:{step.line}: it doesn't end: {step.command}")
-    wanted, found = formed("\n".join(step.wanted), names), formed(printed, names)
+    wanted, found = "\n".join(step.wanted).strip("\n"), printed.strip("\n")
+    if not is_exact:
+        wanted, found = formed(wanted, names), formed(found, names)
     if wanted != found:
         raise SystemExit(f"{name}: {page}:{step.line}: {step.command}\nwanted:\n{wanted}\nfound:\n{found}")
-    print(f"{page}:{step.line}: ok", flush=True)
+    if is_told:
+        print(f"{page}:{step.line}: ok", flush=True)

@@ -2,8 +2,11 @@
 #![tactic(auto)]
 
 mod service;
+mod sources;
 
 use crate::service::serve_bridge;
+use crate::sources::SOURCES;
+use clap::error::ErrorKind;
 use sqlite::Alter;
 use std::io;
 use std::process::ExitCode;
@@ -31,12 +34,18 @@ fn main(rt: HostRuntime) -> io::Result<ExitCode> {
             eprintln!(rt; "{fault}")?;
             Ok(ExitCode::from(fault.status()))
         }
-        Asked::WordsRefused(error) => {
-            error.print(&rt)?;
-            Ok(ExitCode::from(error.exit_code() as u8))
-        }
+        Asked::WordsRefused(error) => tell(&rt, &error),
         Asked::Nothing => Ok(ExitCode::from(REFUSED)),
     }
+}
+
+/// Prints the refusal of the words, the help or the version, and with the version of which sources the program was made.
+fn tell(rt: &HostRuntime, told: &clap::Error) -> io::Result<ExitCode> {
+    told.print(rt)?;
+    if told.kind() == ErrorKind::DisplayVersion {
+        println!(rt; "sources {SOURCES}")?;
+    }
+    Ok(ExitCode::from(told.exit_code() as u8))
 }
 
 /// Replays the trace on standard input, and reports how it ended, unless it was done.
