@@ -159,7 +159,9 @@ def shell_in(folder, program=None):
         return Shell(folder)
     of = os.path.join(folder, ".program")
     os.mkdir(of)
-    os.symlink(os.path.abspath(program), os.path.join(of, "weighbridge"))
+    # A copy, since `rt ci` may leave the program as a file that isn't executable.
+    shutil.copyfile(program, os.path.join(of, "weighbridge"))
+    os.chmod(os.path.join(of, "weighbridge"), 0o755)
     return Shell(folder, of)
 
 
