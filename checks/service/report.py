@@ -1,8 +1,9 @@
-"""A report as Markdown and as HTML, and plots as SVG. It needs python3 alone."""
+"""A report as Markdown and as HTML, and plots as SVG. It needs python3 alone, and gnuplot for the plots."""
 import html as pages
 import re
+import subprocess
 
-WIDTH, HEIGHT, LEFT, BELOW, GAP = 520, 320, 90, 50, 30
+WIDTH, HEIGHT = 520, 320
 
 
 class Plot:
@@ -48,7 +49,7 @@ def html(blocks, image):
             lines += ["<tr>" + "".join(f"<td>{marked(it)}</td>" for it in cells) + "</tr>" for cells in rows]
             parts.append("<table>\n" + "\n".join(lines) + "\n</table>")
         else:
-            parts.append(image if kind == "image" else f"<{kind}>{marked(rest[0])}</{kind}>")
+            parts.append(image[image.index("<svg") :] if kind == "image" else f"<{kind}>{marked(rest[0])}</{kind}>")
     style = "body{font-family:sans-serif;margin:2em;max-width:75em}table{border-collapse:collapse}td,th{border:1px solid #999;padding:2px 6px;text-align:left}"
     title = next(rest[0] for kind, *rest in blocks if kind == "h1")
     head = f'<!DOCTYPE html>\n<html lang="en">\n<head>\n<meta charset="utf-8">\n<title>{marked(title)}</title>\n<style>{style}</style>\n</head>\n<body>\n'
@@ -56,43 +57,37 @@ def html(blocks, image):
 
 
 def svg(plots):
-    """The plots, side by side."""
-    width = len(plots) * (WIDTH + GAP)
-    lines = [
-        f'<svg xmlns="http://www.w3.org/2000/svg" width="{width}" height="{HEIGHT}" viewBox="0 0 {width} {HEIGHT}" font-family="sans-serif" font-size="11">',
-        f'<rect width="{width}" height="{HEIGHT}" fill="white"/>',
+    """The plots, side by side, as gnuplot draws them."""
+    words = [
+        f"set terminal svg size {len(plots) * WIDTH},{HEIGHT} fixed background 'white' font 'sans-serif,11'",
+        f"set multiplot layout 1,{len(plots)}",
+        "unset key",
+        "set border 3",
+        "set tics nomirror",
+        "set xlabel 'applied load in kg'",
+        "set ylabel 'indicated in kg'",
     ]
-    for place, plot in enumerate(plots):
-        lines += [f'<g transform="translate({place * (WIDTH + GAP)},0)">', *drawn(plot), "</g>"]
-    return "\n".join([*lines, "</svg>"]) + "\n"
+    for plot in plots:
+        words += drawn(plot)
+    return subprocess.run(["gnuplot"], input="\n".join([*words, ""]), capture_output=True, text=True, check=True).stdout
 
 
 def drawn(plot):
+    """Gnuplot's words for a plot: half an interval on either side of the load in grey, the load itself, and the points."""
     low, high = plot.span
     half = plot.interval / 2
-    first, last = low - plot.interval, high + plot.interval
-
-    def x(load):
-        return round(LEFT + (load - low) / (high - low) * (WIDTH - LEFT - 10), 1)
-
-    def y(shown):
-        return round(HEIGHT - BELOW - (shown - first) / (last - first) * (HEIGHT - BELOW - 30), 1)
-
-    def text(at, down, words, anchor="middle"):
-        return f'<text x="{at}" y="{down}" text-anchor="{anchor}">{words}</text>'
-
-    yield f'<polygon points="{x(low)},{y(low - half)} {x(high)},{y(high - half)} {x(high)},{y(high + half)} {x(low)},{y(low + half)}" fill="#ddd"/>'
-    yield f'<line x1="{x(low)}" y1="{y(low)}" x2="{x(high)}" y2="{y(high)}" stroke="#888"/>'
-    yield f'<line x1="{x(low)}" y1="{y(first)}" x2="{x(high)}" y2="{y(first)}" stroke="black"/>'
-    yield f'<line x1="{x(low)}" y1="{y(first)}" x2="{x(low)}" y2="{y(last)}" stroke="black"/>'
-    step = plot.interval
-    for mark in range(int(first // step) + 1, int(last // step) + 1):
-        yield text(LEFT - 6, y(mark * step) + 4, mark * step, "end")
-        if low <= mark * step <= high:
-            yield text(x(mark * step), HEIGHT - BELOW + 16, mark * step)
-            yield f'<line x1="{x(mark * step)}" y1="{y(first)}" x2="{x(mark * step)}" y2="{y(first) + 4}" stroke="black"/>'
-    for load, shown in plot.points:
-        yield f'<circle cx="{x(load)}" cy="{y(shown)}" r="2.5" fill="#036"/>'
-    yield text(WIDTH / 2, 18, plot.title)
-    yield text(WIDTH / 2, HEIGHT - 14, "applied load in kg")
-    yield f'<text transform="translate(16,{HEIGHT / 2}) rotate(-90)" text-anchor="middle">indicated in kg</text>'
+    yield f"set title '{plot.title}'"
+    yield f"set xrange [{low}:{high}]"
+    yield f"set yrange [{low - plot.interval}:{high + plot.interval}]"
+    yield f"set xtics {plot.interval}"
+    yield f"set ytics {plot.interval}"
+    yield "$points << END"
+    yield from (f"{load} {shown}" for load, shown in plot.points)
+    yield "END"
+    yield "$band << END"
+    yield from (f"{load} {load - half} {load + half}" for load in (low, high))
+    yield "END"
+    yield (
+        "plot $band using 1:2:3 with filledcurves fillcolor rgb '#dddddd', x with lines linecolor rgb '#888888', "
+        "$points with points pointtype 7 pointsize 0.4 linecolor rgb '#003366'"
+    )
