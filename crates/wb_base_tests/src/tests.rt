@@ -1,5 +1,6 @@
 //! Values from outside, a file for each crate.
 mod calibration;
+mod calibration_file;
 mod command_line;
 mod instrument;
 mod journal;
