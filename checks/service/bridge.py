@@ -84,6 +84,29 @@ class Played(Converter):
             time.sleep(0.002)
 
 
+class Fed:
+    """A converter that sends the loads that it is given, at once."""
+
+    def __init__(self):
+        self.listener = socket.create_server((HOST, 0))
+        self.source = f"tcp:{HOST}:{self.listener.getsockname()[1]}"
+        self.stream = None
+
+    def begin(self):
+        if self.stream is not None:
+            return
+        self.listener.settimeout(30)
+        self.stream, _ = self.listener.accept()
+        self.stream.setsockopt(socket.IPPROTO_TCP, socket.TCP_NODELAY, 1)
+
+    def send(self, *loads):
+        self.stream.sendall(b"".join(b"%d\n" % load for load in loads))
+
+    def close(self):
+        self.stream.close()
+        self.listener.close()
+
+
 class Service:
     """`weighbridge serve` over a file, with a converter that this program plays."""
 

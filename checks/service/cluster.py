@@ -1,0 +1,84 @@
+"""A PostgreSQL cluster of its own in a new folder, reached by a socket there, and ended with all that it started.
+
+Run by root the server gets the user postgres, else it runs as whoever calls. The default collation isn't C, so that a column which was left
+without one shows. It needs PostgreSQL 15 and python3 alone.
+"""
+
+import glob
+import os
+import shutil
+import subprocess
+import tempfile
+
+OWNER = "keeper"
+
+
+def folder_of_programs():
+    found = sorted(glob.glob("/usr/lib/postgresql/*/bin"))
+    return found[-1] if found else os.path.dirname(shutil.which("initdb") or "")
+
+
+BIN = folder_of_programs()
+
+
+def as_server(words, **options):
+    """Runs a program of the server as the user that it runs as."""
+    words = ["runuser", "-u", "postgres", "--", *words] if os.getuid() == 0 else words
+    return subprocess.run(words, check=True, stdout=subprocess.DEVNULL, stderr=subprocess.DEVNULL, stdin=subprocess.DEVNULL, **options)
+
+
+class Cluster:
+    """A server over data in a folder. `settings` are lines of its configuration."""
+
+    def __init__(self, folder=None, settings=(), make=True):
+        self.folder = folder or tempfile.mkdtemp(prefix="head_office.")
+        self.data = os.path.join(self.folder, "data")
+        if os.getuid() == 0:
+            shutil.chown(self.folder, "postgres")
+        if make:
+            words = [f"{BIN}/initdb", "-D", self.data, "-U", OWNER, "-A", "trust", "-E", "UTF8", "--locale=C.UTF-8"]
+            as_server([*words, "--locale-provider=icu", "--icu-locale=en-US"])
+        self.set(["listen_addresses = ''", f"unix_socket_directories = '{self.folder}'", *settings])
+
+    def set(self, lines):
+        with open(os.path.join(self.data, "postgresql.conf"), "a") as it:
+            it.write("".join(f"{line}\n" for line in lines))
+
+    def start(self):
+        as_server([f"{BIN}/pg_ctl", "-D", self.data, "-l", os.path.join(self.data, "log"), "-w", "start"], cwd=self.folder)
+
+    def stop(self, how="fast"):
+        """Stops it: `fast`, or `immediate`, without a checkpoint, as if the machine had failed."""
+        as_server([f"{BIN}/pg_ctl", "-D", self.data, "-m", how, "-w", "stop"], cwd=self.folder)
+
+    def environment(self, user=OWNER, database="head_office"):
+        return {**os.environ, "PGHOST": self.folder, "PGDATABASE": database, "PGUSER": user, "PGOPTIONS": ""}
+
+    def run(self, words, user=OWNER, database="head_office", given=None, **more):
+        """The status of a program that connects to it, and all that it printed."""
+        environment = {**self.environment(user, database), **more}
+        it = subprocess.run(words, input=given, capture_output=True, env=environment, timeout=300)
+        return it.returncode, (it.stdout + it.stderr).decode(errors="replace")
+
+    def ask(self, *statements, user=OWNER, database="head_office"):
+        """The status of statements, and their rows or refusals."""
+        words = ["psql", "-X", "-q", "-A", "-t", "-v", "ON_ERROR_STOP=1"]
+        for it in statements:
+            words += ["-c", it]
+        status, said = self.run(words, user, database)
+        return status, said.strip()
+
+    def told(self, *statements, user=OWNER, database="head_office"):
+        """The rows of statements that are answered."""
+        status, said = self.ask(*statements, user=user, database=database)
+        if status:
+            raise SystemExit(f"head_office: {statements}: {said}")
+        return said
+
+    def end(self):
+        """Stops it, if it runs, and removes it."""
+        try:
+            self.stop("immediate")
+        except subprocess.CalledProcessError:
+            pass
+        shutil.rmtree(self.folder, ignore_errors=True)

@@ -1,0 +1,42 @@
+"""A journal's file that is changed by hand, as an intruder at a bridge may, with digests made anew where he does so."""
+
+import sqlite3
+
+from journal import digest_of
+
+KINDS = ("first", "second", "single", "void")
+
+
+class File:
+    """The journal in a file that no service holds."""
+
+    def __init__(self, path):
+        self.path = path
+
+    def do(self, statement, *values):
+        """The rows that a statement shows."""
+        connection = sqlite3.connect(self.path)
+        rows = connection.execute(statement, values).fetchall()
+        connection.commit()
+        connection.close()
+        return rows
+
+    def number(self, where):
+        """The least number of an entry of which this holds."""
+        return self.do(f"SELECT min(number) FROM journal WHERE {where}")[0][0]
+
+    def change(self, number, what, *values):
+        """Changes an entry, and leaves its digest as it was."""
+        self.do(f"UPDATE journal SET {what} WHERE number = ?", *values, number)
+
+    def forge(self, number, what=None, *values):
+        """Changes an entry, and makes its digest anew."""
+        if what:
+            self.change(number, what, *values)
+        columns = "number, request_key, kind, plate, moment, ifnull(gross_kg, '-'), ifnull(preset_kg, '-'), max_kg, serial"
+        number, key, kind, plate, moment, gross, preset, most, serial = self.do(f"SELECT {columns} FROM journal WHERE number = ?", number)[0]
+        digest = digest_of(number, key, KINDS[kind - 1], plate, moment, gross, preset, most, serial)
+        self.do("UPDATE journal SET digest = ? WHERE number = ?", digest, number)
+
+    def take_out(self, where):
+        self.do(f"DELETE FROM journal WHERE {where}")

@@ -1,0 +1,10 @@
+-- psql -X -v ON_ERROR_STOP=1 -v bridge=NORTH -f load.sql < journal.csv
+-- One transaction: whatever breaks off before the commit leaves nothing. `\copy` takes no variable, so the export comes on standard input.
+\set QUIET on
+\set VERBOSITY terse
+\pset format unaligned
+\pset tuples_only on
+begin;
+\copy head_office.handed (number, key, kind, plate, moment, gross_kg, preset_kg, interval_kg, max_kg, serial, digest) from pstdin with (format csv, header match, force_not_null (digest), encoding 'UTF8')
+select head_office.take_in(:'bridge');
+commit;
