@@ -5,6 +5,6 @@
 \pset format unaligned
 \pset tuples_only on
 begin;
-\copy head_office.handed (number, key, kind, plate, moment, gross_kg, preset_kg, interval_kg, max_kg, serial, digest) from pstdin with (format csv, header match, force_not_null (digest), encoding 'UTF8')
+\copy head_office.handed (number, key, kind, plate, moment, gross_kg, preset_kg, interval_kg, max_kg, serial, digest) from pstdin with (format csv, header match, force_not_null (key, kind, plate, serial, digest), encoding 'UTF8')
 select head_office.take_in(:'bridge');
 commit;

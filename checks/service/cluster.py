@@ -32,7 +32,7 @@ class Cluster:
 
     def __init__(self, folder=None, settings=(), make=True):
         self.folder = folder or tempfile.mkdtemp(prefix="head_office.")
-        self.data = os.path.join(self.folder, "data")
+        self.data, self.port = os.path.join(self.folder, "data"), 5432
         if os.getuid() == 0:
             shutil.chown(self.folder, "postgres")
         if make:
@@ -52,7 +52,7 @@ class Cluster:
         as_server([f"{BIN}/pg_ctl", "-D", self.data, "-m", how, "-w", "stop"], cwd=self.folder)
 
     def environment(self, user=OWNER, database="head_office"):
-        return {**os.environ, "PGHOST": self.folder, "PGDATABASE": database, "PGUSER": user, "PGOPTIONS": ""}
+        return {**os.environ, "PGHOST": self.folder, "PGPORT": str(self.port), "PGDATABASE": database, "PGUSER": user, "PGOPTIONS": ""}
 
     def run(self, words, user=OWNER, database="head_office", given=None, **more):
         """The status of a program that connects to it, and all that it printed."""

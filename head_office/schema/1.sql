@@ -23,7 +23,7 @@ select format('grant connect on database %I to head_office_registrar, head_offic
 select format('grant temporary on database %I to head_office', current_database()) \gexec
 set local role head_office;
 set local search_path = head_office;
-alter default privileges in schema head_office revoke execute on functions from public;
+alter default privileges for role head_office revoke execute on functions from public;
 
 create table version (
     version integer primary key,
