@@ -63,26 +63,28 @@ impl<S: Read + OpenStream + Drop> Converter<S> {
         }
     }
 
-    /// The reading of the next line, or what came in its place: a lost reading for a second without a line, the end or a fault.
+    /// The reading of the next line, or what came in its place: a lost reading for a second without a line, the end or a fault. None
+    /// if nothing came for so long, or for a look where that is shorter.
     ///
     /// A line that may have come more than a second before is dropped. So a gap of more than a second, in which nobody called, hands
     /// in a lost reading for each whole second.
-    pub fn next(&mut self, clock: &impl Clock) -> Said
-        ensures { IsConverted result }
+    pub fn next_within(&mut self, clock: &impl Clock, patience: Duration) -> Option<Said>
+        ensures { IfSome result IsConverted }
     {
         for _ in 0..ENDLESS_LINE {
             if self.look(clock) {
                 if let Some(reading) = self.next_fresh(clock) {
-                    return Said::Line(reading);
+                    return Some(Said::Line(reading));
                 }
             } else if let Some(said) = self.without_line() {
-                return said;
+                return Some(said);
             } else {
-                self.wait(clock);
+                self.wait(clock, patience);
+                return None;
             }
         }
         // so many old lines, and no end of them
-        Said::Line(Reading::Lost)
+        Some(Said::Line(Reading::Lost))
     }
 
     /// Whether no line waits that has come, and the last one holds that was handed in: it came less than a second before, or a silent
@@ -163,9 +165,9 @@ impl<S: Read + OpenStream + Drop> Converter<S> {
         }
     }
 
-    /// Waits for what comes, a look long at most.
-    fn wait(&mut self, clock: &impl Clock) {
-        let look = Duration::from_millis(LOOK_MILLIS);
+    /// Waits for what comes, for so long and a look at most.
+    fn wait(&mut self, clock: &impl Clock, patience: Duration) {
+        let look = Duration::from_millis(LOOK_MILLIS).min(patience);
         let silent = self.looked.duration_since(self.heard);
         let left = Duration::from_secs(FRESH_SECONDS).saturating_sub(silent);
         let ready = self

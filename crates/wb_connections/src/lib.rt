@@ -18,7 +18,7 @@ mod terminal;
 pub use address::{AddressFault, listen, loopback};
 pub use connection::Requests;
 pub use converter::{Converter, ConverterFault};
-pub use limits::{ENDLESS_LINE, FINISH_SECONDS, PAUSE_MILLIS};
+pub use limits::{ENDLESS_LINE, FINISH_SECONDS, LOOK_MILLIS, PAUSE_MILLIS};
 pub use lines::{CONVERTER_ROOM, Lines};
 pub use office::Office;
 pub use ready::is_past;

@@ -38,13 +38,13 @@ pub(crate) const FRESH_SECONDS: u64 = 1;
 
 /// A wait for the converter is broken off after so many milliseconds, to see that nothing came. What is found by the next look came
 /// since, so the age of a line is known to that.
-pub(crate) const LOOK_MILLIS: u64 = 50;
+pub const LOOK_MILLIS: u64 = 50;
 
 /// A converter that is connected to answers at once, or within so many seconds.
 pub(crate) const CONNECT_SECONDS: u64 = 3;
 
-/// For so many milliseconds, a device or a client that has nothing now is left alone. At 200 looks a second a line is read at
-/// once, and the processor does next to nothing.
+/// For so many milliseconds, a device or a client that has nothing now is left alone, and so is one that takes no more of its response.
+/// At 200 looks a second a line is read at once, and the processor does next to nothing.
 pub const PAUSE_MILLIS: u64 = 5;
 
 /// The most bytes of a converter's line without its end; a longer one is a lost reading.

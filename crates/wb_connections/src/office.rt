@@ -86,6 +86,20 @@ where
         Some(connection.peer)
     }
 
+    /// Whether a response waits for its client.
+    pub fn is_responding(&self) -> bool {
+        self.connections.iter().any(|connection| matches!(connection.stage, Stage::Takes(_, _)))
+    }
+
+    /// Writes responses, and reads to its end what has one, as far as goes without waiting.
+    pub fn go_on<R: Eprint>(&mut self, now: Instant, report: &Report<'_, R>) {
+        let mut room = [0u8; REQUEST_ROOM];
+        for connection in self.connections.iter_mut() {
+            connection.go_on(now, &mut room);
+        }
+        self.close(report);
+    }
+
     /// Closes what has no response: it isn't judged any more.
     pub fn refuse<R: Eprint>(&mut self, report: &Report<'_, R>) {
         for connection in self.connections.iter_mut() {
@@ -96,11 +110,7 @@ where
 
     /// A step of the end: responses are written, and connections read to their end. True once nothing is left to do.
     pub fn finish<R: Eprint>(&mut self, now: Instant, report: &Report<'_, R>) -> bool {
-        let mut room = [0u8; REQUEST_ROOM];
-        for connection in self.connections.iter_mut() {
-            connection.go_on(now, &mut room);
-        }
-        self.close(report);
+        self.go_on(now, report);
         self.connections.is_empty()
     }
 

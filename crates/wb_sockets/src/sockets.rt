@@ -1,5 +1,6 @@
 //! The sources of a service, over real sockets and files.
 ghost use Rattle.std.specs.Prelude.{◌≤◌, IfSome, None};
+ghost use Rattle.wb_sources.specs.SourceAnswers.{IsConverted};
 
 use crate::clients::Clients;
 use std::alloc::AllocError;
@@ -8,9 +9,13 @@ use std::net::{OpenListener, OpenStream, SocketAddr};
 use std::time::{Clock, Duration, Instant, SystemTime, UNIX_EPOCH};
 use std::{str, thread};
 use thiserror::Error;
-use wb_connections::{Converter, FINISH_SECONDS, Office, PAUSE_MILLIS, Report, Terminal, is_past};
+use wb_connections::{
+    Converter, ENDLESS_LINE, FINISH_SECONDS, LOOK_MILLIS, Office, PAUSE_MILLIS, Report, Terminal,
+    is_past,
+};
 use wb_journal::Moment;
 use wb_sources::{Converter as Said, REQUEST_ROOM, Sources, TERMINAL_ROOM, Taken};
+use wb_window::Reading;
 
 /// How often what waits for clients is looked at at the end.
 const FINISH_STEPS: u64 = FINISH_SECONDS * 1_000 / PAUSE_MILLIS;
@@ -119,6 +124,27 @@ where
         self.now
     }
 
+    /// What the converter says next. Responses go on while it is waited for.
+    fn next_said(&mut self) -> Said
+        ensures { IsConverted result }
+    {
+        for _ in 0..ENDLESS_LINE {
+            let millis = if self.clients.office.is_responding() {
+                PAUSE_MILLIS
+            } else {
+                LOOK_MILLIS
+            };
+            let patience = Duration::from_millis(millis);
+            if let Some(said) = self.converter.next_within(self.rt, patience) {
+                return said;
+            }
+            let now = self.look_at_clock();
+            self.clients.office.go_on(now, &self.report);
+        }
+        // so many waits that were broken off, and no second is over
+        Said::Line(Reading::Lost)
+    }
+
     /// A turn of the office's connections.
     fn step(&mut self) {
         let now = self.look_at_clock();
@@ -154,7 +180,7 @@ where
     ghost told = { λ _. None };
 
     fn converter(&mut self) -> Said {
-        let said = self.converter.next(self.rt);
+        let said = self.next_said();
         if said == Said::Fault {
             self.report.line("converter: it can't be read");
         }

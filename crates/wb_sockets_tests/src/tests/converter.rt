@@ -3,12 +3,20 @@ use self::Step::{Ends, Fails, Hears, IsCurrent, Set};
 use super::memory::{Bench, Plug, Wire};
 use std::fs;
 use std::io::ErrorKind::{self, ConnectionReset, Interrupted};
+use std::io::Read;
+use std::net::OpenStream;
 use std::process::Abort;
 use std::test::Fail;
-use std::time::Instant;
+use std::time::{Clock, Duration, Instant};
 use wb_connections::{Converter, ENDLESS_LINE, Source};
 use wb_sources::Converter as Said;
 use wb_window::Reading::{Load, Lost};
+
+/// Seconds, longer than a look, which is waited for at most.
+const PATIENCE: u64 = 1;
+
+/// More waits than are in the longest silence here.
+const MOST_WAITS: usize = 1_000;
 
 /// What happens to a converter, and what must be heard of it.
 #[derive(Clone, Copy, Drop)]
@@ -96,13 +104,25 @@ impl Desk<'_> {
 
     /// What comes next: what the converter says, and at which millisecond.
     fn hear(&mut self) -> (Said, u128) {
-        let said = self.converter.next(self.bench);
-        (said, self.bench.millis())
+        for _ in 0..MOST_WAITS {
+            if let Some(said) = next(&mut self.converter, self.bench) {
+                return (said, self.bench.millis());
+            }
+        }
+        (Said::Fault, 0)
     }
 
     fn is_current(&mut self) -> bool {
         self.converter.is_current(self.bench)
     }
+}
+
+/// What a converter says next, if it says anything while it is waited for.
+fn next<S: Read + OpenStream + Drop>(
+    converter: &mut Converter<S>,
+    clock: &impl Clock,
+) -> Option<Said> {
+    converter.next_within(clock, Duration::from_secs(PATIENCE))
 }
 
 /// Takes steps at a converter that sends these pieces at these milliseconds.
@@ -158,7 +178,7 @@ fn tells_an_interrupted_read_from_a_broken_connection(rt: HostRuntime) -> Result
 fn gives_up_a_file_without_the_end_of_a_line(rt: HostRuntime) -> Result<(), Fail> {
     fs::write(&rt, "endless.txt", [b'0'; ENDLESS_LINE].as_slice())?;
     let mut converter = Converter::open(&rt, "endless.txt")?;
-    assert_eq!(rt; converter.next(&rt), Said::Fault);
+    assert_eq!(rt; next(&mut converter, &rt), Some(Said::Fault));
     Ok(())
 }
 
@@ -168,8 +188,8 @@ fn reads_a_plain_file_to_its_end(rt: HostRuntime) -> Result<(), Fail> {
     let mut converter = Converter::open(&rt, "converter.txt")?;
     for said in [Said::Line(Load(9_170)), Said::Line(Lost), Said::End] {
         assert_eq!(rt;
-            (converter.is_current(&rt), converter.next(&rt)),
-            (true, said)
+            (converter.is_current(&rt), next(&mut converter, &rt)),
+            (true, Some(said))
         );
     }
     Ok(())

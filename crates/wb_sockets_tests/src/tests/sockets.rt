@@ -23,7 +23,7 @@ office 127.0.0.1:0: 200 in 7 ms
 terminal 127.0.0.1:0: hung up, it ended
 terminal 127.0.0.1:1: accepted
 office 127.0.0.1:1: closed, the service ends
-office 127.0.0.1:0: closed, the service ends
+office 127.0.0.1:0: closed, it stayed after its response
 terminal 127.0.0.1:1: hung up, the service ends
 ";
 
@@ -91,6 +91,22 @@ static LONG_EXCHANGES: Course = Course {
         Turn(Lost, 4, true, 0),
         Turn(Load(9), 0, false, 0),
         Told(""),
+    ],
+};
+
+/// A client takes its response in small pieces, while the converter has no line for half a second.
+static SLOW_CLIENT: Course = Course {
+    times: &[0, 500],
+    script: b"1\n|2\n",
+    clients: 1,
+    is_verbose: false,
+    steps: &[
+        Step::Client(0, Sends(ASKED)),
+        Step::Client(0, TakesAtOnce(2)),
+        Turn(Load(1), 0, true, 0),
+        Step::Client(0, Got(b"HT", false)),
+        Turn(Load(2), 0, false, 0),
+        Step::Client(0, Got(ANSWER, true)),
     ],
 };
 
@@ -253,6 +269,11 @@ fn take_steps(rt: &impl Abort, desk: &mut Desk<'_>, steps: &[Step]) {
 #[test]
 fn reads_what_came_meanwhile_after_a_long_exchange(rt: HostRuntime) -> Result<(), Fail> {
     play(&rt, &LONG_EXCHANGES)
+}
+
+#[test]
+fn goes_on_with_a_response_while_it_waits_for_a_line(rt: HostRuntime) -> Result<(), Fail> {
+    play(&rt, &SLOW_CLIENT)
 }
 
 #[test]
