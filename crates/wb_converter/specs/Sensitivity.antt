@@ -1,5 +1,5 @@
 -- How many counts stand for a verification scale interval.
-use Rattle.std.specs.Prelude.{ℕ, ◌*◌, ◌/◌, ◌^◌, ◌-◌, ℤ, ◌-ℤ◌, unsigned_abs, max, min, List, [], ◌∷◌}
+use Rattle.std.specs.Prelude.{ℕ, ◌*◌, ◌/◌, ◌^◌, ◌-◌, ◌-ℤ◌, unsigned_abs, max, min, List, [], ◌∷◌}
 use Rattle.wb_calibration.specs.declared.point.Point.{Point}
 
 -- between two points, in tenths of a count, rounded down: ten tenths of e are an interval

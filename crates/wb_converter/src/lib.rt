@@ -7,17 +7,23 @@
 #![tactic(auto)]
 
 mod answering;
+mod client;
 mod counts;
 mod lines;
 mod outbox;
 mod per_interval;
+mod running;
 mod sample;
+mod sampling;
 mod taken;
 
 pub use answering::answer;
+pub use client::Clients;
 pub use counts::counts_line;
 pub use lines::Lines;
 pub use outbox::{LINE_ROOM, Outbox};
 pub use per_interval::sensitivity;
+pub use running::{RunEnd, run};
 pub use sample::{mean, spread};
+pub use sampling::{SampleFault, read_counts};
 pub use taken::{MOST_POINTS, TAKEN_ROOM, points_of, text_of, with_point};
