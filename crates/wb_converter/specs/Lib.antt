@@ -5,3 +5,4 @@ pub mod Outbox
 pub mod Sample
 pub mod Sensitivity
 pub mod Taken
+pub mod Laws

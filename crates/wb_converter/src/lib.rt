@@ -9,6 +9,7 @@
 mod answering;
 mod client;
 mod counts;
+mod laws;
 mod lines;
 mod outbox;
 mod per_interval;
@@ -20,6 +21,7 @@ mod taken;
 pub use answering::answer;
 pub use client::Clients;
 pub use counts::counts_line;
+pub use laws::law_of_answers;
 pub use lines::Lines;
 pub use outbox::{LINE_ROOM, Outbox};
 pub use per_interval::sensitivity;

@@ -4,12 +4,13 @@ ghost use Rattle.wb_calibration.specs.Line.{IsNearest};
 ghost use Rattle.wb_converter.specs.Sample.{greatest_of, least_of, sum_of};
 
 /// The mean of 1 to 10,000 counts, rounded to a whole number, an exact half up.
-pub fn mean(counts: &[i32]) -> i64
+pub fn mean(counts: &[i32]) -> i32
     requires some { 0 < length counts.now }
     requires few { length counts.now ≤ 10000 }
     ensures { IsNearest (sum_of counts.now) (pos (length counts.now)) result }
 {
-    nearest(sum(counts), counts.len() as i64)
+    let mean = nearest(sum(counts), counts.len() as i64);
+    mean as i32
 }
 
 /// How far the greatest of the counts is above the least.
@@ -23,7 +24,7 @@ fn sum(counts: &[i32]) -> i64
     requires { length counts.now ≤ 10000 }
     ensures sum { result ≡ sum_of counts.now }
     ensures low { neg_ℤ (pos (2147483648 * length counts.now)) ≤ℤ result }
-    ensures high { result ≤ℤ pos (2147483648 * length counts.now) }
+    ensures high { result ≤ℤ pos (2147483647 * length counts.now) }
 {
     let mut sum = 0;
     for one in counts {
