@@ -10,7 +10,7 @@ mod sources;
 
 use crate::fault::Fault;
 use crate::files::{bytes_of, newest_of};
-use crate::making::{Sample, finish, keep_point, sample};
+use crate::making::{Found, finish, keep_point, sample};
 use crate::serving::serve;
 use crate::showing::{plot, show};
 use crate::sources::SOURCES;
@@ -75,24 +75,24 @@ fn end_run(rt: &HostRuntime, end: Result<RunEnd, Fault>) -> io::Result<ExitCode>
 /// Takes a point: prints mean and spread, and then all points that are kept.
 fn run_point(rt: &HostRuntime, path: &str, sampling: Sampling) -> io::Result<ExitCode> {
     match sample(rt, path, sampling) {
-        Ok(sample) => {
-            print_sample(rt, sampling, sample)?;
-            keep(rt, path, sampling, sample)
+        Ok(found) => {
+            print_sample(rt, sampling, found)?;
+            keep(rt, path, sampling, found)
         }
         Err(fault) => tell_fault(rt, fault),
     }
 }
 
-fn print_sample(rt: &HostRuntime, sampling: Sampling, sample: Sample) -> io::Result<()> {
-    let Sample { mean, spread } = sample;
+fn print_sample(rt: &HostRuntime, sampling: Sampling, found: Found) -> io::Result<()> {
+    let Found { mean, spread } = found;
     println!(rt;
         "load {} mean {mean} spread {spread} lines {}",
         sampling.tenths, sampling.lines
     )
 }
 
-fn keep(rt: &HostRuntime, path: &str, sampling: Sampling, sample: Sample) -> io::Result<ExitCode> {
-    match keep_point(rt, path, sampling, sample) {
+fn keep(rt: &HostRuntime, path: &str, sampling: Sampling, found: Found) -> io::Result<ExitCode> {
+    match keep_point(rt, path, sampling, found) {
         Ok(points) => {
             print!(rt; "{}", text_of(&points).as_str())?;
             Ok(ExitCode::SUCCESS)

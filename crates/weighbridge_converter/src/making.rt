@@ -15,13 +15,13 @@ const MOST_OF_ONE: usize = 8;
 
 /// What was found of some lines under one load.
 #[derive(Clone, Copy)]
-pub(crate) struct Sample {
+pub(crate) struct Found {
     pub(crate) mean: i32,
     pub(crate) spread: i64,
 }
 
 /// Reads the counts of a point from standard input, once it is known that a point can be kept.
-pub(crate) fn sample(rt: &HostRuntime, path: &str, sampling: Sampling) -> Result<Sample, Fault> {
+pub(crate) fn sample(rt: &HostRuntime, path: &str, sampling: Sampling) -> Result<Found, Fault> {
     last_of(bytes_of(rt, path)?.as_slice())?;
     kept_points(rt, path)?;
     let counts = read_counts(rt.alloc(), &mut rt.stdin(), sampling.lines)?;
@@ -29,7 +29,7 @@ pub(crate) fn sample(rt: &HostRuntime, path: &str, sampling: Sampling) -> Result
     if counts.is_empty() || counts.len() > 10_000 {
         return Err(Fault::Input);
     }
-    Ok(Sample {
+    Ok(Found {
         mean: mean(counts),
         spread: spread(counts),
     })
@@ -40,17 +40,17 @@ pub(crate) fn keep_point(
     rt: &HostRuntime,
     path: &str,
     sampling: Sampling,
-    sample: Sample,
+    found: Found,
 ) -> Result<ArrayVec<Point, MOST_POINTS>, Fault> {
-    if sample.spread > i64::from(sampling.spread) {
-        return Err(Fault::Spread(sample.spread, sampling.spread));
+    if found.spread > i64::from(sampling.spread) {
+        return Err(Fault::Spread(found.spread, sampling.spread));
     }
     let kept = kept_points(rt, path)?;
     if kept.len() > MOST_OF_ONE {
         return Err(Fault::Full);
     }
     let point = Point {
-        counts: sample.mean,
+        counts: found.mean,
         tenths: sampling.tenths,
     };
     let points = with_point(kept.as_slice(), point);
