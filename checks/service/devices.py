@@ -3,11 +3,8 @@ in the form of industrial IO. Each has `words`, those of its reader; `put`, whic
 
 import os
 import shutil
-import signal
 import socket
 import subprocess
-import sys
-import termios
 import threading
 import time
 import tty
@@ -100,7 +97,6 @@ class ModbusLine(Modbus):
             self.pairs.append(subprocess.Popen(["socat", *(f"pty,rawer,link={name}" for name in names)], stderr=subprocess.DEVNULL))
             wait_for("a pair of pseudo terminals", lambda names=names: all(os.path.exists(name) for name in names))
             self.names.append(names)
-        self.over = threading.Event()
         ends = [os.open(name, os.O_RDWR | os.O_NOCTTY) for name in (self.names[0][1], self.names[1][0])]
         for one, other, back in ((ends[0], ends[1], True), (ends[1], ends[0], False)):
             tty.setraw(one)
@@ -108,9 +104,12 @@ class ModbusLine(Modbus):
         super().__init__(folder)
 
     def hand_on(self, one, other, back):
-        while True:
-            data = os.read(one, 256)
-            os.write(other, self.cut(data) if back else data)
+        try:
+            while True:
+                data = os.read(one, 256)
+                os.write(other, self.cut(data) if back else data)
+        except OSError:
+            pass  # socat has ended
 
     def begin(self):
         self.start("rtu", self.names[0][0])

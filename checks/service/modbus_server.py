@@ -38,4 +38,4 @@ context = ModbusServerContext(ModbusSlaveContext(hr=registers, ir=registers, zer
 if kind == "tcp":
     StartTcpServer(context=context, address=("127.0.0.1", int(place)), allow_reuse_address=True)
 else:
-    StartSerialServer(context=context, framer=ModbusRtuFramer, port=place, baudrate=19200, parity="E", timeout=0.005)
+    StartSerialServer(context=context, framer=ModbusRtuFramer, port=place, baudrate=19200, timeout=0.005)
