@@ -61,10 +61,11 @@ impl Outbox {
         ensures next { result.now ≡ first_of self.now }
         ensures few { length result.now ≤ 12 }
     {
-        if self.rest.is_empty() {
+        let rest = self.rest.as_slice();
+        if rest.is_empty() {
             self.newest.as_slice()
         } else {
-            self.rest.as_slice()
+            rest
         }
     }
 
@@ -78,7 +79,7 @@ impl Outbox {
         }
         if self.rest.is_empty() {
             self.rest = copy_of(&self.newest.as_slice()[count..]);
-            self.newest = ArrayVec::new();
+            self.newest.clear();
         } else {
             self.rest = copy_of(&self.rest.as_slice()[count..]);
         }
