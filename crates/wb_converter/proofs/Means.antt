@@ -1,5 +1,5 @@
 -- A mean lies between the bounds of what it is made of.
-use Rattle.std.proofs.Common.{◌≡◌, ℕ, ◌*◌, ◌<◌, ◌≤◌, ℤ, pos, neg_ℤ, ◌*ℤ◌, ◌+ℤ◌, ◌≤ℤ◌, ◌<ℤ◌, arith}
+use Rattle.std.proofs.Common.{ℕ, ◌*◌, ◌<◌, ℤ, pos, neg_ℤ, ◌≤ℤ◌, arith}
 use Rattle.std.proofs.lemmas.Int.{ints}
 use Rattle.wb_calibration.specs.Line.{IsNearest}
 use Rattle.wb_calibration.proofs.Products.{mul_cancel}

@@ -1,5 +1,5 @@
 -- Lines cut out of bytes as they come.
-use Rattle.std.specs.Prelude.{ℕ, ◌+◌, ◌==◌, nat_le, Bool, true, false, List, [], ◌∷◌, ◌++◌, length, if◌then◌else◌}
+use Rattle.std.specs.Prelude.{ℕ, ◌+◌, ◌==◌, nat_le, Bool, true, false, List, [], ◌++◌, length, if◌then◌else◌}
 use Rattle.std.specs.List.{before_first}
 
 -- what is kept of a line whose end didn't come, and whether there was too much of it

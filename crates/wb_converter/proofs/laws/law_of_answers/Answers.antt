@@ -1,4 +1,4 @@
-use Rattle.std.proofs.Common.{◌≡◌, refl, ℤ, neg_ℤ, ◌≤ℤ◌, ◌&&◌, Bool, true, arith}
+use Rattle.std.proofs.Common.{◌≡◌, refl, ℤ, neg_ℤ, ◌≤ℤ◌, true, arith}
 use Rattle.std.specs.Prelude.{int_le}
 use Rattle.std.proofs.lemmas.Int.{ints}
 use Rattle.std.specs.Fmt.{signed_decimal}

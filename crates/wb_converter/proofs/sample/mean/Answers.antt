@@ -1,7 +1,6 @@
-use Rattle.std.proofs.Common.{◌≡◌, ◌<◌, ◌≤◌, ◌*◌, ℤ, pos, neg_ℤ, ◌≤ℤ◌, length, SFits, w32, w64, to_z, of_z, arith}
+use Rattle.std.proofs.Common.{◌≡◌, pos, neg_ℤ, ◌≤ℤ◌, length, w32, w64, to_z, of_z, arith}
 use Rattle.std.proofs.lemmas.Int.{ints}
 use Rattle.wb_calibration.specs.Line.{IsNearest}
-use Rattle.wb_converter.specs.Sample.{sum_of}
 use Rattle.wb_converter.proofs.Means.{mean_above, mean_below}
 use Rattle.wb_converter.proofs.sample.mean.Goals as goal
 
