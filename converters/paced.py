@@ -61,7 +61,7 @@ def words(description):
     """The words that each reader has: what it is read from is added to them."""
     it = argparse.ArgumentParser(description=description)
     it.add_argument("--pace", type=float, default=10, help="readings a second, as the service's --pace (10)")
-    it.add_argument("--timeout", type=float, help="seconds after which a reading is lost (a period of the pace and a half)")
+    it.add_argument("--timeout", type=float, help="seconds after which a reading is lost (a period of the pace and 0.15)")
     return it
 
 
@@ -70,5 +70,5 @@ def parsed(it):
     if not 0 < given.pace <= 1000:
         it.error("--pace is no number of readings a second")
     if given.timeout is None:
-        given.timeout = 1.5 / given.pace
+        given.timeout = 1 / given.pace + 0.15
     return given
