@@ -1,6 +1,7 @@
 """Devices that checks/converters plays, each with the faults that it is asked to have: a Modbus server, a text device on a pseudo terminal, and a folder
 in the form of industrial IO. Each has `words`, those of its reader; `put`, which sets its counts; and `faults`, a name and how it begins and ends."""
 
+import atexit
 import os
 import shutil
 import socket
@@ -12,6 +13,18 @@ import tty
 import bridge
 
 SERVER = os.path.join(os.path.dirname(os.path.abspath(__file__)), "modbus_server.py")
+
+
+started = []
+
+
+def begun(words, **how):
+    """A process that is killed at the latest when this program ends, whatever ends it."""
+    started.append(subprocess.Popen(words, **how))
+    return started[-1]
+
+
+atexit.register(lambda: [it.kill() for it in started if it.poll() is None])
 
 
 def write(path, text):
@@ -53,7 +66,7 @@ class Modbus:
         wait_for("the Modbus server", self.listens)
 
     def start(self, kind, place):
-        self.server = subprocess.Popen(["/usr/bin/python3", SERVER, kind, place, self.folder], stderr=subprocess.DEVNULL)
+        self.server = begun(["/usr/bin/python3", SERVER, kind, place, self.folder], stderr=subprocess.DEVNULL)
 
     def listens(self):
         try:
@@ -94,7 +107,7 @@ class ModbusLine(Modbus):
         os.makedirs(folder + ".lines")
         for pair in "12":
             names = [os.path.join(folder + ".lines", end + pair) for end in "ab"]
-            self.pairs.append(subprocess.Popen(["socat", *(f"pty,rawer,link={name}" for name in names)], stderr=subprocess.DEVNULL))
+            self.pairs.append(begun(["socat", *(f"pty,rawer,link={name}" for name in names)], stderr=subprocess.DEVNULL))
             wait_for("a pair of pseudo terminals", lambda names=names: all(os.path.exists(name) for name in names))
             self.names.append(names)
         ends = [os.open(name, os.O_RDWR | os.O_NOCTTY) for name in (self.names[0][1], self.names[1][0])]
@@ -148,7 +161,7 @@ class Text(threading.Thread):
 
     def begin(self):
         own = self.name + ".own"
-        self.pair = subprocess.Popen(["socat", f"pty,rawer,link={own}", f"pty,rawer,link={self.name}"], stderr=subprocess.DEVNULL)
+        self.pair = begun(["socat", f"pty,rawer,link={own}", f"pty,rawer,link={self.name}"], stderr=subprocess.DEVNULL)
         wait_for("a pair of pseudo terminals", lambda: os.path.exists(own) and os.path.exists(self.name))
         self.line = os.open(own, os.O_RDWR | os.O_NOCTTY | os.O_NONBLOCK)
 
