@@ -54,6 +54,8 @@ plot $points using 1:($2 / 10.0) with linespoints pointtype 7 title 'points'
 line(counts) = first_load + (last_load - first_load) * (counts - first_counts) / (last_counts - first_counts)
 apart(counts, load) = (load - line(counts)) / 10.0
 set ylabel 'load above the straight line in e'
+set title
+set key outside top center horizontal
 plot 0 title 'line through the first and the last', \\
     0.5 with lines dashtype 2 linecolor 'grey' title 'half an interval', \\
     -0.5 with lines dashtype 2 linecolor 'grey' notitle, \\
