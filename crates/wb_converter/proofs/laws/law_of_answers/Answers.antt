@@ -1,0 +1,18 @@
+use Rattle.std.proofs.Common.{◌≡◌, refl, ℤ, neg_ℤ, ◌≤ℤ◌, true, arith}
+use Rattle.std.specs.Prelude.{int_le}
+use Rattle.std.proofs.lemmas.Int.{ints}
+use Rattle.std.specs.Fmt.{signed_decimal}
+use Rattle.wb_sources.specs.ConverterLines.{converter_reading}
+use Rattle.wb_window.specs.Reading.{greatest_load}
+use Rattle.wb_window.specs.declared.reading.Reading.TheVariants.{Load}
+use Rattle.wb_calibration_file.proofs.Numbers.{number-signed}
+use Rattle.wb_converter.proofs.laws.law_of_answers.Goals as goal
+
+load_read : (tenths : ℤ) → neg_ℤ greatest_load ≤ℤ tenths → tenths ≤ℤ greatest_load → converter_reading (signed_decimal tenths) ≡ Load tenths
+load_read tenths low high =
+    let less : int_le (neg_ℤ greatest_load) tenths ≡ true = grind (arith, ints) in
+    let more : int_le tenths greatest_load ≡ true = grind (arith, ints) in
+    rw (number-signed tenths (omega (arith, ints, low, high)), less, more) refl
+
+pub returns : goal.returns
+returns c = record { loads = load_read; lost = refl }

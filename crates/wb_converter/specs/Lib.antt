@@ -1,0 +1,9 @@
+-- The rules, in the order in which to read them.
+pub mod Counts
+pub mod Cut
+pub mod Answer
+pub mod Outbox
+pub mod Sample
+pub mod Sensitivity
+pub mod Taken
+pub mod Laws

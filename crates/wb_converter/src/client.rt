@@ -1,0 +1,131 @@
+//! The one client that lines are handed to. No call here waits.
+use crate::outbox::{LINE_ROOM, Outbox};
+use arrayvec::ArrayString;
+use std::io;
+use std::io::{ErrorKind, Read, Write};
+use std::net::{OpenListener, OpenStream, SocketAddr};
+use std::time::Instant;
+use wb_connections::{Report, is_past};
+
+/// After so many seconds a line is handed to nobody: the slowest converters send twice a second, and nobody is to be shown an
+/// older weight.
+const FRESH_SECONDS: u64 = 1;
+
+/// How many pieces are written in a turn at most: the rest of a line that was begun, and the newest line.
+const PIECES: usize = 2;
+
+/// A client that is connected.
+#[derive(Drop)]
+struct Client<S: Drop> {
+    stream: S,
+    peer: SocketAddr,
+    waiting: Outbox,
+    /// Before the newest line came.
+    came: Instant,
+}
+
+/// The listener, and the client if one is connected.
+#[derive(Drop)]
+pub struct Clients<L: OpenListener + Drop>
+where
+    L::Stream: Read + Write + OpenStream,
+{
+    listener: L,
+    client: Option<Client<L::Stream>>,
+}
+
+impl<S: Read + Write + OpenStream + Drop> Client<S> {
+    /// Whether it sends no more. What it sends is dropped.
+    fn has_ended(&mut self) -> bool {
+        let mut room = [0u8; 64];
+        match self.stream.read(&mut room) {
+            Ok(count) => count == 0,
+            Err(error) => !is_waiting(&error),
+        }
+    }
+
+    /// Writes what its socket takes of what waits. False if it is broken.
+    fn write(&mut self, now: Instant) -> bool {
+        if is_past(self.came, FRESH_SECONDS, now) {
+            self.waiting.grow_old();
+        }
+        for _ in 0..PIECES {
+            if !self.write_piece() {
+                return false;
+            }
+        }
+        true
+    }
+
+    fn write_piece(&mut self) -> bool {
+        let next = self.waiting.next();
+        if next.is_empty() {
+            return true;
+        }
+        match self.stream.write(next) {
+            Ok(count) => {
+                self.waiting.took(count);
+                true
+            }
+            Err(error) => is_waiting(&error),
+        }
+    }
+}
+
+impl<L: OpenListener + Drop> Clients<L>
+where
+    L::Stream: Read + Write + OpenStream,
+{
+    /// Over a listener that doesn't wait.
+    pub fn new(listener: L) -> Self {
+        Clients {
+            listener,
+            client: None,
+        }
+    }
+
+    /// A turn: a client is accepted if none is connected, one that is gone is let go, and what waits is written.
+    pub fn step<R: Eprint>(&mut self, now: Instant, report: &Report<'_, R>) {
+        if self.client.is_none() {
+            self.accept(now, report);
+        }
+        let Some(client) = &mut self.client else {
+            return;
+        };
+        if client.has_ended() || !client.write(now) {
+            report.line(format_args!("client {}: gone", client.peer));
+            self.client = None;
+        }
+    }
+
+    /// Takes a line for the client, which came after this time. It takes the place of one that waits.
+    pub fn offer(&mut self, line: &ArrayString<LINE_ROOM>, came: Instant) {
+        if let Some(client) = &mut self.client {
+            client.waiting.offer(line.as_str().as_bytes());
+            client.came = came;
+        }
+    }
+
+    /// Accepts a client. An error of the system is no client: a later turn asks again.
+    fn accept<R: Eprint>(&mut self, now: Instant, report: &Report<'_, R>) {
+        let Ok((stream, peer)) = self.listener.accept() else {
+            return;
+        };
+        if stream.set_nonblocking(true).is_err() || stream.set_nodelay(true).is_err() {
+            report.line(format_args!("client {peer}: gone"));
+            return;
+        }
+        report.line(format_args!("client {peer}: connected"));
+        self.client = Some(Client {
+            stream,
+            peer,
+            waiting: Outbox::new(),
+            came: now,
+        });
+    }
+}
+
+/// Whether a read or a write that was refused only had to wait.
+pub(crate) fn is_waiting(error: &io::Error) -> bool {
+    matches!(error.kind(), ErrorKind::WouldBlock | ErrorKind::Interrupted)
+}

@@ -1,0 +1,12 @@
+//! The command line of `weighbridge-converter`: what its words ask for.
+//!
+//! The words are read by `clap`. A function of this crate returns whatever they are; which options there are, their defaults and
+//! their refusals are tested.
+#![tactic(auto)]
+
+mod arguments;
+mod making_words;
+mod words;
+
+pub use making_words::Sampling;
+pub use words::{Asked, REFUSED, read_words};

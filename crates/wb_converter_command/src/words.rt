@@ -1,0 +1,150 @@
+//! The words of the command line.
+use crate::arguments::{Text, flag, over_calibration, text_argument, text_of};
+use crate::making_words::{Sampling, finish_command, point_command, sampling_of};
+use clap::{ArgMatches, Command};
+use std::alloc::{AllocError, Global};
+
+/// The status of words that are refused.
+pub const REFUSED: u8 = 2;
+
+/// The version of the program, and the line by which `rt version` names the kit that proved it.
+const VERSION: &str = "1.0.0\nproved by rattle-kit-13f logic dac8208d650f15bf";
+
+const RUN_EXAMPLE: &str = "Example:
+  modbus --tcp 192.168.1.10 .. | weighbridge-converter run --calibration calibration --listen 127.0.0.1:4000
+hands lines of tenths of e to the program that connects to port 4000, as weighbridge serve --converter tcp:127.0.0.1:4000 does.";
+
+const SHOW_EXAMPLE: &str = "Examples:
+  weighbridge-converter show --calibration calibration
+  weighbridge-converter show --calibration calibration --plot | gnuplot > calibration.svg
+A file that was changed is refused by the number of the first calibration that isn't as it was made (status 1).";
+
+static LISTEN: Text = Text(
+    "listen",
+    "ADDRESS",
+    "address on which a client connects: an IPv4 address of 127.0.0.0/8, a colon and a port",
+);
+
+/// What the words of the command line ask for. The first text is the file of the calibrations.
+#[derive(Drop)]
+pub enum Asked {
+    /// Lines are to be handed on at this address; and whether what happens is reported on standard error.
+    Run(String, String, bool),
+    /// A point is to be taken.
+    Point(String, Sampling),
+    /// A calibration is to be made of the points that were taken.
+    Finish(String),
+    /// The newest calibration is to be shown.
+    Show(String),
+    /// What gnuplot draws of the newest calibration is to be printed.
+    Plot(String),
+    /// The words are refused, or ask for help or the version.
+    WordsRefused(clap::Error),
+    /// No subcommand, or not every word of one. `clap` refuses such words, so this doesn't come.
+    Nothing,
+}
+
+/// What these words ask for, the name of the program first.
+pub fn read_words(alloc: Global, words: &[String]) -> Result<Asked, AllocError> {
+    let matches = match command(alloc)?.try_get_matches_from(words) {
+        Ok(matches) => matches,
+        Err(error) => return Ok(Asked::WordsRefused(error)),
+    };
+    match matches.subcommand() {
+        Some((name, words)) => asked_of(alloc, name, words),
+        None => Ok(Asked::Nothing),
+    }
+}
+
+/// What the words of this subcommand ask for.
+fn asked_of(alloc: Global, name: &str, words: &ArgMatches<'_>) -> Result<Asked, AllocError> {
+    let Some(calibration) = text_of(alloc, words, "calibration")? else {
+        return Ok(Asked::Nothing);
+    };
+    match name {
+        "run" => run_of(alloc, calibration, words),
+        "point" => Ok(point_of(calibration, words)),
+        "finish" => Ok(Asked::Finish(calibration)),
+        "show" => Ok(show_of(calibration, words)),
+        _ => Ok(Asked::Nothing),
+    }
+}
+
+fn run_of(alloc: Global, calibration: String, words: &ArgMatches<'_>) -> Result<Asked, AllocError> {
+    match text_of(alloc, words, "listen")? {
+        Some(address) => Ok(Asked::Run(calibration, address, words.get_flag("verbose"))),
+        None => Ok(Asked::Nothing),
+    }
+}
+
+fn point_of(calibration: String, words: &ArgMatches<'_>) -> Asked {
+    match sampling_of(words) {
+        Some(sampling) => Asked::Point(calibration, sampling),
+        None => Asked::Nothing,
+    }
+}
+
+fn show_of(calibration: String, words: &ArgMatches<'_>) -> Asked {
+    if words.get_flag("plot") {
+        Asked::Plot(calibration)
+    } else {
+        Asked::Show(calibration)
+    }
+}
+
+/// The subcommand `run`.
+fn run_command<'a>(alloc: Global) -> Result<Command<'a>, AllocError> {
+    let about =
+        "hands the load of each line of counts on standard input to the client that is connected";
+    let run = over_calibration(alloc, "run", about, RUN_EXAMPLE)?;
+    let run = run.arg(text_argument(alloc, &LISTEN))?;
+    let help = "report connections and faults on standard error";
+    run.arg(flag(alloc, "verbose", help))
+}
+
+/// The subcommand `show`.
+fn show_command<'a>(alloc: Global) -> Result<Command<'a>, AllocError> {
+    let about = "prints the newest calibration of the file";
+    let show = over_calibration(alloc, "show", about, SHOW_EXAMPLE)?;
+    let help = "print commands for gnuplot, which draws the points and their deviations as SVG";
+    show.arg(flag(alloc, "plot", help))
+}
+
+/// What the program can be asked to do.
+#[derive(Clone, Copy)]
+enum Subcommand {
+    Run,
+    Point,
+    Finish,
+    Show,
+}
+
+/// The subcommands, in the order in which help shows them.
+static SUBCOMMANDS: [Subcommand; 4] = [
+    Subcommand::Run,
+    Subcommand::Point,
+    Subcommand::Finish,
+    Subcommand::Show,
+];
+
+fn subcommand_of<'a>(alloc: Global, name: Subcommand) -> Result<Command<'a>, AllocError> {
+    match name {
+        Subcommand::Run => run_command(alloc),
+        Subcommand::Point => point_command(alloc),
+        Subcommand::Finish => finish_command(alloc),
+        Subcommand::Show => show_command(alloc),
+    }
+}
+
+/// The whole command line.
+fn command<'a>(alloc: Global) -> Result<Command<'a>, AllocError> {
+    let mut command = Command::new(alloc, "weighbridge-converter")
+        .about("from the counts of a load cell to tenths of a verification scale interval")
+        .version(VERSION)
+        .subcommand_required(true)
+        .arg_required_else_help(true);
+    for name in SUBCOMMANDS.as_slice() {
+        command = command.subcommand(subcommand_of(alloc, *name)?)?;
+    }
+    Ok(command)
+}

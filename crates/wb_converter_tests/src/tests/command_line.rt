@@ -1,0 +1,142 @@
+//! The words of the command line: defaults, refusals and statuses.
+use super::assert_text;
+use std::alloc::Global;
+use std::fmt::Write;
+use std::process::Abort;
+use std::test::Fail;
+use wb_converter_command::{Asked, Sampling, read_words};
+
+/// The words of a command line, and how they are understood (or a part of it).
+struct Row(&'static str, &'static str);
+
+static WORDS: [Row; 6] = [
+    Row(
+        "weighbridge-converter run --calibration F --listen 127.0.0.1:4000",
+        "run F 127.0.0.1:4000 false",
+    ),
+    Row(
+        "weighbridge-converter run --calibration F --listen 127.0.0.1:4000 --verbose",
+        "run F 127.0.0.1:4000 true",
+    ),
+    Row(
+        "weighbridge-converter point --calibration F --load 2000000 --spread 4",
+        "point F 2000000 50 4",
+    ),
+    Row(
+        "weighbridge-converter point --calibration F --load 0 --spread 0 --lines 10000",
+        "point F 0 10000 0",
+    ),
+    Row("weighbridge-converter finish --calibration F", "finish F"),
+    Row(
+        "weighbridge-converter show --calibration F --plot",
+        "plot F",
+    ),
+];
+
+/// The words of a command line that are refused, how that begins with its status, and what it holds.
+struct Refused(&'static str, &'static str, &'static str);
+
+static REFUSED: [Refused; 8] = [
+    Refused(
+        "weighbridge-converter run --calibration F",
+        "2: ",
+        "--listen",
+    ),
+    Refused(
+        "weighbridge-converter run --listen 127.0.0.1:4000",
+        "2: ",
+        "--calibration",
+    ),
+    Refused(
+        "weighbridge-converter point --calibration F --load 1",
+        "2: ",
+        "--spread",
+    ),
+    Refused(
+        "weighbridge-converter point --calibration F --load 2000001 --spread 1",
+        "2: ",
+        "2000001",
+    ),
+    Refused(
+        "weighbridge-converter point --calibration F --load 1 --spread 1 --lines 0",
+        "2: ",
+        "0 is not in",
+    ),
+    Refused("weighbridge-converter show", "2: ", "--calibration"),
+    Refused("weighbridge-converter", "2: ", "Usage"),
+    Refused(
+        "weighbridge-converter --version",
+        "0: ",
+        "weighbridge-converter 1.0.0",
+    ),
+];
+
+/// The words of a line, cut at its blanks.
+fn words_of(alloc: Global, line: &str) -> Result<Vec<String>, Fail> {
+    let mut words = Vec::new(alloc);
+    for word in line.split(' ') {
+        words.push(String::from_str(alloc, word)?)?;
+    }
+    Ok(words)
+}
+
+fn note(asked: &Asked, text: &mut String) -> Result<(), Fail> {
+    match asked {
+        Asked::Run(path, address, is_verbose) => {
+            Ok(write!(text, "run {path} {address} {is_verbose}")?)
+        }
+        Asked::Point(path, sampling) => note_point(path.as_str(), *sampling, text),
+        Asked::Finish(path) => Ok(write!(text, "finish {path}")?),
+        Asked::Show(path) => Ok(write!(text, "show {path}")?),
+        Asked::Plot(path) => Ok(write!(text, "plot {path}")?),
+        Asked::WordsRefused(error) => Ok(write!(text, "{}: {error}", error.exit_code())?),
+        Asked::Nothing => Ok(text.push_str("nothing")?),
+    }
+}
+
+fn note_point(path: &str, sampling: Sampling, text: &mut String) -> Result<(), Fail> {
+    let Sampling {
+        tenths,
+        lines,
+        spread,
+    } = sampling;
+    Ok(write!(text, "point {path} {tenths} {lines} {spread}")?)
+}
+
+fn understood(alloc: Global, line: &str) -> Result<String, Fail> {
+    let words = words_of(alloc, line)?;
+    let mut text = String::new(alloc);
+    note(&read_words(alloc, words.as_slice())?, &mut text)?;
+    Ok(text)
+}
+
+fn is_understood(rt: &impl Abort, alloc: Global, row: &Row) -> Result<(), Fail> {
+    let Row(line, wanted) = row;
+    assert_text(rt, line, understood(alloc, line)?.as_str(), wanted);
+    Ok(())
+}
+
+fn is_refused(rt: &impl Abort, alloc: Global, row: &Refused) -> Result<(), Fail> {
+    let Refused(line, begin, holds) = row;
+    let text = understood(alloc, line)?;
+    let text = text.as_str();
+    let is_right = text.starts_with(*begin) && text.contains(*holds);
+    assert!(rt; is_right, "{line}: {text}");
+    Ok(())
+}
+
+#[test]
+fn reads_the_words_of_the_converter(rt: HostRuntime) -> Result<(), Fail> {
+    for row in WORDS.as_slice() {
+        is_understood(&rt, rt.alloc(), row)?;
+    }
+    Ok(())
+}
+
+#[test]
+fn refuses_words_of_the_converter(rt: HostRuntime) -> Result<(), Fail> {
+    for row in REFUSED.as_slice() {
+        is_refused(&rt, rt.alloc(), row)?;
+    }
+    Ok(())
+}

@@ -1,0 +1,167 @@
+//! Lines of counts, samples and points. Loads and means were computed by hand.
+use super::assert_text;
+use std::alloc::Global;
+use std::fmt::Write;
+use std::process::Abort;
+use std::test::Fail;
+use wb_calibration::{Calibration, Point};
+use wb_converter::{
+    Lines, Outbox, SampleFault, answer, mean, points_of, read_counts, sensitivity, spread, text_of,
+    with_point,
+};
+
+/// Two counts a tenth, and 20 an interval.
+const POINTS: [Point; 2] = [
+    Point {
+        counts: 0,
+        tenths: 0,
+    },
+    Point {
+        counts: 200,
+        tenths: 100,
+    },
+];
+
+/// What a row shows, a line, and what is handed on for it.
+struct Row(&'static str, &'static str, &'static str);
+
+static LINES: [Row; 9] = [
+    Row("counts", "200", "100\n"),
+    Row("an exact half", "1", "1\n"),
+    Row("below zero", "-30", "-15\n"),
+    Row("the greatest load", "4000000", "2000000\n"),
+    Row("a load past it", "4000002", "lost\n"),
+    Row("counts of 33 bits", "2147483648", "lost\n"),
+    Row("a reading that failed", "lost", "lost\n"),
+    Row("no line at all", "", "lost\n"),
+    Row("a plus sign", "+5", "lost\n"),
+];
+
+#[test]
+fn answers_lines_of_counts(rt: HostRuntime) -> Result<(), Fail> {
+    let Ok(calibration) = Calibration::new(&POINTS) else {
+        return Err(Fail::from("refused"));
+    };
+    for Row(shows, line, wanted) in LINES.as_slice() {
+        let text = answer(&calibration, line.as_bytes());
+        assert_text(&rt, shows, text.as_str(), wanted);
+    }
+    assert!(rt; sensitivity(&calibration) == 200);
+    Ok(())
+}
+
+fn note_counts(alloc: Global, lines: &str, number: u32, text: &mut String) -> Result<(), Fail> {
+    let mut input = lines.as_bytes();
+    match read_counts(alloc, &mut input, number) {
+        Ok(counts) => Ok(write!(text, "{counts:?}")?),
+        Err(fault) => note_fault(fault, text),
+    }
+}
+
+fn note_fault(fault: SampleFault, text: &mut String) -> Result<(), Fail> {
+    Ok(write!(text, "{fault}")?)
+}
+
+static SAMPLES: [Row; 4] = [
+    Row("three lines", "1\n-2\r\n3\n4\n", "[1, -2, 3]"),
+    Row("too few", "1\n2\n3", "only 2 lines came"),
+    Row("a lost reading", "1\nlost\n3\n", "line 2 has no counts"),
+    Row("none", "", "only 0 lines came"),
+];
+
+fn is_sampled(rt: &impl Abort, alloc: Global, row: &Row) -> Result<(), Fail> {
+    let Row(shows, lines, wanted) = row;
+    let mut text = String::new(alloc);
+    note_counts(alloc, lines, 3, &mut text)?;
+    assert_text(rt, shows, text.as_str(), wanted);
+    Ok(())
+}
+
+#[test]
+fn reads_counts_of_lines(rt: HostRuntime) -> Result<(), Fail> {
+    for row in SAMPLES.as_slice() {
+        is_sampled(&rt, rt.alloc(), row)?;
+    }
+    Ok(())
+}
+
+#[test]
+fn tells_mean_and_spread(rt: HostRuntime) {
+    assert!(rt; mean(&[1, 2]) == 2);
+    assert!(rt; mean(&[-1, -2]) == -1);
+    assert!(rt; mean(&[i32::MIN, i32::MIN]) == i32::MIN);
+    assert!(rt; mean(&[i32::MAX]) == i32::MAX);
+    assert!(rt; spread(&[5, -5, 0]) == 10);
+    assert!(rt; spread(&[i32::MIN, i32::MAX]) == 4_294_967_295);
+}
+
+#[test]
+fn keeps_points_in_the_order_of_their_loads(rt: HostRuntime) -> Result<(), Fail> {
+    let one = with_point(
+        &POINTS,
+        Point {
+            counts: 90,
+            tenths: 50,
+        },
+    );
+    assert_text(
+        &rt,
+        "between",
+        text_of(&one).as_str(),
+        "point 0 0\npoint 90 50\npoint 200 100\n",
+    );
+    let again = with_point(
+        &POINTS,
+        Point {
+            counts: 210,
+            tenths: 100,
+        },
+    );
+    let text = text_of(&again);
+    assert_text(
+        &rt,
+        "in its place",
+        text.as_str(),
+        "point 0 0\npoint 210 100\n",
+    );
+    let Some(read) = points_of(text.as_str().as_bytes()) else {
+        return Err(Fail::from("what was written isn't read"));
+    };
+    assert_text(&rt, "read again", text_of(&read).as_str(), text.as_str());
+    assert!(rt; points_of(b"point 1 2").is_none(), "a line without its end");
+    assert!(rt;
+        points_of(b"point 01 2\n").is_none(),
+        "a zero before a number"
+    );
+    Ok(())
+}
+
+#[test]
+fn hands_out_the_newest_line(rt: HostRuntime) {
+    let mut outbox = Outbox::new();
+    outbox.offer(b"12\n");
+    outbox.offer(b"345\n");
+    assert!(rt; outbox.next() == b"345\n".as_slice(), "the newest");
+    let few = outbox.next().len().min(2);
+    outbox.took(few);
+    assert!(rt; outbox.next() == b"5\n".as_slice(), "the rest");
+    outbox.offer(b"6\n");
+    assert!(rt; outbox.next() == b"?\n".as_slice(), "broken off");
+    let all = outbox.next().len();
+    outbox.took(all);
+    assert!(rt; outbox.next() == b"6\n".as_slice(), "and then the newest");
+    outbox.grow_old();
+    assert!(rt; outbox.next().is_empty(), "nothing that is old");
+}
+
+#[test]
+fn cuts_lines(rt: HostRuntime) {
+    let mut lines = Lines::new();
+    assert!(rt; lines.take(b"12").is_none());
+    assert!(rt; lines.take(b"3\r\n4") == Some(b"4".as_slice()));
+    assert!(rt; lines.line() == b"123".as_slice());
+    lines.begin();
+    assert!(rt; lines.take(&[b'1'; 65]).is_none());
+    assert!(rt; lines.take(b"\n") == Some(b"".as_slice()));
+    assert!(rt; lines.line().is_empty(), "too long");
+}

@@ -1,0 +1,137 @@
+//! The program `weighbridge-converter`: the process's own streams and files around what `wb_converter` does, as its command line asks.
+#![tactic(auto)]
+
+mod fault;
+mod files;
+mod making;
+mod serving;
+mod showing;
+mod sources;
+
+use crate::fault::Fault;
+use crate::files::{bytes_of, newest_of};
+use crate::making::{Found, finish, keep_point, sample};
+use crate::serving::serve;
+use crate::showing::{plot, show};
+use crate::sources::SOURCES;
+use clap::error::ErrorKind;
+use std::io;
+use std::process::ExitCode;
+use wb_calibration_file::Made;
+use wb_converter::{RunEnd, text_of};
+use wb_converter_command::{Asked, REFUSED, Sampling, read_words};
+
+/// The status of any fault but refused words.
+const FAULT: u8 = 1;
+
+fn main(rt: HostRuntime) -> io::Result<ExitCode> {
+    let mut words = Vec::new(rt.alloc());
+    for word in std::env::args(&rt)? {
+        words.push(word)?;
+    }
+    match read_words(rt.alloc(), words.as_slice())? {
+        Asked::Run(path, address, is_verbose) => {
+            let end = serve(&rt, path.as_str(), address.as_str(), is_verbose);
+            end_run(&rt, end)
+        }
+        Asked::Point(path, sampling) => run_point(&rt, path.as_str(), sampling),
+        Asked::Finish(path) => run_finish(&rt, path.as_str()),
+        Asked::Show(path) => run_show(&rt, path.as_str(), Print::Text),
+        Asked::Plot(path) => run_show(&rt, path.as_str(), Print::Plot),
+        Asked::WordsRefused(error) => tell(&rt, &error),
+        Asked::Nothing => Ok(ExitCode::from(REFUSED)),
+    }
+}
+
+/// Prints the refusal of the words, the help or the version, and with the version of which sources the program was made.
+fn tell(rt: &HostRuntime, told: &clap::Error) -> io::Result<ExitCode> {
+    told.print(rt)?;
+    if told.kind() == ErrorKind::DisplayVersion {
+        println!(rt; "sources {SOURCES}")?;
+    }
+    Ok(ExitCode::from(told.exit_code() as u8))
+}
+
+/// Reports a fault.
+fn tell_fault(rt: &HostRuntime, fault: Fault) -> io::Result<ExitCode> {
+    eprintln!(rt; "{fault}")?;
+    Ok(ExitCode::from(FAULT))
+}
+
+/// Prints how many lines were handed on, or reports the fault that ended it.
+fn end_run(rt: &HostRuntime, end: Result<RunEnd, Fault>) -> io::Result<ExitCode> {
+    match end {
+        Ok(end) => {
+            match end {
+                RunEnd::Lines(_) => println!(rt; "{end}")?,
+                RunEnd::Input | RunEnd::Clock => eprintln!(rt; "{end}")?,
+            }
+            Ok(ExitCode::from(end.status()))
+        }
+        Err(fault) => tell_fault(rt, fault),
+    }
+}
+
+/// Takes a point: prints mean and spread, and then all points that are kept.
+fn run_point(rt: &HostRuntime, path: &str, sampling: Sampling) -> io::Result<ExitCode> {
+    match sample(rt, path, sampling) {
+        Ok(found) => {
+            print_sample(rt, sampling, found)?;
+            keep(rt, path, sampling, found)
+        }
+        Err(fault) => tell_fault(rt, fault),
+    }
+}
+
+fn print_sample(rt: &HostRuntime, sampling: Sampling, found: Found) -> io::Result<()> {
+    let Found { mean, spread } = found;
+    println!(rt;
+        "load {} mean {mean} spread {spread} lines {}",
+        sampling.tenths, sampling.lines
+    )
+}
+
+fn keep(rt: &HostRuntime, path: &str, sampling: Sampling, found: Found) -> io::Result<ExitCode> {
+    match keep_point(rt, path, sampling, found) {
+        Ok(points) => {
+            print!(rt; "{}", text_of(&points).as_str())?;
+            Ok(ExitCode::SUCCESS)
+        }
+        Err(fault) => tell_fault(rt, fault),
+    }
+}
+
+/// Makes a calibration of the points that are kept, and prints it.
+fn run_finish(rt: &HostRuntime, path: &str) -> io::Result<ExitCode> {
+    match finish(rt, path) {
+        Ok(made) => print_made(rt, &made, Print::Text),
+        Err(fault) => tell_fault(rt, fault),
+    }
+}
+
+/// How a calibration is printed.
+#[derive(Clone, Copy)]
+enum Print {
+    Text,
+    Plot,
+}
+
+/// Prints the newest calibration of the file.
+fn run_show(rt: &HostRuntime, path: &str, print: Print) -> io::Result<ExitCode> {
+    match newest(rt, path) {
+        Ok(made) => print_made(rt, &made, print),
+        Err(fault) => tell_fault(rt, fault),
+    }
+}
+
+fn newest(rt: &HostRuntime, path: &str) -> Result<Made, Fault> {
+    newest_of(bytes_of(rt, path)?.as_slice())
+}
+
+fn print_made(rt: &HostRuntime, made: &Made, print: Print) -> io::Result<ExitCode> {
+    match print {
+        Print::Text => show(rt, made)?,
+        Print::Plot => plot(rt, made)?,
+    }
+    Ok(ExitCode::SUCCESS)
+}
