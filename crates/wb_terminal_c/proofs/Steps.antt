@@ -13,7 +13,7 @@ pub use types.Run.{enter, of_opd, lit, unit_lit, bin, addr, load, look, store, s
 pub use types.ByLocal.{alloc_all, pass_all, free_all, look_at, get, through, sets, lands_as, lands_last, env}
 pub use types.SemTy.{Body}
 pub use types.Tokens.{lft_new, lft_end}
-pub use denote.Builtin.{u8, u32, i64, bool, unit}
+pub use denote.Builtin.{u8, u32, usize, i64, bool, unit}
 pub use denote.Exit.{yes}
 pub use denote.Laws.{Is, shows}
 pub use denote.Memory.{mem, part_at}
@@ -51,3 +51,5 @@ pub use seplogic.Ra.Ura.{Ura}
 pub use prog.Model.{Model}
 pub use prog.Wired.{Wired}
 pub use contract.Running.{Running}
+pub use base.Fml.{Lft, Share}
+pub use denote.Triple.Walked.{gave_ref, Goes-gave_ref}

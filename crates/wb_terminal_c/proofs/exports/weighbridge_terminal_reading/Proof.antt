@@ -1,9 +1,9 @@
--- `weighbridge_terminal_reading` meets its contract: a walk of its code by hand, since it follows a raw pointer. A null is refused; else
--- the terminal is lent for the call of `read`, and comes back at its last value.
-use Rattle.wb_terminal_c.proofs.Steps.{◌≡◌, ℕ, List, [], ◌∷◌, ◌++◌, length, refl, ap, ◌∙◌, lit<, w32, w64, i64, sint_Makes, sint_vals, sint_Tells, sint_Lawful, proved, full_share, id⊢, ftrue, flft, flent, fex, fsep, named, vint, vptr, fact, tables, WpFn, ‵, raw, ◌⊛◌, some, later, at_ret, ◌$◌, ◌∵◌, !, qed, by, done, move, keep, drop, use1, use3, split, fsplit, join, fjoin, fpack, fpick, pick, await, suffices, frame, group, enter, of_opd, lit, bin, addr, stop, no_more, and_then, first, branches, skips, exec, env, returns, returns_within, alloc_all, pass_all, free_all, look_at, get, through, sets, lands_as, Body, lft_new, lft_end, u32, yes, Is, shows, mem, part_at, uint_Lawful, uint_Makes, Ptr, RawPtr, block_ptr, null_ptr, Testable, tests_null, if_non_null, lies_at, rawptr_vals, rawptr_Tells, MutRef, lends_ref, ref_back, plain, nothing, owned, heard, peeks, calls_at, lasts, on_entry, triple_of, framed, Stays, walk_of, says, stay_dropped, Goes-dropped, ends_at, Logic, sem, SProp, ent, Ura, Model, Wired, Running}
+-- `weighbridge_terminal_reading` meets its contract: a walk of its code by hand, since it follows a raw pointer. A null is refused; else the
+-- terminal is lent for the call of `read`, and comes back at its last value.
+use Rattle.wb_terminal_c.proofs.Steps.{◌≡◌, ℕ, length, subst, ◌≤◌, List, [], ◌∷◌, ◌++◌, refl, sym, ap, ◌∙◌, w8, w32, w64, MutBor, arith, proved, full_share, id⊢, Fml, ftrue, fat, flft, fres, flent, fex, fsep, ty_int, named, Val, vunit, vint, vptr, fact, tables, WpFn, ‵, raw, ◌⊛◌, some, later, prop, at_ret, Sq, ◌$◌, ◌∵◌, !, qed, done, by, move, keep, drop, use1, use2, use3, split, join, fsplit, fsplit3, fjoin, fpack, fpick, feq_i, feq_l, pick, await, rewrite, regoal, suffices, frame, group, enter, of_opd, lit, unit_lit, bin, addr, load, look, store, stop, fld, hop, no_more, and_then, assigns, assigns_last, first, blocks, branches, skips, exec, returns, returns_within, well_typed, alloc_all, pass_all, free_all, look_at, get, through, sets, lands_as, lands_last, env, Body, lft_new, lft_end, u8, u32, usize, i64, bool, unit, yes, Is, shows, mem, part_at, uint_in, uint_out, uint_Makes, uint_vals, uint_Tells, uint_Lawful, bool_vals, bool_Tells, sint_Makes, sint_vals, sint_Tells, sint_Lawful, Ptr, RawPtr, block_ptr, lies_at, in_a_block, rawptr_vals, rawptr_Tells, rawptr_Lawful, MutRef, mut_vals, mut_Tells, lends_ref, ref_back, plain, nothing, owned, opens, closes, tied, ties, heard, peeks, only, calls_at, lasts, ensured, on_entry, triple_of, framed, Stays, walk_of, says, stay_dropped, Goes-dropped, stay_ref, Goes-ref, ends_at, froom, fbor, feq, part_in, owns, lone, ShrRef, shr_vals, shr_Tells, room_at, init, get_in, look_in_at, from, whole, sub, agg, MutSlice, mut_slice_vals, mut_slice_Tells, slice_val, Room, finally, gave_slice, Goes-gave_slice, lit<, ◌<◌, ◌^◌, if_non_null, null_ptr, Testable, tests_null, Logic, sem, SProp, ent, Ura, Model, Wired, Running}
 use Rattle.std.specs.Prelude.{ℤ}
 use Rattle.wb_instrument.specs.Setup.{Setup}
-use Rattle.wb_sics.specs.Event.{Event, reading}
+use Rattle.wb_sics.specs.Event.{Event}
 use Rattle.wb_terminal_c.specs.Keeps.{Keeps}
 use Rattle.wb_terminal_c.specs.Placed.{terminal_at}
 use Rattle.wb_terminal_c.specs.declared.handle.Handle.{Handle}
@@ -13,6 +13,7 @@ use Rattle.wb_terminal_c.proofs.exports.weighbridge_terminal_reading.Statement.{
 use Rattle.wb_terminal_c.proofs.exports.weighbridge_terminal_reading.Code as code
 use Rattle.wb_terminal_c.specs.contracts.handle.read as g
 use Rattle.wb_terminal_c.proofs.handle.read.Met.{met}
+use Rattle.wb_sics.specs.Event.{reading}
 use Rattle.wb_window.specs.Reading.{reading_of}
 
 abbrev stayed : Stays f.ended.signature.params f.ended.kept
@@ -65,15 +66,15 @@ module _ {M : Type 1} (𝓤 : Ura M) (𝓛 : Logic 𝓤) (𝓜 : Model 𝓤 𝓛
       some (λ (ws : Handle × (Unit {0} × Unit {0})). ‵ (lasts g.ended z.0.0 z.0.3 ws) ⊛ (raw (fact 𝓤 ((i : Setup) (j : List Event) → Keeps old i j → Keeps ws.0 i (reading (reading_of k) ∷ j))) ⊛ raw (fact 𝓤 (r ≡ 0))))))) (id⊢ 𝓤 _) $
       await ! tt $ pick ! (λ r. split ! $ split ! $ split ! $ lft_end ! tt $ move ! (2 ∷ []) $
       peeks ! u32 (Is u32) (shows 𝓛 u32) r (v ∷ []) (λ is. lands_as ! refl refl ((uint_Lawful 𝓛 w32).typed r _ is).0 $
-      move ! (3 ∷ []) $ pick ! (λ ws. split ! $ move ! (1 ∷ []) $ split ! $ heard ! _ (λ takes. heard ! _ (λ zero. fsplit ! $ fsplit ! $
+      move ! (3 ∷ []) $ pick ! (λ ws. split ! $ move ! (1 ∷ []) $ split ! $ heard ! _ (λ one. heard ! _ (λ two. fsplit ! $ fsplit ! $
       -- [the handle's last value; its borrow; the rest; the result; the loan is over; nothing; the lender's part; the locals]
       move ! (4 ∷ 6 ∷ 0 ∷ []) $ use3 𝓛 (later (‵ (part_at the_row full_share ws.0 b o))) (ref_back 𝓛 the_row (α ∷ []) γ ws.0 b o) $ await ! tt $
       returns ! (look_at ! 0 refl) $ free_all ! refl $ keep ! (0 ∷ 3 ∷ []) $
       suffices ! _ (ends_at 𝓛 f.ended stayed c (y (block_ptr b o)) v r (tt, (tt, tt)) (tt, (tt, tt))) $
-      let kept : Keeps ws.0 s now = takes s h keeps in
+      let kept : Keeps ws.0 s now = one s h keeps in
       nothing ! $ fpack ! (Keeps ws.0 s now) (λ _. ftrue) kept $ move ! (1 ∷ 0 ∷ []) $ fjoin ! $
       fpack ! Handle (λ x. fsep (lies_at the_row full_share (block_ptr b o) x) (fex (Keeps x s now) (λ _. ftrue))) ws.0 $
-      move ! (1 ∷ 0 ∷ []) $ nothing ! $ nothing ! $ join ! $ nothing ! $ join ! $ nothing ! $ group ! 3 $ frame ! $ says ! zero $ done !))))))))))))
+      move ! (1 ∷ 0 ∷ []) $ nothing ! $ nothing ! $ join ! $ nothing ! $ join ! $ nothing ! $ group ! 3 $ frame ! $ says ! (two) $ done !))))))))))))
 
 pub weighbridge_terminal_reading_spec : {M : Type 1} → statement M
 weighbridge_terminal_reading_spec 𝓤 𝓛 𝓜 𝓡 wired =

@@ -1,7 +1,5 @@
-use Rattle.std.proofs.Common.{◌≡◌, ◌+◌, ◌∷◌, ◌<◌, length, take, arith, sym, ap, ◌∙◌, subst}
+use Rattle.std.proofs.Common.{◌≡◌, ◌+◌, length, take, arith, sym, ap, ◌∙◌, subst}
 use Rattle.std.proofs.lemmas.Bool.Decides.{nat_tests}
-use Rattle.std.proofs.lemmas.List.{take_all}
-use Rattle.wb_sics.specs.Replies.{replies}
 use Rattle.wb_terminal_c.specs.Heard.{heard}
 use Rattle.wb_terminal_c.specs.Keeps.{Keeps}
 use Rattle.wb_terminal_c.proofs.Hearing.{heard-next, Taken, Taken-next, Taken-last, Taken-all}
