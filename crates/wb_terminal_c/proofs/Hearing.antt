@@ -1,5 +1,5 @@
 -- Bytes that are handed in together, taken one after the other.
-use Rattle.std.proofs.Common.{◌≡◌, ℕ, zero, suc, ◌+◌, ◌<◌, Bool, true, false, List, [], ◌∷◌, ◌++◌, length, take, drop, get_or, refl, sym, ap, ◌∙◌, arith, drop-cons}
+use Rattle.std.proofs.Common.{◌≡◌, ℕ, suc, ◌+◌, ◌<◌, false, List, [], ◌∷◌, ◌++◌, length, take, drop, get_or, refl, ap, ◌∙◌, arith, drop-cons}
 use Rattle.std.proofs.lemmas.Bool.Decides.{nat_tests}
 use Rattle.std.proofs.lemmas.List.{drop_all, take_more}
 use Rattle.std.specs.Prelude.{◌==◌, if◌then◌else◌}
@@ -7,8 +7,6 @@ use Rattle.wb_instrument.specs.Setup.{Setup}
 use Rattle.wb_sics.specs.Event.{Event, byte}
 use Rattle.wb_sics.specs.Replies.{replies}
 use Rattle.wb_terminal_c.specs.Heard.{heard, until_reply}
-use Rattle.wb_terminal_c.specs.declared.handle.Handle.{Handle}
-use Rattle.wb_terminal_c.specs.Keeps.{Keeps}
 
 heard-push : (bs : List ℕ) (b : ℕ) (h : List Event) → heard (bs ++ b ∷ []) h ≡ byte b ∷ heard bs h
 heard-push [] b h = refl

@@ -23,6 +23,17 @@ use crate::setup::Setup;
 /// What is answered at null.
 const NO_TERMINAL: u32 = 10;
 
+/// The version of what C calls: 10,000 for the first place, 100 for the second, 1 for the third.
+const VERSION: u32 = 10_000;
+
+/// The version.
+#[unsafe(no_mangle)]
+pub extern "C" fn weighbridge_terminal_version() -> u32
+    ensures { result ≡ 10000 }
+{
+    VERSION
+}
+
 /// The bytes that a terminal takes.
 #[unsafe(no_mangle)]
 pub extern "C" fn weighbridge_terminal_size() -> usize

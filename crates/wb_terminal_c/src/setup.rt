@@ -51,7 +51,11 @@ fn serial(setup: &Setup) -> &str
     let Ok(text) = std::str::from_utf8(characters) else {
         return "";
     };
-    if Serial::new(text).is_some() { text } else { "" }
+    if Serial::new(text).is_some() {
+        text
+    } else {
+        ""
+    }
 }
 
 /// The number of a part.

@@ -1,7 +1,6 @@
 -- `weighbridge_terminal_replies` meets its contract: a walk of its code by hand, since it follows a raw pointer. A null is refused; else the
 -- terminal is lent for the call of `count`, and comes back at its last value.
-use Rattle.wb_terminal_c.proofs.Steps.{◌≡◌, ℕ, length, subst, ◌≤◌, List, [], ◌∷◌, ◌++◌, refl, sym, ap, ◌∙◌, w8, w32, w64, MutBor, arith, proved, full_share, id⊢, Fml, ftrue, fat, flft, fres, flent, fex, fsep, ty_int, named, Val, vunit, vint, vptr, fact, tables, WpFn, ‵, raw, ◌⊛◌, some, later, prop, at_ret, Sq, ◌$◌, ◌∵◌, !, qed, done, by, move, keep, drop, use1, use2, use3, split, join, fsplit, fsplit3, fjoin, fpack, fpick, feq_i, feq_l, pick, await, rewrite, regoal, suffices, frame, group, enter, of_opd, lit, unit_lit, bin, addr, load, look, store, stop, fld, hop, no_more, and_then, assigns, assigns_last, first, blocks, branches, skips, exec, returns, returns_within, well_typed, alloc_all, pass_all, free_all, look_at, get, through, sets, lands_as, lands_last, env, Body, lft_new, lft_end, u8, u32, usize, i64, bool, unit, yes, Is, shows, mem, part_at, uint_in, uint_out, uint_Makes, uint_vals, uint_Tells, uint_Lawful, bool_vals, bool_Tells, sint_Makes, sint_vals, sint_Tells, sint_Lawful, Ptr, RawPtr, block_ptr, lies_at, in_a_block, rawptr_vals, rawptr_Tells, rawptr_Lawful, MutRef, mut_vals, mut_Tells, lends_ref, ref_back, plain, nothing, owned, opens, closes, tied, ties, heard, peeks, only, calls_at, lasts, ensured, on_entry, triple_of, framed, Stays, walk_of, says, stay_dropped, Goes-dropped, stay_ref, Goes-ref, ends_at, froom, fbor, feq, part_in, owns, lone, ShrRef, shr_vals, shr_Tells, room_at, init, get_in, look_in_at, from, whole, sub, agg, MutSlice, mut_slice_vals, mut_slice_Tells, slice_val, Room, finally, gave_slice, Goes-gave_slice, lit<, ◌<◌, ◌^◌, if_non_null, null_ptr, Testable, tests_null, Logic, sem, SProp, ent, Ura, Model, Wired, Running}
-use Rattle.std.specs.Prelude.{ℤ}
+use Rattle.wb_terminal_c.proofs.Steps.{◌≡◌, ℕ, length, subst, List, [], ◌∷◌, refl, sym, ap, ◌∙◌, w64, proved, full_share, id⊢, ftrue, flft, flent, fex, fsep, named, vint, vptr, fact, tables, WpFn, ‵, raw, ◌⊛◌, some, later, at_ret, ◌$◌, ◌∵◌, !, qed, done, by, move, keep, drop, use1, use3, split, join, fsplit, fjoin, fpack, fpick, pick, await, suffices, frame, group, enter, of_opd, lit, bin, addr, stop, no_more, and_then, first, branches, skips, exec, returns, returns_within, alloc_all, pass_all, free_all, look_at, get, through, sets, lands_as, env, Body, lft_new, lft_end, usize, yes, Is, shows, mem, part_at, uint_Makes, uint_Lawful, Ptr, RawPtr, block_ptr, lies_at, rawptr_vals, rawptr_Tells, MutRef, lends_ref, ref_back, plain, nothing, owned, heard, peeks, calls_at, lasts, on_entry, triple_of, framed, Stays, walk_of, says, stay_dropped, Goes-dropped, ends_at, lit<, if_non_null, null_ptr, Testable, tests_null, Logic, sem, SProp, ent, Ura, Model, Wired, Running}
 use Rattle.wb_instrument.specs.Setup.{Setup}
 use Rattle.wb_sics.specs.Event.{Event}
 use Rattle.wb_terminal_c.specs.Keeps.{Keeps}
