@@ -41,7 +41,8 @@ static void print_indication(weighbridge_terminal *terminal) {
 
 int main(void) {
     weighbridge_terminal_setup setup = {20, 60001, 4, 2, 10, 20, "WB01"};
-    weighbridge_terminal *terminal = aligned_alloc(weighbridge_terminal_alignment(), weighbridge_terminal_size());
+    weighbridge_terminal *terminal =
+        (weighbridge_terminal *)aligned_alloc(weighbridge_terminal_alignment(), weighbridge_terminal_size());
     if (terminal == NULL) {
         return 1;
     }

@@ -121,6 +121,49 @@ size_t weighbridge_terminal_reply(weighbridge_terminal *terminal, size_t place, 
 /* Tells what is indicated. */
 uint32_t weighbridge_terminal_indicate(weighbridge_terminal *terminal, weighbridge_terminal_indication *indication);
 
+#ifndef NDEBUG
+/* The same calls with assertions of what the caller keeps. */
+static inline weighbridge_terminal *weighbridge_terminal_checked(weighbridge_terminal *terminal) {
+    assert(weighbridge_terminal_version() / 10000 == WEIGHBRIDGE_TERMINAL_VERSION / 10000);
+    assert((uintptr_t)terminal % weighbridge_terminal_alignment() == 0);
+    return terminal;
+}
+
+static inline const void *weighbridge_terminal_not_null(const void *pointer) {
+    assert(pointer != NULL);
+    return pointer;
+}
+
+static inline void *weighbridge_terminal_room(void *pointer) {
+    assert(pointer != NULL);
+    return pointer;
+}
+
+static inline size_t weighbridge_terminal_length(size_t length) {
+    assert(length <= SIZE_MAX / 2);
+    return length;
+}
+
+#define weighbridge_terminal_open(terminal, setup)                                                                     \
+    weighbridge_terminal_open(weighbridge_terminal_checked(terminal),                                                  \
+                              (const weighbridge_terminal_setup *)weighbridge_terminal_not_null(setup))
+#define weighbridge_terminal_reading(terminal, tenths)                                                                 \
+    weighbridge_terminal_reading(weighbridge_terminal_checked(terminal), tenths)
+#define weighbridge_terminal_byte(terminal, byte) weighbridge_terminal_byte(weighbridge_terminal_checked(terminal), byte)
+#define weighbridge_terminal_bytes(terminal, bytes, length)                                                            \
+    weighbridge_terminal_bytes(weighbridge_terminal_checked(terminal),                                                 \
+                               (const uint8_t *)weighbridge_terminal_not_null(bytes),                                  \
+                               weighbridge_terminal_length(length))
+#define weighbridge_terminal_hang_up(terminal) weighbridge_terminal_hang_up(weighbridge_terminal_checked(terminal))
+#define weighbridge_terminal_replies(terminal) weighbridge_terminal_replies(weighbridge_terminal_checked(terminal))
+#define weighbridge_terminal_reply(terminal, place, buffer, length)                                                    \
+    weighbridge_terminal_reply(weighbridge_terminal_checked(terminal), place,                                          \
+                               (uint8_t *)weighbridge_terminal_room(buffer), weighbridge_terminal_length(length))
+#define weighbridge_terminal_indicate(terminal, indication)                                                            \
+    weighbridge_terminal_indicate(weighbridge_terminal_checked(terminal),                                              \
+                                  (weighbridge_terminal_indication *)weighbridge_terminal_room(indication))
+#endif
+
 /* Takes a reading that failed. */
 static inline uint32_t weighbridge_terminal_lost(weighbridge_terminal *terminal) {
     return weighbridge_terminal_reading(terminal, WEIGHBRIDGE_TERMINAL_LOST);
@@ -179,44 +222,6 @@ static inline const char *weighbridge_terminal_state(uint32_t state) {
         return "unknown";
     }
 }
-
-#ifndef NDEBUG
-/* The same calls with assertions of what the caller keeps. */
-static inline weighbridge_terminal *weighbridge_terminal_checked(weighbridge_terminal *terminal) {
-    assert(weighbridge_terminal_version() / 10000 == WEIGHBRIDGE_TERMINAL_VERSION / 10000);
-    assert((uintptr_t)terminal % weighbridge_terminal_alignment() == 0);
-    return terminal;
-}
-
-static inline void *weighbridge_terminal_not_null(const void *pointer) {
-    assert(pointer != NULL);
-    return (void *)(uintptr_t)pointer;
-}
-
-static inline size_t weighbridge_terminal_length(size_t length) {
-    assert(length <= SIZE_MAX / 2);
-    return length;
-}
-
-#define weighbridge_terminal_open(terminal, setup)                                                                     \
-    weighbridge_terminal_open(weighbridge_terminal_checked(terminal),                                                  \
-                              (const weighbridge_terminal_setup *)weighbridge_terminal_not_null(setup))
-#define weighbridge_terminal_reading(terminal, tenths)                                                                 \
-    weighbridge_terminal_reading(weighbridge_terminal_checked(terminal), tenths)
-#define weighbridge_terminal_byte(terminal, byte) weighbridge_terminal_byte(weighbridge_terminal_checked(terminal), byte)
-#define weighbridge_terminal_bytes(terminal, bytes, length)                                                            \
-    weighbridge_terminal_bytes(weighbridge_terminal_checked(terminal),                                                 \
-                               (const uint8_t *)weighbridge_terminal_not_null(bytes),                                  \
-                               weighbridge_terminal_length(length))
-#define weighbridge_terminal_hang_up(terminal) weighbridge_terminal_hang_up(weighbridge_terminal_checked(terminal))
-#define weighbridge_terminal_replies(terminal) weighbridge_terminal_replies(weighbridge_terminal_checked(terminal))
-#define weighbridge_terminal_reply(terminal, place, buffer, length)                                                    \
-    weighbridge_terminal_reply(weighbridge_terminal_checked(terminal), place,                                          \
-                               (uint8_t *)weighbridge_terminal_not_null(buffer), weighbridge_terminal_length(length))
-#define weighbridge_terminal_indicate(terminal, indication)                                                            \
-    weighbridge_terminal_indicate(weighbridge_terminal_checked(terminal),                                              \
-                                  (weighbridge_terminal_indication *)weighbridge_terminal_not_null(indication))
-#endif
 
 #ifdef __cplusplus
 }
