@@ -116,7 +116,7 @@ def calls_of(crate, text):
             while "<" in bare and bare != (less := re.sub(r"<[^<>]*>", "", bare)):
                 bare = less
             owner, is_trait = re.split(r"[\s:{]", bare.rpartition(" for ")[2].strip())[0], block[1] == "trait"
-        elif function := re.match(r" *(pub |pub\(crate\) )?fn (\w+)", line):
+        elif function := re.match(r' *(pub |pub\(crate\) )?(?:unsafe )?(?:extern "C" )?fn (\w+)', line):
             head = []
             for later in lines[place:]:
                 head.append(later)

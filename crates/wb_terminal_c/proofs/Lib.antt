@@ -1,0 +1,4 @@
+pub mod Keeping
+pub mod Hearing
+pub mod Serials
+pub mod Steps

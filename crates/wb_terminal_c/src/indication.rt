@@ -1,0 +1,54 @@
+//! What is indicated, as C reads it.
+ghost use Rattle.std.specs.Prelude.{◌≡◌, ◌≤ℤ◌, ◌*ℤ◌, ◌+◌, neg_ℤ, pos};
+ghost use Rattle.wb_instrument.specs.Setup.{intervals};
+ghost use Rattle.wb_scale.specs.Indication.{IsInRange};
+ghost use Rattle.wb_terminal_c.specs.Shown.{shown, weights};
+
+use wb_instrument::Instrument;
+use wb_scale::Indicated;
+
+/// What is indicated: 0 no load, 1 overload, 2 underload, 3 weights that aren't stable, 4 stable ones. Without weights both are
+/// 0.
+#[repr(C)]
+#[derive(Drop)]
+pub struct Indication {
+    pub state: u32,
+    pub gross_kg: i32,
+    pub net_kg: i32,
+}
+
+/// What is indicated, with the weights in kilograms.
+pub(crate) fn indication_of(instrument: &Instrument, indicated: Indicated) -> Indication
+    requires { IsInRange instrument.now indicated }
+    ensures { result ≡ shown instrument.now indicated }
+{
+    match indicated {
+        Indicated::NoLoad => without_weights(0),
+        Indicated::Over => without_weights(1),
+        Indicated::Under => without_weights(2),
+        Indicated::Shown { gross, net, stable } => Indication {
+            state: if stable { 4 } else { 3 },
+            gross_kg: kilograms(instrument, gross),
+            net_kg: kilograms(instrument, net),
+        },
+    }
+}
+
+fn without_weights(state: u32) -> Indication
+    ensures { result ≡ weights state (pos 0) (pos 0) }
+{
+    Indication {
+        state,
+        gross_kg: 0,
+        net_kg: 0,
+    }
+}
+
+/// So many intervals in kilograms.
+fn kilograms(instrument: &Instrument, whole: i32) -> i32
+    requires least { neg_ℤ (pos (intervals instrument.now + 20)) ≤ℤ whole }
+    requires most { whole ≤ℤ pos (intervals instrument.now + 9) }
+    ensures { result ≡ pos instrument.now.interval_kg *ℤ whole }
+{
+    instrument.interval_kg() as i32 * whole
+}

@@ -1,0 +1,129 @@
+"""Tests of the Python module. `python3 -m unittest` in this folder, with WEIGHBRIDGE_TERMINAL_LIBRARY if the library is elsewhere."""
+
+import copy
+import doctest
+import pickle
+import unittest
+
+import weighbridge_terminal
+from weighbridge_terminal import Indication, Setup, SetupError, Terminal
+
+
+def steady(terminal, tenths, readings=4):
+    for _ in range(readings):
+        replies = terminal.reading(tenths)
+    return replies
+
+
+class Weighing(unittest.TestCase):
+    def test_weighs_a_vehicle(self):
+        terminal = Terminal()
+        self.assertEqual(terminal.indication(), Indication("NO LOAD", None, None))
+        steady(terminal, 1)
+        self.assertEqual(terminal.send("Z\r\n"), ["Z A"])
+        self.assertEqual(terminal.send("SI\r\n"), ["S S          0 kg"])
+        self.assertEqual(terminal.reading(2500), [])
+        self.assertEqual(terminal.indication(), Indication("MOVING", 5000, 5000))
+        self.assertEqual(terminal.send("S\r\n"), [])
+        self.assertEqual([terminal.reading(9170) for _ in range(4)], [[], [], [], ["S S      18340 kg"]])
+        self.assertEqual(terminal.send("TA 5000 kg\r\nSI\r\n"), ["TA A       5000 kg", "S S      13340 kg"])
+        self.assertEqual(terminal.indication(), Indication("STABLE", 18340, 13340))
+        self.assertTrue(terminal.indication().is_stable)
+
+    def test_tells_that_there_is_no_weight(self):
+        terminal = Terminal()
+        self.assertEqual(terminal.lost(), [])
+        self.assertEqual(terminal.indication().state, "NO LOAD")
+        terminal.reading(30100)
+        self.assertEqual(terminal.indication(), Indication("OVERLOAD", None, None))
+        terminal.reading(-300)
+        self.assertEqual(terminal.indication(), Indication("UNDERLOAD", None, None))
+        self.assertEqual(terminal.send("SI\n"), ["S -"])
+
+    def test_takes_a_load_out_of_range_as_lost(self):
+        terminal = Terminal()
+        for tenths in (2_000_001, -2_000_001, 2**63 - 1, -(2**63), 2**80, -(2**80), None):
+            terminal.reading(0)
+            terminal.reading(tenths)
+            self.assertEqual(terminal.indication().state, "NO LOAD")
+
+
+class Lines(unittest.TestCase):
+    def test_takes_a_line_in_any_pieces(self):
+        whole, pieces = Terminal(), Terminal()
+        text = b"I0\r\nTA 5000 kg\r\nSI\r\nxyz\n\nI4\r\n"
+        wanted = whole.send(text)
+        self.assertEqual(len(wanted), 15)
+        self.assertEqual([reply for byte in text for reply in pieces.send(bytes([byte]))], wanted)
+
+    def test_tells_each_command(self):
+        self.assertEqual(Terminal().send("I0\r\n"), ['I0 B 0 "@"', 'I0 B 0 "I0"', 'I0 B 0 "I4"', 'I0 B 0 "S"', 'I0 B 0 "SI"', 'I0 B 0 "SIR"', 'I0 B 0 "Z"', 'I0 B 1 "T"', 'I0 B 1 "TA"', 'I0 A 1 "TAC"'])
+
+    def test_repeats_the_value(self):
+        terminal = Terminal()
+        self.assertEqual(terminal.send("SIR\r\n"), [])
+        steady(terminal, 9170)
+        self.assertEqual(terminal.reading(9170), ["S S      18340 kg"])
+        self.assertEqual(terminal.send("SI\r\n"), ["S S      18340 kg"])
+        self.assertEqual(terminal.reading(9170), [])
+
+    def test_drops_the_line_and_what_waits_at_a_hang_up(self):
+        terminal = Terminal()
+        terminal.reading(100)
+        self.assertEqual(terminal.send("S\r\nSI"), [])
+        terminal.hang_up()
+        self.assertEqual(steady(terminal, 100, 9), [])
+        self.assertEqual(terminal.send("\r\n"), ["ES"])
+
+    def test_takes_nothing(self):
+        terminal = Terminal()
+        self.assertEqual(terminal.send("I4\r\n"), ['I4 A "WB01"'])
+        self.assertEqual(terminal.send(""), [])
+
+
+class Setups(unittest.TestCase):
+    def test_names_the_first_part_outside_its_limits(self):
+        rows = [("interval_kg", 3), ("max_kg", 60001), ("window", 3), ("window", 65), ("band", 3), ("pace", 51), ("wait", 0), ("wait", 601), ("serial", ""), ("serial", "wb01"), ("serial", "A" * 17), ("serial", "A" * 30), ("serial", "WB\0"), ("serial", "Ä"), ("max_kg", -1), ("max_kg", 2**32 + 60000)]
+        for name, value in rows:
+            with self.assertRaises(SetupError) as caught:
+                Terminal(**{name: value})
+            self.assertEqual(caught.exception.part.name, name)
+        with self.assertRaises(SetupError) as caught:
+            Terminal(serial="", pace=1)
+        self.assertEqual(caught.exception.part.name, "pace")
+
+    def test_takes_the_limits_themselves(self):
+        for parts in ({"window": 4}, {"window": 64}, {"band": 1}, {"pace": 2}, {"pace": 50}, {"wait": 1}, {"wait": 600}, {"serial": "A"}, {"serial": "A1B2C3D4E5F6G7H8"}, {"interval_kg": 50, "max_kg": 500000}, {"interval_kg": 1, "max_kg": 500}):
+            self.assertEqual(Terminal(**parts).setup, Setup(**parts))
+        self.assertEqual(Terminal(Setup(serial="A1B2C3D4E5F6G7H8")).send("I4\n"), ['I4 A "A1B2C3D4E5F6G7H8"'])
+
+    def test_takes_either_a_setup_or_parts(self):
+        with self.assertRaises(TypeError):
+            Terminal(Setup(), window=5)
+        with self.assertRaises(TypeError):
+            Terminal(retention=90)
+
+
+class Objects(unittest.TestCase):
+    def test_terminals_are_apart(self):
+        one, other = Terminal(), Terminal(window=64)
+        steady(one, 9170)
+        self.assertEqual(one.send("SI\n"), ["S S      18340 kg"])
+        self.assertEqual(other.send("SI\n"), ["S I"])
+
+    def test_is_not_copied_or_stored(self):
+        for attempt in (copy.copy, copy.deepcopy, pickle.dumps):
+            with self.assertRaises(TypeError):
+                attempt(Terminal())
+
+    def test_tells_its_version(self):
+        self.assertRegex(weighbridge_terminal.VERSION, r"^1\.\d+\.\d+$")
+
+
+def load_tests(loader, tests, pattern):
+    tests.addTests(doctest.DocTestSuite(weighbridge_terminal))
+    return tests
+
+
+if __name__ == "__main__":
+    unittest.main()

@@ -1,0 +1,207 @@
+"""A weighing terminal: MT-SICS levels 0 and 1 over a scale of class III.
+
+    >>> from weighbridge_terminal import Terminal
+    >>> terminal = Terminal(interval_kg=20, max_kg=60000)
+    >>> for _ in range(4):
+    ...     replies = terminal.reading(9170)
+    >>> terminal.send("SI\\r\\n")
+    ['S S      18340 kg']
+    >>> terminal.indication()
+    Indication(state='STABLE', gross_kg=18340, net_kg=18340)
+
+What a terminal answers is proved for every history of calls; docs/library.md says what. One terminal may be used by one thread at a time.
+"""
+
+from __future__ import annotations
+
+import ctypes
+import os
+from dataclasses import dataclass
+from typing import NamedTuple, Optional, Union
+
+__all__ = ["Indication", "Part", "SetupError", "Setup", "Terminal", "VERSION"]
+
+LIBRARY = os.environ.get("WEIGHBRIDGE_TERMINAL_LIBRARY") or os.path.join(os.path.dirname(os.path.abspath(__file__)), "libweighbridge-terminal.so")
+LOST = 2**63 - 1
+REPLY_BYTES = 32
+SERIAL_BYTES = 20
+STATES = ("NO LOAD", "OVERLOAD", "UNDERLOAD", "MOVING", "STABLE")
+
+
+class _CSetup(ctypes.Structure):
+    _fields_ = [(name, ctypes.c_uint32) for name in ("interval_kg", "max_kg", "window", "band", "pace", "wait")] + [("serial", ctypes.c_char * SERIAL_BYTES)]
+
+
+class _CIndication(ctypes.Structure):
+    _fields_ = [("state", ctypes.c_uint32), ("gross_kg", ctypes.c_int32), ("net_kg", ctypes.c_int32)]
+
+
+def _load(path: str) -> ctypes.CDLL:
+    """The library, each function with its types: without them a pointer would be passed as an int of 32 bits."""
+    library = ctypes.CDLL(path)
+    types = {
+        "version": (ctypes.c_uint32, []),
+        "size": (ctypes.c_size_t, []),
+        "alignment": (ctypes.c_size_t, []),
+        "open": (ctypes.c_uint32, [ctypes.c_void_p, ctypes.POINTER(_CSetup)]),
+        "reading": (ctypes.c_uint32, [ctypes.c_void_p, ctypes.c_int64]),
+        "byte": (ctypes.c_uint32, [ctypes.c_void_p, ctypes.c_uint8]),
+        "bytes": (ctypes.c_size_t, [ctypes.c_void_p, ctypes.c_void_p, ctypes.c_size_t]),
+        "hang_up": (ctypes.c_uint32, [ctypes.c_void_p]),
+        "replies": (ctypes.c_size_t, [ctypes.c_void_p]),
+        "reply": (ctypes.c_size_t, [ctypes.c_void_p, ctypes.c_size_t, ctypes.c_void_p, ctypes.c_size_t]),
+        "indicate": (ctypes.c_uint32, [ctypes.c_void_p, ctypes.POINTER(_CIndication)]),
+    }
+    for name, (result, arguments) in types.items():
+        function = getattr(library, "weighbridge_terminal_" + name)
+        function.restype, function.argtypes = result, arguments
+    return library
+
+
+_library = _load(LIBRARY)
+
+VERSION: str = "{}.{}.{}".format(_library.weighbridge_terminal_version() // 10000, _library.weighbridge_terminal_version() // 100 % 100, _library.weighbridge_terminal_version() % 100)
+"""The version of the library."""
+
+
+class Part(NamedTuple):
+    """A part of a setup: its number, its name, and what is allowed."""
+
+    number: int
+    name: str
+    allowed: str
+
+
+PARTS = (
+    Part(1, "interval_kg", "1, 2, 5, 10, 20 or 50"),
+    Part(2, "max_kg", "500 to 10,000 whole intervals"),
+    Part(3, "window", "4 to 64"),
+    Part(4, "band", "1 or 2"),
+    Part(5, "pace", "2 to 50"),
+    Part(6, "wait", "1 to 600"),
+    Part(7, "serial", "1 to 16 characters of A-Z and 0-9"),
+)
+
+
+class SetupError(ValueError):
+    """A setup of which a part is outside its limits; `part` is the first such part."""
+
+    def __init__(self, part: Part) -> None:
+        super().__init__(f"{part.name} is not {part.allowed}")
+        self.part = part
+
+
+@dataclass(frozen=True)
+class Setup:
+    """What is stated of an instrument."""
+
+    interval_kg: int = 20
+    """The verification scale interval e, in kilograms: 1, 2, 5, 10, 20 or 50."""
+    max_kg: int = 60000
+    """Max, in kilograms: 500 to 10,000 whole intervals."""
+    window: int = 4
+    """The readings that must agree: 4 to 64."""
+    band: int = 2
+    """Within how many tenths of e: 1 or 2."""
+    pace: int = 10
+    """The readings a second: 2 to 50."""
+    wait: int = 20
+    """The readings that S, Z and T wait: 1 to 600."""
+    serial: str = "WB01"
+    """1 to 16 characters of A-Z and 0-9."""
+
+    def _as_c(self) -> _CSetup:
+        for part in PARTS[:-1]:
+            if not 0 <= getattr(self, part.name) < 2**32:
+                raise SetupError(part)
+        serial = self.serial.encode("ascii", "replace")
+        # What is too long for its place is no serial, and neither is what has a 0 in it.
+        fits = len(serial) < SERIAL_BYTES and b"\0" not in serial
+        numbers = [getattr(self, part.name) for part in PARTS[:-1]]
+        return _CSetup(*numbers, serial if fits else b"")
+
+
+class Indication(NamedTuple):
+    """What is indicated."""
+
+    state: str
+    """`NO LOAD`, `OVERLOAD`, `UNDERLOAD`, `MOVING` or `STABLE`."""
+    gross_kg: Optional[int]
+    """Gross in kilograms; none but in the last two states."""
+    net_kg: Optional[int]
+    """Net in kilograms; none but in the last two states."""
+
+    @property
+    def is_stable(self) -> bool:
+        return self.state == "STABLE"
+
+
+class Terminal:
+    """A terminal over a scale that has no reading yet."""
+
+    def __init__(self, setup: Optional[Setup] = None, **parts: Union[int, str]) -> None:
+        """Opens a terminal of a setup, or of these parts of one. Raises SetupError if one is outside its limits."""
+        if setup is not None and parts:
+            raise TypeError("either a setup or its parts")
+        self.setup: Setup = Setup(**parts) if setup is None else setup  # type: ignore[arg-type]
+        room, step = _library.weighbridge_terminal_size(), _library.weighbridge_terminal_alignment()
+        # The memory is this object's as long as it lives; the terminal lies at the first place in it that is aligned.
+        self._memory = ctypes.create_string_buffer(room + step - 1)
+        self._at = -(-ctypes.addressof(self._memory) // step) * step
+        self._text = ctypes.create_string_buffer(REPLY_BYTES)
+        self._shown = _CIndication()
+        answer = _library.weighbridge_terminal_open(self._at, self.setup._as_c())
+        if answer:
+            raise SetupError(PARTS[answer - 1])
+
+    def __copy__(self) -> "Terminal":
+        raise TypeError("a terminal can't be copied")
+
+    def __deepcopy__(self, memo: object) -> "Terminal":
+        raise TypeError("a terminal can't be copied")
+
+    def __reduce__(self) -> str:
+        raise TypeError("a terminal can't be stored")
+
+    def reading(self, tenths: Optional[int]) -> list[str]:
+        """Takes a reading of the load converter, in tenths of e from -2,000,000 to 2,000,000; None is a reading that failed, and so is any
+        other number. Returns the replies at it, without their CR LF."""
+        inside = tenths is not None and -(2**63) <= tenths < 2**63
+        _library.weighbridge_terminal_reading(self._at, tenths if inside else LOST)
+        return self._replies()
+
+    def lost(self) -> list[str]:
+        """Takes a reading that failed. Returns the replies at it."""
+        return self.reading(None)
+
+    def send(self, text: Union[str, bytes]) -> list[str]:
+        """Takes bytes of the terminal's stream, in any pieces; a line ends with an LF, or with CR LF. Returns the replies in their order,
+        without their CR LF."""
+        data = text.encode() if isinstance(text, str) else bytes(text)
+        held = ctypes.create_string_buffer(data, len(data) + 1)
+        replies: list[str] = []
+        taken = 0
+        while taken < len(data):
+            taken += _library.weighbridge_terminal_bytes(self._at, ctypes.addressof(held) + taken, len(data) - taken)
+            replies += self._replies()
+        return replies
+
+    def hang_up(self) -> None:
+        """The connection ended: the unfinished line, a command that waits and the repetition are dropped. Zero and tare stay."""
+        _library.weighbridge_terminal_hang_up(self._at)
+
+    def indication(self) -> Indication:
+        """What is indicated of the last reading."""
+        _library.weighbridge_terminal_indicate(self._at, self._shown)
+        state = STATES[self._shown.state]
+        if state in ("MOVING", "STABLE"):
+            return Indication(state, self._shown.gross_kg, self._shown.net_kg)
+        return Indication(state, None, None)
+
+    def _replies(self) -> list[str]:
+        count = _library.weighbridge_terminal_replies(self._at)
+        return [self._reply(place) for place in range(count)] if count else []
+
+    def _reply(self, place: int) -> str:
+        length = _library.weighbridge_terminal_reply(self._at, place, self._text, REPLY_BYTES)
+        return self._text.raw[: length - 2].decode("ascii")
