@@ -176,7 +176,8 @@ class Text(threading.Thread):
         due = time.monotonic()
         while not self.over.is_set():
             try:
-                os.write(self.line, self.spoil(self.frame()))
+                if self.line is not None:
+                    os.write(self.line, self.spoil(self.frame()))
             except OSError:
                 pass  # it is away, or nobody reads
             due = max(due + 1 / self.rate, time.monotonic())
@@ -213,6 +214,26 @@ class Text(threading.Thread):
             ("a status that says out of range", begins(lambda frame: frame[:2] + b"4" + frame[3:]), ends),
             ("a device that went away", self.end, self.begin),
         ]
+
+
+class TextByTcp(Text):
+    """The same over TCP. What is written to a pseudo terminal is handed on by threads of the system, which wait for long on a busy machine."""
+
+    def begin(self):
+        self.listener, self.line = socket.create_server((bridge.HOST, 0)), None
+        threading.Thread(target=self.accept, daemon=True).start()
+
+    def accept(self):
+        self.stream, _ = self.listener.accept()
+        self.stream.setsockopt(socket.IPPROTO_TCP, socket.TCP_NODELAY, 1)
+        self.line = self.stream.fileno()
+
+    def end(self):
+        self.stream.close()
+        self.listener.close()
+
+    def words(self):
+        return ["text", "--tcp", f"{bridge.HOST}:{self.listener.getsockname()[1]}", "--preset", "continuous"]
 
 
 class Iio:
