@@ -251,11 +251,13 @@ begin
     from (select number, moment, lag(moment, 1, before_at at time zone 'UTC') over (order by number) as former from judged where sound) s
     where moment < former
     union all
-    select case when count(e.number) > 0 then 'missing' else 'unseen' end, a, z, format('%s of them stored', count(e.number))
+    select case when count(e.number) > 0 then 'missing' else 'unseen' end, a, z, format('%s of them stored then', count(e.number))
     from (select lag(number, 1, coalesce(before, 0)) over (order by number) + 1 as a, number - 1 as z from judged) gap
     left join entry e on e.journal = its and e.number between a and z where a <= z group by a, z
     union all
-    select 'shorter', highest + 1, stored, 'stored, and the journal ends before' where stored > highest
+    -- of the bridge's newest journal: an older export of a former one is no news
+    select 'shorter', highest + 1, stored, 'stored, and the journal ends before'
+    where stored > highest and its = (select max(journal) from journal where bridge = of_bridge)
     union all
     -- of age: on a day greater than the day of the moment plus the days of retention, in UTC
     select 'early', before, before, format('gone with all before, and kept for %s days', days)
@@ -281,7 +283,7 @@ begin
     select its, (select count(*) from judged), highest, (select count(*) from found where what = 'added'),
         (select count(*) from found where what <> 'added'), (select count(*) from new)
     returning * into done;
-    return next format('%s: %s records, %s added, %s findings, %s of them new', of_bridge, done.records, done.added, done.findings, done.new_findings);
+    return next format('%s: records %s, added %s, findings %s, new %s', of_bridge, done.records, done.added, done.findings, done.new_findings);
     for it in
         select * from finding_beside_stored f where f.journal = its and f.at = now() order by f.finding limit 20
     loop
@@ -333,12 +335,13 @@ create view finding_beside_stored as
         a.means, a.to_do
     from finding f join journal j using (journal) join advice a using (what) left join entry e on e.journal = f.journal and e.number = f.first;
 
--- When each bridge was heard of last, and whether it fell silent.
+-- When each bridge's newest journal was heard of last, and whether it fell silent.
 create view heard as
     select b.bridge, l.journal, l.at as loaded, e.number, e.moment as newest, coalesce(now() - l.at > b.load_within, true) as is_silent,
         coalesce(now() - e.moment > b.entry_within, e.moment is null and b.entry_within is not null) as is_idle
     from bridge b
-    left join lateral (select l.* from load l join journal j using (journal) where j.bridge = b.bridge order by l.load desc limit 1) l on true
+    left join lateral (
+        select l.* from load l where l.journal = (select max(j.journal) from journal j where j.bridge = b.bridge) order by l.load desc limit 1) l on true
     left join lateral (select e.number, e.moment from entry e where e.journal = l.journal order by e.number desc limit 1) e on true;
 
 -- What the bridge's own check looks for, of what is stored here, made again: none, unless this cluster's own files were changed. Asked after a restore.
@@ -356,6 +359,8 @@ grant insert on bridge, instrument, journal, loader to head_office_registrar;
 -- how long a bridge may be silent, who loads, and a note may be said anew; which instrument is whose may not
 grant update (zone, retention_days, load_within, entry_within) on bridge to head_office_registrar;
 grant delete on loader to head_office_registrar;
+-- one that was registered by mistake: nothing hangs on it yet, or it stays
+grant delete on journal to head_office_registrar;
 grant update (note) on journal to head_office_registrar;
 grant insert (number, key, kind, plate, moment, gross_kg, preset_kg, interval_kg, max_kg, serial, digest) on handed to head_office_loader;
 grant execute on function take_in(text) to head_office_loader;
