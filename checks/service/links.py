@@ -127,13 +127,21 @@ def calls_of(crate, text):
     return found
 
 
+def laws_of(crate, text):
+    """The laws of a crate's theorems: each has one clause, what it states."""
+    return [Call(crate, None, name, True, {PLAIN}) for name in re.findall(r"(?m)^pub (law_of_\w+) :", text)]
+
+
 @functools.cache
 def calls():
-    """The public functions of each crate."""
+    """The public functions and the laws of each crate."""
     found = {}
     for path in paths("crates/*/src/**/*.rt"):
         crate = path.split("/")[1]
         found.setdefault(crate, []).extend(it for it in calls_of(crate, read(path)) if it.is_public)
+    for path in paths("crates/*/proofs/Theorems.antt"):
+        crate = path.split("/")[1]
+        found.setdefault(crate, []).extend(laws_of(crate, read(path)))
     return found
 
 

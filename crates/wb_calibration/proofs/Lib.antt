@@ -6,4 +6,5 @@ pub mod Products
 pub mod Rounding
 pub mod Segments
 pub mod Sizes
+pub mod Theorems
 pub mod Turning

@@ -4,20 +4,15 @@
 //! counts it gives the load on the straight line through the two points between which they lie, rounded to a tenth, an exact half up.
 //! Counts past either end lie on the line of the two points at that end, as far as a load converter hands loads in. What is proved,
 //! whatever the points and the counts: at each point the load is that point's, more counts give no less load (fewer, for
-//! a cell whose counts fall), the load lies within half a tenth of the line, and nothing overflows (`laws.rt`).
+//! a cell whose counts fall), the load lies within half a tenth of the line, and nothing overflows (`proofs/Theorems.antt`).
 //! No call takes memory.
 #![tactic(auto)]
 
 mod calibration;
 mod fault;
-mod laws;
 mod point;
 mod segment;
 
 pub use calibration::Calibration;
 pub use fault::CalibrationFault;
-pub use laws::{
-    law_of_all_counts, law_of_faultless_points, law_of_nearness, law_of_neighbours, law_of_order,
-    law_of_points,
-};
 pub use point::Point;

@@ -9,7 +9,6 @@
 mod answering;
 mod client;
 mod counts;
-mod laws;
 mod lines;
 mod outbox;
 mod per_interval;
@@ -21,7 +20,6 @@ mod taken;
 pub use answering::answer;
 pub use client::Clients;
 pub use counts::counts_line;
-pub use laws::law_of_answers;
 pub use lines::Lines;
 pub use outbox::{LINE_ROOM, Outbox};
 pub use per_interval::sensitivity;

@@ -12,4 +12,5 @@ pub mod PurgeBound
 pub mod PurgePass
 pub mod PurgeScan
 pub mod Search
+pub mod Theorems
 pub mod offered

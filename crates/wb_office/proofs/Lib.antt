@@ -7,5 +7,6 @@ mod Members
 mod NewEntries
 mod Purges
 mod Serving
+pub mod Theorems
 mod Verdicts
 mod courses

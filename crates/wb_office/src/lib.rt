@@ -15,7 +15,6 @@ mod indication;
 mod journal_export;
 mod judgement;
 mod judging;
-mod laws;
 mod looking;
 mod new_entry;
 mod office;
@@ -29,12 +28,6 @@ mod weighing;
 
 pub use answer::{Answer, CsvText};
 pub use journal_export::journal_text;
-pub use laws::{
-    law_of_closed_weighings, law_of_closing_places, law_of_keys, law_of_known_keys, law_of_numbers,
-    law_of_partners, law_of_places, law_of_purged_journals, law_of_refusals,
-    law_of_repeated_requests, law_of_retention, law_of_sound_journals, law_of_stops,
-    law_of_stored_loads, law_of_tickets,
-};
 pub use office::Office;
 pub use refusal::Refusal;
 pub use request::Request;

@@ -4,6 +4,7 @@ pub mod Pauses
 pub mod Spacing
 pub mod Standing
 pub mod Steadiness
+pub mod Theorems
 pub mod Tracks
 pub mod Unmarking
 pub mod Windows

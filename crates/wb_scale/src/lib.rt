@@ -7,7 +7,6 @@
 mod answers;
 mod cleared;
 mod indication;
-mod laws;
 mod load;
 mod scale;
 mod tare;
@@ -15,7 +14,4 @@ mod tracking;
 mod zero_setting;
 
 pub use answers::{Indicated, PresetAnswer, TareAnswer, TareNow, ZeroAnswer};
-pub use laws::{
-    law_of_drift, law_of_steady_indication, law_of_unmarked_histories, law_of_zero_range,
-};
 pub use scale::Scale;

@@ -4,5 +4,6 @@ pub mod Decided
 pub mod Hearing
 pub mod Repeating
 pub mod Standing
+pub mod Theorems
 pub mod UnfinishedLine
 pub mod WhatWaits

@@ -10,7 +10,6 @@
 mod answers;
 mod command;
 mod grams;
-mod laws;
 mod line;
 mod repetition;
 mod reply;
@@ -18,6 +17,5 @@ mod terminal;
 mod waiting;
 
 pub use command::{Command, parse_line};
-pub use laws::{law_of_replies, law_of_stored_weighings};
 pub use reply::{CommandName, Replies, Reply, ReplyText};
 pub use terminal::Terminal;

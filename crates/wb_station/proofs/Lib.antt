@@ -6,6 +6,7 @@ mod HeardEvents
 mod OfficeRequests
 mod OneHistory
 mod RunsSoFar
+pub mod Theorems
 mod judgement
 pub mod RefusalNames
 pub mod offered

@@ -12,12 +12,11 @@ use crate::request::request_of;
 use crate::response::response_bytes;
 use crate::room::ResponseRoom;
 use crate::routes::Routes;
-use crate::whole::law_of_one_judgement;
 use sqlite::Alter;
 use std::alloc::Global;
-use wb_journal::{Moment, law_of_one_bound};
+use wb_journal::Moment;
 use wb_office::{Office, Request};
-use wb_sics::{Terminal, law_of_stored_weighings};
+use wb_sics::Terminal;
 use wb_window::Window;
 
 /// Asks the office what the bytes ask, and leaves the response in the room.
@@ -33,7 +32,6 @@ pub(crate) fn ask<W: Window, D: Alter>(
     ensures { (unmade : Bool) × Took D.Store (office_happening moment.now bytes.now unmade)
         (responded room.new) terminal.old office.old terminal.new office.new }
 {
-    law_of_one_judgement();
     match request_of(alloc, routes, bytes) {
         Ok(request) => answer(alloc, terminal, office, room, moment, request),
         Err(fault) => put_fault(room, moment, fault),
@@ -54,9 +52,6 @@ fn answer<W: Window, D: Alter>(
         × Took D.Store (office_happening moment.now bytes unmade)
         (responded room.new) terminal.old office.old terminal.new office.new }
 {
-    law_of_one_bound();
-    law_of_one_judgement();
-    law_of_stored_weighings();
     let asked = request.copied();
     let result = office.answer(alloc, terminal.scale_mut(), moment.copied(), request);
     let outcome = Outcome::Office {

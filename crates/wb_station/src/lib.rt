@@ -15,7 +15,6 @@ mod fault;
 mod form;
 mod head;
 mod hearing;
-mod laws;
 mod line;
 mod outcome;
 mod output_list;
@@ -31,17 +30,13 @@ mod whole;
 
 pub use event::{Event, Output};
 pub use fault::{HttpFault, Method};
-pub use laws::{
-    law_of_courses, law_of_kept_entries, law_of_one_history, law_of_replies_alone, law_of_runs,
-    law_of_same_again,
-};
 pub use outcome::Outcome;
 pub use output_list::{OutputList, Placed};
 pub use outputs::{Outputs, Refused};
 pub use request::request_of;
-pub use response::{law_of_one_response, response_bytes};
+pub use response::response_bytes;
 pub use room::ResponseRoom;
 pub use routes::Routes;
 pub use run::{ReplyBytes, RunStopped, reply_bytes};
 pub use station::{OpenRefused, Station};
-pub use whole::{is_whole, law_of_one_judgement, law_of_whole_requests};
+pub use whole::is_whole;

@@ -2,7 +2,7 @@
 ghost use Rattle.std.specs.Prelude.{◌≡◌, ◌≤◌, IsOk, OnErr, OnOk, [], false, length, vec_capacity};
 ghost use Rattle.wb_office.specs.Serves.{told as told_by_office, told_of};
 ghost use Rattle.wb_station.specs.helpers.ToldByParts.{told_by};
-ghost use Rattle.wb_station.specs.Response.{IsDateOf, IsResponse, OneResponse, answer_status as answer_status_of, has_export, is_csv, is_export, phrase as phrase_of, refusal_status as refusal_status_of, response_text, told, told_answer, told_result};
+ghost use Rattle.wb_station.specs.Response.{IsDateOf, IsResponse, answer_status as answer_status_of, has_export, is_csv, is_export, phrase as phrase_of, refusal_status as refusal_status_of, response_text, told, told_answer, told_result};
 
 use crate::line::{Line, count_line, line_of_fault, line_of_refusal};
 use crate::outcome::Outcome;
@@ -200,8 +200,3 @@ fn put_result(
         }
     }
 }
-
-/// An outcome at a moment has one response.
-pub fn law_of_one_response()
-    ensures { OneResponse }
-{}

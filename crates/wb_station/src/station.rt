@@ -22,8 +22,8 @@ use std::alloc::Global;
 use wb_instrument::Instrument;
 use wb_office::Office;
 use wb_scale::Scale;
-use wb_sics::{Replies, Terminal, law_of_replies};
-use wb_store::{Store, law_of_leaving};
+use wb_sics::{Replies, Terminal};
+use wb_store::Store;
 use wb_window::{Reading, Window};
 
 /// A weighbridge: readings, the terminal's bytes and the office's requests come to it one by one.
@@ -73,7 +73,6 @@ impl<W: Window, D: Alter> Station<W, D> {
         ensures store { IfOk result (λ s. s.office ≡ store) }
         ensures hands_back { IfErr result (λ r. (r.window ≡ window) × (r.store ≡ store)) }
     {
-        law_of_leaving(&store);
         let Ok(routes) = Routes::new(alloc) else {
             return Err(OpenRefused { window, store });
         };
@@ -119,7 +118,6 @@ impl<W: Window, D: Alter> Station<W, D> {
             (shown_in result self.new.replies.items self.new.response)
             self.old.terminal self.old.office self.new.terminal self.new.office }
     {
-        law_of_replies();
         match event {
             Event::Reading(reading) => {
                 self.take_reading(*reading);
@@ -152,7 +150,6 @@ impl<W: Window, D: Alter> Station<W, D> {
         ensures { Took D.Store (reading_happening reading) (replied self.new.replies.items)
             self.old.terminal self.old.office self.new.terminal self.new.office }
     {
-        law_of_replies();
         hear(
             &mut self.terminal,
             &mut self.replies,

@@ -2,7 +2,7 @@
 ghost use Rattle.httparse.specs.Spans.{IsHeaderWithin};
 ghost use Rattle.std.specs.Prelude.{◌≡◌, All, IsUtf8, length};
 ghost use Rattle.wb_station.specs.helpers.AskedByHead.{sought_in, whole_by};
-ghost use Rattle.wb_station.specs.WholeRequests.{OneJudgement, TellsWhole, WholeStays};
+ghost use Rattle.wb_station.specs.WholeRequests.{TellsWhole};
 
 use crate::fault::HttpFault;
 use crate::head::{FIELD_LIMIT, Head, head_at, places_of};
@@ -32,13 +32,3 @@ fn is_body_whole(routes: &Routes, head: &Head<'_>) -> bool
         Err(_) => true,
     }
 }
-
-/// Bytes are judged in one way.
-pub fn law_of_one_judgement()
-    ensures { OneJudgement }
-{}
-
-/// Once a request is whole, it is judged so with whatever follows.
-pub fn law_of_whole_requests()
-    ensures { WholeStays }
-{}
