@@ -10,6 +10,10 @@ is_over s gross = int_lt (pos (intervals s + 9)) gross
 abbrev pub is_under : ℤ → Bool
 is_under gross = int_lt gross (neg_ℤ (pos 20))
 
+-- Min is 20 e, in class III with e of 5 g or more (OIML R 76-1:2006, 3.2)
+abbrev pub is_below_min : ℤ → Bool
+is_below_min gross = int_lt gross (pos 20)
+
 -- how far from the calibration zero the zero may lie, in tenths of e: 2 % of Max, n/5 rounded down (OIML R 76-1:2006, 4.5.1)
 abbrev pub zero_limit : Setup → ℕ
 zero_limit s = intervals s / 5

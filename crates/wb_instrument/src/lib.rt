@@ -16,6 +16,7 @@ mod setup;
 
 pub use field::weight_field;
 pub use interval::is_interval;
+pub use limits::MIN_INTERVALS;
 pub use rounding::round_tenths;
 pub use serial::Serial;
 pub use setup::{Instrument, PartFault, Parts};

@@ -1,9 +1,12 @@
 //! Limits of indication and of the zero.
-ghost use Rattle.std.specs.Prelude.{◌≡◌, pos};
+ghost use Rattle.std.specs.Prelude.{◌≡◌, ◌+◌, ◌≤ℤ◌, ◌*ℤ◌, neg_ℤ, pos};
 ghost use Rattle.wb_instrument.specs.Limits.{is_over, is_under, tracking_gap, zero_limit};
 ghost use Rattle.wb_instrument.specs.Setup.{IsSetup, intervals};
 
 use crate::Instrument;
+
+/// Min in intervals, in class III with e of 5 g or more (OIML R 76-1:2006, 3.2).
+pub const MIN_INTERVALS: i32 = 20;
 
 /// The intervals above Max that are still indicated (OIML R 76-1:2006, 4.2.3).
 const OVER_RANGE_INTERVALS: i32 = 9;
@@ -21,6 +24,15 @@ impl Instrument {
         ensures setup { IsSetup self.now }
     {
         self.max_kg() / self.interval_kg()
+    }
+
+    /// So many intervals in kilograms.
+    pub fn kilograms(&self, whole: i32) -> i32
+        requires least { neg_ℤ (pos (intervals self.now + 20)) ≤ℤ whole }
+        requires most { whole ≤ℤ pos (intervals self.now + 9) }
+        ensures { result ≡ pos self.now.interval_kg *ℤ whole }
+    {
+        self.interval_kg() as i32 * whole
     }
 
     /// Whether so many intervals are above Max + 9 e.

@@ -1,7 +1,7 @@
 -- The conditions on which a weighing or void is refused: those with a section are OIML R 76-1:2006's, the others this project's own.
-use Rattle.std.specs.Prelude.{ℕ, ◌+◌, Bool, false, not, ◌&&◌, ◌||◌, nat_lt, List, length, Option, Some, None, is_some, is_none, ℤ, pos, int_lt}
+use Rattle.std.specs.Prelude.{ℕ, ◌+◌, Bool, false, not, ◌&&◌, ◌||◌, nat_lt, List, length, Option, Some, None, is_some, is_none, ℤ, int_lt}
 use Rattle.std.specs.Str.{bytes_eq}
-use Rattle.wb_instrument.specs.Limits.{is_over, is_under}
+use Rattle.wb_instrument.specs.Limits.{is_below_min, is_over, is_under}
 use Rattle.wb_journal.specs.declared.entry.EntryParts.{EntryParts}
 use Rattle.wb_journal.specs.declared.kind.Kind.{Kind}
 use Rattle.wb_journal.specs.declared.kind.Kind.TheVariants.{First, Second, Single, Void}
@@ -74,7 +74,7 @@ unstable a = weighs a && not (is_stable a.now.setup.window a.now.setup.band (rea
 
 -- gross is below Min (20 e in class III with e of 5 g or more: 3.2; that it is refused is this project's own)
 abbrev pub below_min : Asking → Bool
-below_min a = weighs a && holds_of (λ g. int_lt g (pos 20)) (gross a.now.history)
+below_min a = weighs a && holds_of is_below_min (gross a.now.history)
 
 -- any tare is in force for a First or Second, a weighed one for a Single
 abbrev pub tare_active : Asking → Bool

@@ -1,7 +1,6 @@
 //! The text of an indication.
 ghost use Rattle.arrayvec.specs.ArrayString.{array_string_len};
-ghost use Rattle.std.specs.Prelude.{◌≡◌, ◌≤◌, ◌≤ℤ◌, ◌*ℤ◌, ◌+◌, length, neg_ℤ, pos};
-ghost use Rattle.wb_instrument.specs.Setup.{intervals};
+ghost use Rattle.std.specs.Prelude.{◌≡◌, ◌≤◌, length};
 ghost use Rattle.wb_office.specs.Answer.{indication_text as indication_text_of, motion as motion_of, weights_text};
 ghost use Rattle.wb_scale.specs.Indication.{IsInRange};
 
@@ -19,8 +18,8 @@ pub(crate) fn indication_text(instrument: &Instrument, indicated: Indicated) -> 
         Indicated::Over => text_of("OVERLOAD"),
         Indicated::Under => text_of("UNDERLOAD"),
         Indicated::Shown { gross, net, stable } => {
-            let gross_kg = kilograms(instrument, gross);
-            weights(stable, gross_kg, kilograms(instrument, net))
+            let gross_kg = instrument.kilograms(gross);
+            weights(stable, gross_kg, instrument.kilograms(net))
         }
     }
 }
@@ -52,13 +51,4 @@ fn motion(stable: bool) -> &'static str
     ensures fits { length result.now ≤ 6 }
 {
     if stable { "STABLE" } else { "MOVING" }
-}
-
-/// So many intervals in kilograms.
-pub(crate) fn kilograms(instrument: &Instrument, whole: i32) -> i32
-    requires least { neg_ℤ (pos (intervals instrument.now + 20)) ≤ℤ whole }
-    requires most { whole ≤ℤ pos (intervals instrument.now + 9) }
-    ensures { result ≡ pos instrument.now.interval_kg *ℤ whole }
-{
-    instrument.interval_kg() as i32 * whole
 }

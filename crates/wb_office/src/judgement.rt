@@ -11,11 +11,9 @@ ghost use Rattle.wb_office.specs.Verdict.{first_refusal, of_new};
 
 use crate::evidence::{Evidence, OfJournal};
 use crate::refusal::Refusal;
+use wb_instrument::MIN_INTERVALS;
 use wb_journal::{Kind, is_sound};
 use wb_scale::{Indicated, TareNow};
-
-/// Min in class III with e of 5 g or more, in intervals (OIML R 76-1:2006, 3.2).
-const MIN_INTERVALS: i32 = 20;
 
 /// The last number of an entry.
 const LAST_NUMBER: u64 = 4_294_967_295;

@@ -6,7 +6,7 @@ use Rattle.std.proofs.lemmas.Int.{ints}
 use Rattle.wb_window.specs.declared.reading.Reading.{Reading}
 use Rattle.wb_scale.specs.declared.answers.TareNow.{TareNow}
 use Rattle.wb_scale.specs.helpers.After.{above}
-use Rattle.wb_scale.specs.Cleared.{clears, is_below_min, is_cleared, places, stores}
+use Rattle.wb_scale.specs.Cleared.{clears, has_below_min, is_cleared, places, stores}
 use Rattle.wb_scale.specs.Indication.{gross}
 use Rattle.wb_scale.specs.Moment.{Moment, readings}
 use Rattle.wb_scale.specs.Tare.{tare_now}
@@ -76,5 +76,5 @@ is_cleared-stored m ms e = is_cleared-cons m ms ∙ rw e refl
 pub is_cleared-none : (m : Moment) (ms : List Moment) → m.reading ≡ None → m.stored ≡ false → is_cleared (m ∷ ms) ≡ is_cleared ms
 is_cleared-none m ms e f = is_cleared-cons m ms ∙ rw (e, f) refl
 
-pub is_cleared-taken : (m : Moment) (ms : List Moment) (r : Reading) → m.reading ≡ Some r → m.stored ≡ false → is_cleared (m ∷ ms) ≡ (is_below_min (gross (m ∷ ms)) || is_cleared ms)
+pub is_cleared-taken : (m : Moment) (ms : List Moment) (r : Reading) → m.reading ≡ Some r → m.stored ≡ false → is_cleared (m ∷ ms) ≡ (has_below_min (gross (m ∷ ms)) || is_cleared ms)
 is_cleared-taken m ms r e f = is_cleared-cons m ms ∙ rw (e, f) refl

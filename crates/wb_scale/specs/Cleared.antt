@@ -1,13 +1,14 @@
 -- The cleared bridge.
-use Rattle.std.specs.Prelude.{Bool, false, ◌&&◌, List, [], ◌∷◌, Option, Some, None, is_some, ℤ, pos, int_lt}
+use Rattle.std.specs.Prelude.{Bool, false, ◌&&◌, List, [], ◌∷◌, Option, Some, None, is_some, ℤ}
 use Rattle.std.specs.List.{list_any, before_first}
+use Rattle.wb_instrument.specs.Limits.{is_below_min}
 use Rattle.wb_scale.specs.Moment.{Moment}
 use Rattle.wb_scale.specs.Indication.{gross}
 
--- a gross is below Min, 20 e (OIML R 76-1:2006, 3.2)
-abbrev pub is_below_min : Option ℤ → Bool
-is_below_min None = false
-is_below_min (Some gross) = int_lt gross (pos 20)
+-- there is a gross, below Min
+abbrev pub has_below_min : Option ℤ → Bool
+has_below_min None = false
+has_below_min (Some gross) = is_below_min gross
 
 -- the moments up to each call, the newest call first
 abbrev pub places : List Moment → List (List Moment)
@@ -17,7 +18,7 @@ places (m ∷ ms) = (m ∷ ms) ∷ places ms
 -- the newest call took a reading, whose gross is below Min; the gross is that after the reading's effect on the zero
 abbrev pub clears : List Moment → Bool
 clears [] = false
-clears (m ∷ ms) = is_some m.reading && is_below_min (gross (m ∷ ms))
+clears (m ∷ ms) = is_some m.reading && has_below_min (gross (m ∷ ms))
 
 -- the newest call stored a weighing
 abbrev pub stores : List Moment → Bool

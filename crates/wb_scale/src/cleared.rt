@@ -8,11 +8,8 @@ ghost use Rattle.wb_scale.specs.helpers.Load.{IsAbove};
 ghost use Rattle.wb_scale.specs.Stands.{Stands, Takes};
 
 use crate::Scale;
-use wb_instrument::round_tenths;
+use wb_instrument::{MIN_INTERVALS, round_tenths};
 use wb_window::Window;
-
-/// Min in intervals, in class III with e of 5 g or more (OIML R 76-1:2006, 3.2).
-const MIN_INTERVALS: i32 = 20;
 
 impl<W: Window> Scale<W> {
     /// Whether the bridge was cleared since the last stored weighing, or since the opening.

@@ -1,6 +1,5 @@
 //! The replies that the scale's answers give.
-ghost use Rattle.std.specs.Prelude.{◌≡◌, ◌≤ℤ◌, ◌*ℤ◌, ◌+◌, neg_ℤ, pos};
-ghost use Rattle.wb_instrument.specs.Setup.{intervals};
+ghost use Rattle.std.specs.Prelude.{◌≡◌};
 ghost use Rattle.wb_scale.specs.Indication.{IsInRange};
 ghost use Rattle.wb_sics.specs.Answers.{preset_reply as preset_reply_of, tare_reply as tare_reply_of, weight_now as weight_now_of, weight_reply as weight_reply_of, weight_shown, zero_reply as zero_reply_of};
 
@@ -21,7 +20,7 @@ pub(crate) fn weight_now(instrument: &Instrument, indicated: Indicated) -> Reply
             gross: _,
             net,
             stable,
-        } => weight(stable, kilograms(instrument, net)),
+        } => weight(stable, instrument.kilograms(net)),
     }
 }
 
@@ -50,7 +49,7 @@ pub(crate) fn weight_reply(instrument: &Instrument, indicated: Indicated) -> Opt
             stable,
         } => {
             if stable {
-                Some(Reply::WeightStable(kilograms(instrument, net)))
+                Some(Reply::WeightStable(instrument.kilograms(net)))
             } else {
                 None
             }
@@ -92,12 +91,4 @@ pub(crate) fn preset_reply(answer: PresetAnswer) -> Reply
         PresetAnswer::WeighedInUse => Reply::PresetRefused,
         PresetAnswer::OutOfRange => Reply::PresetBad,
     }
-}
-
-fn kilograms(instrument: &Instrument, whole: i32) -> i32
-    requires least { neg_ℤ (pos (intervals instrument.now + 20)) ≤ℤ whole }
-    requires most { whole ≤ℤ pos (intervals instrument.now + 9) }
-    ensures { result ≡ pos instrument.now.interval_kg *ℤ whole }
-{
-    instrument.interval_kg() as i32 * whole
 }

@@ -1,6 +1,5 @@
 //! What is indicated, as C reads it.
-ghost use Rattle.std.specs.Prelude.{◌≡◌, ◌≤ℤ◌, ◌*ℤ◌, ◌+◌, neg_ℤ, pos};
-ghost use Rattle.wb_instrument.specs.Setup.{intervals};
+ghost use Rattle.std.specs.Prelude.{◌≡◌, pos};
 ghost use Rattle.wb_scale.specs.Indication.{IsInRange};
 ghost use Rattle.wb_terminal_c.specs.Shown.{shown, weights};
 
@@ -28,8 +27,8 @@ pub(crate) fn indication_of(instrument: &Instrument, indicated: Indicated) -> In
         Indicated::Under => without_weights(2),
         Indicated::Shown { gross, net, stable } => Indication {
             state: if stable { 4 } else { 3 },
-            gross_kg: kilograms(instrument, gross),
-            net_kg: kilograms(instrument, net),
+            gross_kg: instrument.kilograms(gross),
+            net_kg: instrument.kilograms(net),
         },
     }
 }
@@ -42,13 +41,4 @@ fn without_weights(state: u32) -> Indication
         gross_kg: 0,
         net_kg: 0,
     }
-}
-
-/// So many intervals in kilograms.
-fn kilograms(instrument: &Instrument, whole: i32) -> i32
-    requires least { neg_ℤ (pos (intervals instrument.now + 20)) ≤ℤ whole }
-    requires most { whole ≤ℤ pos (intervals instrument.now + 9) }
-    ensures { result ≡ pos instrument.now.interval_kg *ℤ whole }
-{
-    instrument.interval_kg() as i32 * whole
 }

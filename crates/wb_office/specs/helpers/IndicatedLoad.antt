@@ -1,5 +1,6 @@
 -- What is judged and stored of a load, by what is indicated.
-use Rattle.std.specs.Prelude.{ℕ, Bool, false, not, if◌then◌else◌, Option, Some, None, pos, int_lt}
+use Rattle.std.specs.Prelude.{ℕ, Bool, false, not, if◌then◌else◌, Option, Some, None, int_lt}
+use Rattle.wb_instrument.specs.Limits.{is_below_min}
 use Rattle.wb_instrument.specs.Setup.{Setup}
 use Rattle.wb_journal.specs.declared.kind.Kind.{Kind}
 use Rattle.wb_journal.specs.declared.kind.Kind.TheVariants.{First, Second, Single, Void}
@@ -18,7 +19,7 @@ refusal_of_shown Over = Some refusal.Overload
 refusal_of_shown Under = Some refusal.Underload
 refusal_of_shown (Shown gross net stable) =
     if not stable then Some refusal.Unstable
-    else if int_lt gross (pos 20) then Some refusal.BelowMin
+    else if is_below_min gross then Some refusal.BelowMin
     else None
 
 -- a preset tare is in force, below a gross that is shown

@@ -8,7 +8,7 @@ use Rattle.wb_window.specs.Stability.{is_stable}
 use Rattle.wb_scale.specs.declared.answers.TareAnswer.{TareAnswer}
 use Rattle.wb_scale.specs.declared.answers.ZeroAnswer.{ZeroAnswer}
 use Rattle.wb_scale.specs.declared.answers.ZeroAnswer.TheVariants.{Done}
-use Rattle.wb_scale.specs.Cleared.{is_below_min}
+use Rattle.wb_scale.specs.Cleared.{has_below_min}
 use Rattle.wb_scale.specs.State.{State}
 use Rattle.wb_scale.specs.Tare.{tare_answer_of}
 use Rattle.wb_scale.specs.Tracking.{step_to}
@@ -32,7 +32,7 @@ step_of stable pause limit zero load = if nat_le pause 0 && stable then step_to 
 
 -- the bridge is cleared by a gross below Min, or was before
 abbrev pub cleared_from : Bool → Option ℤ → Bool
-cleared_from cleared tenths = is_below_min (option_map round tenths) || cleared
+cleared_from cleared tenths = has_below_min (option_map round tenths) || cleared
 
 -- zero tracking has made this step at the load that the window has taken
 abbrev pub moved : State → ℤ → State
