@@ -1,4 +1,4 @@
-//! The judgement of a weighing or void: by its key, and if the key is new by the conditions of `judgement.rt`.
+//! The judgement of a weighing or void: by its key, and if the key is new by the conditions of `conditions.rt`.
 ghost use Rattle.std.specs.Prelude.{◌≡◌, IfOk, None, Some, false, not, true};
 ghost use Rattle.std.specs.Option.{option_copied};
 ghost use Rattle.wb_journal.specs.Digest.{is_sound as is_sound_entry};
@@ -14,8 +14,8 @@ ghost use Rattle.wb_scale.specs.Indication.{IsInRange};
 ghost use Rattle.wb_scale.specs.Tare.{IsTare};
 ghost use Rattle.wb_store.specs.Lists.{AreLists, by_key};
 
+use crate::conditions::is_second;
 use crate::evidence::{Evidence, OfScale};
-use crate::judgement::is_second;
 use crate::looking::look_at_journal;
 use crate::new_entry::new_entry;
 use crate::refusal::Refusal;

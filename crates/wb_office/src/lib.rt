@@ -8,12 +8,12 @@
 
 mod answer;
 mod checking;
+mod conditions;
 mod evidence;
 mod export;
 mod exporting;
 mod indication;
 mod journal_export;
-mod judgement;
 mod judging;
 mod looking;
 mod new_entry;

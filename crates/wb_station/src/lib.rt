@@ -10,12 +10,12 @@
 
 mod asking;
 mod body_length;
+mod body_lines;
 mod event;
 mod fault;
 mod form;
 mod head;
 mod hearing;
-mod line;
 mod outcome;
 mod output_list;
 mod outputs;

@@ -4,7 +4,7 @@ ghost use Rattle.wb_office.specs.Serves.{told as told_by_office, told_of};
 ghost use Rattle.wb_station.specs.helpers.ToldByParts.{told_by};
 ghost use Rattle.wb_station.specs.Response.{IsDateOf, IsResponse, answer_status as answer_status_of, has_export, is_csv, is_export, phrase as phrase_of, refusal_status as refusal_status_of, response_text, told, told_answer, told_result};
 
-use crate::line::{Line, count_line, line_of_fault, line_of_refusal};
+use crate::body_lines::{Line, count_line, line_of_fault, line_of_refusal};
 use crate::outcome::Outcome;
 use crate::response_head::{ResponseHead, put_response, put_whole};
 use crate::room::ResponseRoom;
