@@ -1,4 +1,5 @@
 pub mod Actions
+pub mod Columns
 pub mod CopyTexts
 pub mod CreateTexts
 pub mod DeleteTexts
@@ -7,6 +8,7 @@ pub mod FreeRowids
 pub mod InsertTexts
 pub mod Keyless
 pub mod KnownTables
+pub mod Listing
 pub mod Meant
 pub mod Names
 pub mod OnlyAsks
