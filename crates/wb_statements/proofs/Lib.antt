@@ -1,4 +1,5 @@
 pub mod Actions
+pub mod Backwards
 pub mod Columns
 pub mod CopyTexts
 pub mod CreateTexts
