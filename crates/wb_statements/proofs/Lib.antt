@@ -13,7 +13,6 @@ pub mod Listing
 pub mod Meant
 pub mod Names
 pub mod OnlyAsks
-pub mod OwnRowids
 pub mod Queries
 pub mod RowidLists
 pub mod RowidOrder
