@@ -6,9 +6,6 @@
 -- lists as they were (`kept`), or its disk failed; then, and at any stop, an opening finds the lists before it or those after it
 -- (`leaves`). In a course it was made or it wasn't.
 use Rattle.sqlite.specs.Store.{Ghosts}
-use Rattle.wb_journal.proofs.Theorems.{law_of_closing}
-use Rattle.wb_scale.proofs.Theorems.{law_of_steady_indication}
-use Rattle.wb_store.proofs.Theorems.{law_of_reopening}
 use Rattle.wb_office.specs.Laws.{AllWeighed, AnsweredAgain, FullAtLastNumber, KeepsPartners, KeyDecides, NumbersRun, OneEntryPerKey, WithinCapacity}
 use Rattle.wb_office.specs.LawsOfJournals.{ClosingsHavePartners, FirstsClosedOnce, KeptForItsTime, RefusalsChangeNothing, StaysSound, TicketGivenAgain}
 use Rattle.wb_office.specs.Stops.{AnsweredAfterStops}
@@ -28,12 +25,12 @@ use Rattle.wb_office.proofs.courses.Tickets.{ticket_given_again}
 
 -- A key is accepted at most once, whatever is asked and wherever it is stopped. From then on its entry is stored, or the key is spent.
 pub law_of_keys : OneEntryPerKey
-law_of_keys = one_entry_per_key law_of_closing
+law_of_keys = one_entry_per_key
 
 -- A request that was answered with an entry, its own or one that it repeated, is answered with the same text when it is made again, whatever the load
 -- and the clock are, as long as the entry is stored; so is the ticket of its number. After a purge of the entry it is refused as gone.
 pub law_of_repeated_requests : AnsweredAgain
-law_of_repeated_requests = answered_again law_of_closing
+law_of_repeated_requests = answered_again
 
 -- The key decides first, whoever wrote the tables: a stored entry is repeated, or refused if it is damaged or another was asked for; a spent key is
 -- refused; only a new one is judged.
@@ -44,7 +41,7 @@ law_of_known_keys = key_decides
 -- void, asked again at whatever load and moment, is answered with the kept text if its entry is stored, refused as damaged if that isn't sound,
 -- refused as gone if it was purged, and else judged anew.
 pub law_of_stops : {D : Type 0} (g : Ghosts D) → AnsweredAfterStops g
-law_of_stops g = answered_after_stops g law_of_known_keys law_of_reopening
+law_of_stops g = answered_after_stops g
 
 -- An accepted entry has the next number, and no request but an accepted one takes a number.
 pub law_of_numbers : NumbersRun
@@ -66,7 +63,7 @@ law_of_purged_journals = keeps_partners
 -- A gross that is stored was stable, not over, not under and at least Min, on a bridge that was cleared before it, and each reading behind it would
 -- indicate at most 1 e more or less.
 pub law_of_stored_loads : AllWeighed
-law_of_stored_loads = all_weighed law_of_steady_indication
+law_of_stored_loads = all_weighed
 
 -- An entry stands unchanged after whatever is asked, until a purge on whose day it is of age and below the bound: nothing else takes it out of the
 -- journal. From then on its key is spent, with its number.
@@ -87,8 +84,8 @@ law_of_closed_weighings = firsts_closed_once
 
 -- A Second or Void that was accepted has its partner as long as it is stored.
 pub law_of_partners : ClosingsHavePartners
-law_of_partners = closings_have_partners law_of_closing
+law_of_partners = closings_have_partners
 
 -- A journal in which the check finds no damage stays so, whatever is asked.
 pub law_of_sound_journals : StaysSound
-law_of_sound_journals = stays_sound law_of_closing
+law_of_sound_journals = stays_sound

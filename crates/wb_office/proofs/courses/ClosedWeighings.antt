@@ -9,7 +9,6 @@ use Rattle.wb_journal.specs.declared.entry.EntryParts.{EntryParts}
 use Rattle.wb_journal.specs.declared.kind.Kind.{Kind}
 use Rattle.wb_journal.specs.declared.kind.Kind.TheVariants.{First, Second, Single, Void}
 use Rattle.wb_journal.specs.Kind.{is_closing, is_first, is_single}
-use Rattle.wb_journal.specs.Laws.{ClosesTheOpen}
 use Rattle.wb_journal.specs.Pairs.{is_first_of, is_partner, lies_between, may_pair_of, partner}
 use Rattle.wb_journal.proofs.offered.Members.{Among, among-contains, find-among}
 use Rattle.wb_store.specs.Lists.{has_key}
@@ -79,11 +78,11 @@ some_partner : (o : Option EntryParts) → is_none o ≡ false → (f : EntryPar
 some_partner None there = absurd (true≢false there)
 some_partner (Some f) there = (f, refl)
 
-pub closings_have_partners : ClosesTheOpen → ClosingsHavePartners
-closings_have_partners closes j ts lists bounds e added closing stands = go last.known.state
+pub closings_have_partners : ClosingsHavePartners
+closings_have_partners j ts lists bounds e added closing stands = go last.known.state
   where
     last : IsLasting (after j ts) e
-    last = added_lasts closes j ts e lists.rising bounds (among-contains e (additions j ts) added)
+    last = added_lasts j ts e lists.rising bounds (among-contains e (additions j ts) added)
 
     go : IsStored (after j ts).entries (after j ts).spent e last.first ⊎ IsPast (after j ts).entries (after j ts).spent e → (f : EntryParts) × (partner (after j ts).entries e ≡ Some f)
     go (inl stored) = let some = some_partner last.first (last.closes closing) in (some.0, stored.paired ∙ some.1)

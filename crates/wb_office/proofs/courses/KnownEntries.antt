@@ -9,12 +9,12 @@ use Rattle.std.specs.Prelude.{is_none}
 use Rattle.std.specs.Str.{bytes_eq}
 use Rattle.wb_journal.specs.declared.entry.EntryParts.{EntryParts}
 use Rattle.wb_journal.specs.Kind.{is_closing}
-use Rattle.wb_journal.specs.Laws.{ClosesTheOpen}
 use Rattle.wb_journal.specs.Moment.{day_of}
 use Rattle.wb_journal.specs.Pairs.{open_of, partner}
 use Rattle.wb_journal.specs.Retention.{kept}
 use Rattle.wb_journal.specs.Rising.{IsRising}
 use Rattle.wb_journal.proofs.offered.Members.{Among}
+use Rattle.wb_journal.proofs.Theorems.{law_of_closing}
 use Rattle.wb_store.specs.Lists.{AreLists, HaveOwnKeys, by_key, greatest, greatest_spent, has_key, is_spent, next_number}
 use Rattle.wb_store.specs.Rows.{SpentKey}
 use Rattle.wb_store.proofs.offered.LaterLists.{left_rises, next_stays}
@@ -234,8 +234,8 @@ has_open a e is closing =
     let late = free.1.1.1.1.1.1.1.1.1 in
     and_true (is_closing e.kind) (is_none (open_of a.now.entries e.plate)) closing (rw (kind, plate) at late.1.0)
 
-adds_lasting : ClosesTheOpen → (j : Journal) (t : Turn) (e : EntryParts) → IsRising j.entries → added (situation j t) t.request ≡ Some e → IsLasting (left j t) e
-adds_lasting closes j t e rising some =
+adds_lasting : (j : Journal) (t : Turn) (e : EntryParts) → IsRising j.entries → added (situation j t) t.request ≡ Some e → IsLasting (left j t) e
+adds_lasting j t e rising some =
     let one = is_added (situation j t) t.request e some in
     let is = one.asked.outcomes (situation j t) t.bound ∙ ap outcome_of one.is in
     let a : Asking = asking_for one.asked (situation j t) in
@@ -243,20 +243,20 @@ adds_lasting closes j t e rising some =
     record {
       first = partner (j.entries ++ e ∷ []) e;
       known = subst (λ o. IsKnown (entries_after o j.entries) (spent_after o j.entries j.spent) e (partner (j.entries ++ e ∷ []) e)) (sym is) known;
-      closes = λ closing. rw (closes j.entries e known.rising closing) (has_open a e one.is closing);
+      closes = λ closing. rw (law_of_closing j.entries e known.rising closing) (has_open a e one.is closing);
     }
 
 lasts : (j : Journal) (t : Turn) (e : EntryParts) → HasBound t.request (situation j t) t.bound → IsLasting j e → IsLasting (left j t) e
 lasts j t e bound last = record { first = last.first; known = known_left (situation j t) t.bound t.request e last.first bound last.known; closes = last.closes }
 
-pub added_lasts : ClosesTheOpen → (j : Journal) (ts : List Turn) (e : EntryParts) → IsRising j.entries → AreBounds j ts → Among e (additions j ts) → IsLasting (after j ts) e
-added_lasts closes j [] e rising bounds m = absurd m
-added_lasts closes j (t ∷ ts) e rising bounds m = go t.is_made m (λ n. added_lasts closes j ts e rising bounds.1 n)
+pub added_lasts : (j : Journal) (ts : List Turn) (e : EntryParts) → IsRising j.entries → AreBounds j ts → Among e (additions j ts) → IsLasting (after j ts) e
+added_lasts j [] e rising bounds m = absurd m
+added_lasts j (t ∷ ts) e rising bounds m = go t.is_made m (λ n. added_lasts j ts e rising bounds.1 n)
   where
     by_turn : (o : Option EntryParts) → added (situation (after j ts) t) t.request ≡ o → Among e (with_one o (additions j ts)) → (Among e (additions j ts) → IsLasting (after j ts) e)
         → IsLasting (left (after j ts) t) e
     by_turn None is n rest = lasts (after j ts) t e bounds.0 (rest n)
-    by_turn (Some f) is (inl same) rest = adds_lasting closes (after j ts) t e (rising_after j rising ts bounds.1) (is ∙ ap Some (sym same))
+    by_turn (Some f) is (inl same) rest = adds_lasting (after j ts) t e (rising_after j rising ts bounds.1) (is ∙ ap Some (sym same))
     by_turn (Some f) is (inr n) rest = lasts (after j ts) t e bounds.0 (rest n)
 
     go : (made : Bool) → Among e (with_one (if made then added (situation (after j ts) t) t.request else None) (additions j ts)) → (Among e (additions j ts) → IsLasting (after j ts) e)

@@ -9,12 +9,12 @@ use Rattle.wb_journal.specs.declared.kind.Kind.{Kind}
 use Rattle.wb_journal.specs.declared.kind.Kind.TheVariants.{First, Second, Single, Void}
 use Rattle.wb_journal.specs.Digest.{is_sound}
 use Rattle.wb_journal.specs.Kind.{is_closing, is_second, same_kind}
-use Rattle.wb_journal.specs.Laws.{ClosesTheOpen}
 use Rattle.wb_journal.specs.Pairs.{open_of, partner}
 use Rattle.wb_journal.specs.Rising.{IsRising}
 use Rattle.wb_journal.specs.Texts.{ticket}
 use Rattle.wb_journal.proofs.offered.Members.{find-among}
 use Rattle.wb_journal.proofs.offered.Seals.{sound-sealed}
+use Rattle.wb_journal.proofs.Theorems.{law_of_closing}
 use Rattle.wb_store.specs.Lists.{AreLists, by_key, has_key, is_spent}
 use Rattle.wb_office.specs.declared.refusal.Refusal.{Refusal}
 use Rattle.wb_office.specs.declared.refusal.Refusal.TheVariants as refusal
@@ -81,9 +81,9 @@ of_second Single s = absurd (true≢false (sym s))
 of_second Void s = refl
 
 -- the First that an accepted Second closes is sound
-partner_sound : ClosesTheOpen → (a : Asking) (e : EntryParts) → verdict a ≡ accepted e → IsRising (a.now.entries ++ e ∷ []) → is_second e.kind ≡ true
+partner_sound : (a : Asking) (e : EntryParts) → verdict a ≡ accepted e → IsRising (a.now.entries ++ e ∷ []) → is_second e.kind ≡ true
     → holds_of is_sound (partner (a.now.entries ++ e ∷ []) e) ≡ true
-partner_sound closes a e is rising second =
+partner_sound a e is rising second =
     let new = is_new a e is in
     let kind : a.kind ≡ e.kind = rw new.made refl in
     let plate : a.plate ≡ e.plate = rw new.made refl in
@@ -91,7 +91,7 @@ partner_sound closes a e is rising second =
     let late = free.1.1.1.1.1.1.1.1.1 in
     let closing = of_second e.kind second in
     let sound : holds_of (λ f. not (is_sound f)) (open_of a.now.entries e.plate) ≡ false = and_true (is_second e.kind) _ second (rw (kind, plate) at late.1.1.0) in
-    rw (closes a.now.entries e rising closing) (holds_some (open_of a.now.entries e.plate) (has_open a e is closing) sound)
+    rw (law_of_closing a.now.entries e rising closing) (holds_some (open_of a.now.entries e.plate) (has_open a e is closing) sound)
 
 not_damaged : (es : List EntryParts) (e : EntryParts) → is_sound e ≡ true → (is_second e.kind ≡ true → holds_of is_sound (partner es e) ≡ true) → is_damaged es e ≡ false
 not_damaged es e sound partner_is = go (is_second e.kind) refl
@@ -146,14 +146,14 @@ told_again j request e first is ts bounds u same = go known.state
         inr (record { spent = past.spent; gone = answers ∙ ap (answer_of (after j ts).entries) judged })
 
 -- it added the entry
-told_added : ClosesTheOpen → (j : Journal) (t : Turn) (e : EntryParts) → IsRising j.entries → (asked : IsAsked t.request) → verdict (asking_for asked (situation j t)) ≡ accepted e
+told_added : (j : Journal) (t : Turn) (e : EntryParts) → IsRising j.entries → (asked : IsAsked t.request) → verdict (asking_for asked (situation j t)) ≡ accepted e
     → IsTold (left j t) t.request e (answer_in j t)
-told_added closes j t e rising asked accepts =
+told_added j t e rising asked accepts =
     let a : Asking = asking_for asked (situation j t) in
     let is = asked.outcomes (situation j t) t.bound ∙ ap outcome_of accepts in
     let made = (is_new a e accepts).made in
     let known = begins a e accepts rising in
-    let whole = not_damaged (j.entries ++ e ∷ []) e (sound-sealed (unsealed a) e made) (λ second. partner_sound closes a e accepts known.rising second) in
+    let whole = not_damaged (j.entries ++ e ∷ []) e (sound-sealed (unsealed a) e made) (λ second. partner_sound a e accepts known.rising second) in
     let told = asked.answers (situation j t) t.bound ∙ ap (answer_of j.entries) accepts in
     record {
       asked = asked;
@@ -182,13 +182,13 @@ told_repeated j t e lists asked is =
       told = subst (λ o. answer_in j t ≡ Ok (text_of (entries_after o j.entries) e e.kind)) (sym stays) told;
     }
 
-pub answered_again : ClosesTheOpen → AnsweredAgain
-answered_again closes j lists t e some ts bounds u same = told_again (left j t) t.request e (answer_in j t) (go (is_told (situation j t) t.request e some)) ts bounds u same
+pub answered_again : AnsweredAgain
+answered_again j lists t e some ts bounds u same = told_again (left j t) t.request e (answer_in j t) (go (is_told (situation j t) t.request e some)) ts bounds u same
   where
     by_verdict : (asked : IsAsked t.request) (v : Verdict) → verdict (asking_for asked (situation j t)) ≡ v → entry_of v ≡ Some e → IsTold (left j t) t.request e (answer_in j t)
     by_verdict asked (refused why) is told = none_some told
     by_verdict asked (repeated f) is told = told_repeated j t e lists asked (is ∙ ap repeated (is_some_same told))
-    by_verdict asked (accepted f) is told = told_added closes j t e lists.rising asked (is ∙ ap accepted (is_some_same told))
+    by_verdict asked (accepted f) is told = told_added j t e lists.rising asked (is ∙ ap accepted (is_some_same told))
 
     go : (asked : IsAsked t.request) × (entry_of (verdict (asking_for asked (situation j t))) ≡ Some e) → IsTold (left j t) t.request e (answer_in j t)
     go told = by_verdict told.0 (verdict (asking_for told.0 (situation j t))) refl told.1

@@ -7,7 +7,6 @@ use Rattle.wb_journal.specs.declared.journal_check.Finding.TheVariants.{Sound}
 use Rattle.wb_journal.specs.Check.{finding, is_faulty}
 use Rattle.wb_journal.specs.Digest.{is_sound}
 use Rattle.wb_journal.specs.Kind.{is_closing}
-use Rattle.wb_journal.specs.Laws.{ClosesTheOpen}
 use Rattle.wb_journal.specs.Moment.{day_of}
 use Rattle.wb_journal.specs.Pairs.{partner}
 use Rattle.wb_journal.specs.Retention.{kept}
@@ -15,6 +14,7 @@ use Rattle.wb_journal.specs.Rising.{IsRising}
 use Rattle.wb_journal.proofs.offered.Kept.{kept-partner}
 use Rattle.wb_journal.proofs.offered.Members.{Among, among-either, find-absent}
 use Rattle.wb_journal.proofs.offered.Seals.{sound-sealed}
+use Rattle.wb_journal.proofs.Theorems.{law_of_closing}
 use Rattle.wb_store.specs.Lists.{greatest, greatest_spent, next_number}
 use Rattle.wb_office.specs.declared.request.Request.{Request}
 use Rattle.wb_office.specs.Answer.{IsBoundAt, Outcome, entries_after, entries_left}
@@ -52,8 +52,8 @@ same_fault es fs x same = ap (λ p. not (is_sound x) || (is_closing x.kind && is
 
 -- ---- after one request
 
-whole_more : ClosesTheOpen → (a : Asking) (e : EntryParts) → verdict a ≡ accepted e → IsRising a.now.entries → AreWhole a.now.entries → AreWhole (a.now.entries ++ e ∷ [])
-whole_more closes a e is rising before x m = go (among-either x a.now.entries (e ∷ []) m)
+whole_more : (a : Asking) (e : EntryParts) → verdict a ≡ accepted e → IsRising a.now.entries → AreWhole a.now.entries → AreWhole (a.now.entries ++ e ∷ [])
+whole_more a e is rising before x m = go (among-either x a.now.entries (e ∷ []) m)
   where
     above : Among x a.now.entries → x.number < e.number
     above here =
@@ -65,7 +65,7 @@ whole_more closes a e is rising before x m = go (among-either x a.now.entries (e
     seal = sound-sealed (unsealed a) e (is_new a e is).made
 
     paired : (c : Bool) → is_closing e.kind ≡ c → (c && is_none (partner (a.now.entries ++ e ∷ []) e)) ≡ false
-    paired true closing = rw (closes a.now.entries e (begins a e is rising).rising closing) (has_open a e is closing)
+    paired true closing = rw (law_of_closing a.now.entries e (begins a e is rising).rising closing) (has_open a e is closing)
     paired false closing = refl
 
     new : is_faulty (a.now.entries ++ e ∷ []) e ≡ false
@@ -81,12 +81,12 @@ whole_kept w b bound rising before x m =
     let here = among_kept b w.entries x m in
     same_fault (kept b w.entries) w.entries x (kept-partner w.entries (next_number w.entries w.spent) (day_of w.at) w.setup.retention_days b rising bound x here.0 here.1) ∙ before x here.0
 
-whole_left : ClosesTheOpen → (w : Situation) (b : ℕ) (request : Request) → HasBound request w b → IsRising w.entries → AreWhole w.entries → AreWhole (entries_left w b request)
-whole_left closes w b request bound rising before = go (comes w b request)
+whole_left : (w : Situation) (b : ℕ) (request : Request) → HasBound request w b → IsRising w.entries → AreWhole w.entries → AreWhole (entries_left w b request)
+whole_left w b request bound rising before = go (comes w b request)
   where
     go : {o : Outcome} → Comes w b request o → AreWhole (entries_after o w.entries)
     go (stays none) = before
-    go (adding asked e is one) = whole_more closes (asking_for asked w) e is rising before
+    go (adding asked e is one) = whole_more (asking_for asked w) e is rising before
     go (purging ask count sound none) = whole_kept w b (subst (λ r. HasBound r w b) ask bound) rising before
 
 -- ---- after every course
@@ -96,9 +96,9 @@ record IsWhole (j : Journal) : Type 0 where
   pub rising : IsRising j.entries
   pub whole : AreWhole j.entries
 
-pub stays_sound : ClosesTheOpen → StaysSound
-stays_sound closes j ts lists bounds sound =
+pub stays_sound : StaysSound
+stays_sound j ts lists bounds sound =
     sound_of (after j ts).entries (kept_after IsWhole (λ i t bound is. record {
       rising = rising_left (situation i t) t.bound t.request is.rising;
-      whole = whole_left closes (situation i t) t.bound t.request bound is.rising is.whole;
+      whole = whole_left (situation i t) t.bound t.request bound is.rising is.whole;
     }) j (record { rising = lists.rising; whole = whole j.entries sound }) ts bounds).whole

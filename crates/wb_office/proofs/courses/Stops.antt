@@ -3,17 +3,18 @@ use Rattle.std.proofs.Common.{◌≡◌, ◌⊎◌, inl, inr, ap, subst, sym, �
 use Rattle.sqlite.specs.Effect.{Database, IsDatabase}
 use Rattle.sqlite.specs.Store.{Ghosts}
 use Rattle.wb_store.specs.Journal.{Reopens}
-use Rattle.wb_store.specs.Laws.{HoldsAgain}
 use Rattle.wb_store.specs.Lists.{AreLists}
+use Rattle.wb_store.proofs.Theorems.{law_of_reopening}
 use Rattle.wb_office.specs.declared.refusal.Refusal.{Refusal}
 use Rattle.wb_office.specs.declared.request.Request.{Request}
 use Rattle.wb_office.specs.Answer.{Told, answer, answer_of}
 use Rattle.wb_office.specs.Situation.{Asking, IsOnLists}
 use Rattle.wb_office.specs.CourseOfRequests.{Journal, Turn, left, situation}
-use Rattle.wb_office.specs.Laws.{IsByKey, KeyDecides}
+use Rattle.wb_office.specs.Laws.{IsByKey}
 use Rattle.wb_office.specs.Stops.{AnsweredAfterStops, Asks, IsAnsweredByKey, IsFoundAgain}
 use Rattle.wb_office.specs.Verdict.{verdict}
 use Rattle.wb_office.specs.Wanted.{wanted}
+use Rattle.wb_office.proofs.Verdicts.{key_decides}
 
 -- the answer is that of the verdict
 of_verdict : (a : Asking) (bound : ℕ) (request : Request) → Asks request a → answer a.now bound request ≡ answer_of a.now.entries (verdict a)
@@ -29,28 +30,28 @@ by_verdict a again decides is = record {
   anew = λ none free. is ∙ ap (answer_of a.now.entries) (decides.anew none free);
 }
 
-on_lists : KeyDecides → (now : Journal) → AreLists now.entries now.spent → (a : Asking) → IsOnLists now.entries now.spent a → IsByKey a
-on_lists decides now lists a on = decides a (rw (on.entries, on.spent) lists)
+on_lists : (now : Journal) → AreLists now.entries now.spent → (a : Asking) → IsOnLists now.entries now.spent a → IsByKey a
+on_lists now lists a on = key_decides a (rw (on.entries, on.spent) lists)
 
-module _ (decides : KeyDecides) (reopening : HoldsAgain) (j : Journal) (t : Turn) (db : Database) (is : IsDatabase db) where
+module _ (j : Journal) (t : Turn) (db : Database) (is : IsDatabase db) where
   found : (now : Journal) → (now ≡ j) ⊎ (now ≡ left j t) → Reopens db.trees now.entries now.spent → IsFoundAgain j t db
   found now whole reopens =
-      let shown = reopening db.trees now.entries now.spent reopens db is refl in
+      let shown = law_of_reopening db.trees now.entries now.spent reopens db is refl in
       record {
         now = now;
         whole = whole;
         tables = shown.0;
         holds = shown.1;
         beside = shown.2;
-        again = λ a bound on asks. by_verdict a (answer a.now bound t.request) (on_lists decides now shown.1.lists a on) (of_verdict a bound t.request asks);
+        again = λ a bound on asks. by_verdict a (answer a.now bound t.request) (on_lists now shown.1.lists a on) (of_verdict a bound t.request asks);
       }
 
   either : Reopens db.trees j.entries j.spent ⊎ Reopens db.trees (left j t).entries (left j t).spent → IsFoundAgain j t db
   either (inl before) = found j (inl refl) before
   either (inr made) = found (left j t) (inr refl) made
 
-pub answered_after_stops : {D : Type 0} (g : Ghosts D) → KeyDecides → HoldsAgain → AnsweredAfterStops g
-answered_after_stops g decides reopening j t after asked db is leaves =
-    either decides reopening j t db is
+pub answered_after_stops : {D : Type 0} (g : Ghosts D) → AnsweredAfterStops g
+answered_after_stops g j t after asked db is leaves =
+    either j t db is
     (asked.served.leaves (situation j t) asked.on_scale asked.stood asked.honest (wanted t.request (situation j t) t.bound)
     (record { bound = t.bound; is_bound = asked.is_bound; is = refl }) db.trees leaves)

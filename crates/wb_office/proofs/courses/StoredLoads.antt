@@ -16,7 +16,8 @@ use Rattle.wb_scale.specs.Cleared.{is_cleared}
 use Rattle.wb_scale.specs.History.{moments}
 use Rattle.wb_scale.specs.Indication.{gross, indicated, indicated_at}
 use Rattle.wb_scale.specs.Moment.{readings}
-use Rattle.wb_scale.specs.Steady.{IsNear, NearAll}
+use Rattle.wb_scale.specs.Steady.{IsNear}
+use Rattle.wb_scale.proofs.Theorems.{law_of_steady_indication}
 use Rattle.wb_scale.specs.Tare.{tare_now, tare_tenths}
 use Rattle.wb_scale.specs.Zero.{above_zero, zero_now}
 use Rattle.wb_window.specs.Stability.{is_stable}
@@ -89,15 +90,15 @@ stored_gross s Second g whole v is = rw is refl
 stored_gross s Single g whole v is = rw is refl
 stored_gross s Void g whole v is = absurd (cc)
 
-weighed : NearAll → (a : Asking) (calls : List Call) → IsSetup a.now.setup → a.now.history ≡ moments a.now.setup calls → (e : EntryParts) → verdict a ≡ accepted e → is_void e.kind ≡ false
+weighed : (a : Asking) (calls : List Call) → IsSetup a.now.setup → a.now.history ≡ moments a.now.setup calls → (e : EntryParts) → verdict a ≡ accepted e → is_void e.kind ≡ false
     → IsWeighed a.now.setup a.now.history e
 unfolding indicated above_zero
-weighed near a calls setup history e is kind =
+weighed a calls setup history e is kind =
     let new = is_new a e is in
     let void : is_void a.kind ≡ false = rw new.made at kind in
     let both = free_load a new.judged (rw void refl) in
     let at = shows a.now.setup (is_stable a.now.setup.window a.now.setup.band (readings a.now.history)) (tare_now a.now.history) (above_zero a.now.history) both.0 in
-    let behind = near a.now.setup setup calls at.whole at.net (ap (indicated a.now.setup) (sym history) ∙ at.shown_so) in
+    let behind = law_of_steady_indication a.now.setup setup calls at.whole at.net (ap (indicated a.now.setup) (sym history) ∙ at.shown_so) in
     record {
       gross = at.whole;
       net = at.net;
@@ -111,7 +112,7 @@ weighed near a calls setup history e is kind =
       near = subst (λ ms. All (IsNear (zero_now ms) at.whole) (take a.now.setup.window (readings ms))) (sym history) behind.1;
     }
 
-pub all_weighed : NearAll → AllWeighed
-all_weighed near w calls setup history request e some kind =
+pub all_weighed : AllWeighed
+all_weighed w calls setup history request e some kind =
     let one = is_added w request e some in
-    weighed near (asking_for one.asked w) calls setup history e one.is kind
+    weighed (asking_for one.asked w) calls setup history e one.is kind

@@ -8,7 +8,6 @@ use Rattle.std.specs.List.{list_any}
 use Rattle.std.specs.Prelude.{Contains, count_by}
 use Rattle.std.specs.Str.{bytes_eq}
 use Rattle.wb_journal.specs.declared.entry.EntryParts.{EntryParts}
-use Rattle.wb_journal.specs.Laws.{ClosesTheOpen}
 use Rattle.wb_journal.specs.Retention.{kept}
 use Rattle.wb_journal.proofs.offered.Members.{among-contains}
 use Rattle.wb_store.specs.Lists.{AreLists, by_key, has_key, is_of_key, is_spent}
@@ -150,17 +149,17 @@ at_most_one : (j : Journal) (ts : List Turn) (key : List ℕ) → count_by (has_
 at_most_one j ts key = let all = counted j ts key in omega (arith, all)
 
 -- what was added under it is stored, or was purged
-stored_or_spent : ClosesTheOpen → (j : Journal) (ts : List Turn) (key : List ℕ) → AreLists j.entries j.spent → AreBounds j ts → (e : EntryParts) → Contains (additions j ts) e → e.key ≡ key
+stored_or_spent : (j : Journal) (ts : List Turn) (key : List ℕ) → AreLists j.entries j.spent → AreBounds j ts → (e : EntryParts) → Contains (additions j ts) e → e.key ≡ key
     → (by_key (after j ts).entries key ≡ Some e) ⊎ (is_spent (after j ts).spent key ≡ true)
-stored_or_spent closes j ts key lists bounds e added same = go last.known.state
+stored_or_spent j ts key lists bounds e added same = go last.known.state
   where
     last : IsLasting (after j ts) e
-    last = added_lasts closes j ts e lists.rising bounds (among-contains e (additions j ts) added)
+    last = added_lasts j ts e lists.rising bounds (among-contains e (additions j ts) added)
 
     go : IsStored (after j ts).entries (after j ts).spent e last.first ⊎ IsPast (after j ts).entries (after j ts).spent e
         → (by_key (after j ts).entries key ≡ Some e) ⊎ (is_spent (after j ts).spent key ≡ true)
     go (inl stored) = inl (subst (λ k. by_key (after j ts).entries k ≡ Some e) same stored.found)
     go (inr past) = inr (subst (λ k. is_spent (after j ts).spent k ≡ true) same past.spent)
 
-pub one_entry_per_key : ClosesTheOpen → OneEntryPerKey
-one_entry_per_key closes j ts key = record { once = at_most_one j ts key; for_good = stored_or_spent closes j ts key }
+pub one_entry_per_key : OneEntryPerKey
+one_entry_per_key j ts key = record { once = at_most_one j ts key; for_good = stored_or_spent j ts key }
