@@ -7,7 +7,7 @@ use Rattle.wb_instrument.specs.Setup.{Setup}
 use Rattle.wb_sics.specs.declared.reply.Reply.{Reply}
 use Rattle.wb_sics.specs.Event.{Event as AtTerminal}
 use Rattle.wb_sics.specs.Event as terminal
-use Rattle.wb_sics.specs.Heard.{RepliesToHeard, heard}
+use Rattle.wb_sics.specs.Heard.{heard}
 use Rattle.wb_sics.specs.Replies.{replies}
 use Rattle.wb_sics.specs.Stands.{TakesAll, TerminalState, Stands as TerminalStands}
 use Rattle.wb_journal.specs.declared.entry.EntryParts.{EntryParts}
@@ -15,6 +15,7 @@ use Rattle.wb_store.specs.Journal.{IsHonest, Reopens, StoreView, Stands as Store
 use Rattle.wb_store.specs.Keeping.{LeavesOnly}
 use Rattle.wb_store.specs.Rows.{SpentKey}
 use Rattle.wb_store.specs.Lists.{AreLists}
+use Rattle.wb_sics.proofs.Theorems.{law_of_replies}
 use Rattle.wb_station.specs.Account.{Account, Comes, IsAccount, IsOut, IsResponse, Out, hears, nothing, opened, replied, responded}
 use Rattle.wb_station.specs.Response.{IsDateOf, Told, response_text}
 use Rattle.wb_station.specs.Happening.{Happening, heard_of, reading, byte, hang_up, office, unmarked}
@@ -79,25 +80,25 @@ module _ {D : Type 0} (g : Ghosts D) (p : Happening) (e : AtTerminal) (out : Out
   }
 
 -- the replies to what was heard
-pub replies_heard : RepliesToHeard → (e : AtTerminal) (t : TerminalState) (h : List Happening) (rs : List Reply) → ((events : List AtTerminal) → TerminalStands t events → rs ≡ replies t.scale.setup (e ∷ events))
+pub replies_heard : (e : AtTerminal) (t : TerminalState) (h : List Happening) (rs : List Reply) → ((events : List AtTerminal) → TerminalStands t events → rs ≡ replies t.scale.setup (e ∷ events))
     → Hears t h → rs ≡ replies t.scale.setup (e ∷ heard_of h)
-replies_heard law e t h rs is ears =
-    is ears.events ears.stands ∙ sym (law t.scale.setup e ears.events) ∙ ap (λ l. replies t.scale.setup (e ∷ l)) ears.of_history
+replies_heard e t h rs is ears =
+    is ears.events ears.stands ∙ sym (law_of_replies t.scale.setup e ears.events) ∙ ap (λ l. replies t.scale.setup (e ∷ l)) ears.of_history
 
 module _ {D : Type 0} (g : Ghosts D) (j : StoreView D) where
   -- a reading
-  pub reading_took : RepliesToHeard → (r : Load) (rs : List Reply) (t t' : TerminalState) → TakesAll t t' (terminal.reading r ∷ [])
+  pub reading_took : (r : Load) (rs : List Reply) (t t' : TerminalState) → TakesAll t t' (terminal.reading r ∷ [])
       → ((events : List AtTerminal) → TerminalStands t events → rs ≡ replies t.scale.setup (terminal.reading r ∷ events)) → Took g (reading r) (replied rs) t j t' j
-  reading_took law r rs t t' takes is = heard_took g (reading r) (terminal.reading r) (replied rs) t t' j takes tt tt (λ a st. (refl, ap replied (is a.terminal st)))
+  reading_took r rs t t' takes is = heard_took g (reading r) (terminal.reading r) (replied rs) t t' j takes tt tt (λ a st. (refl, ap replied (is a.terminal st)))
       (λ a. (replied (replies t.scale.setup (terminal.reading r ∷ a.terminal)), (refl, refl))) (λ h ears. refl) (λ events. refl)
-      (λ h ears. ap replied (replies_heard law (terminal.reading r) t h rs is ears)) (λ h ears. tt)
+      (λ h ears. ap replied (replies_heard (terminal.reading r) t h rs is ears)) (λ h ears. tt)
 
   -- a byte
-  pub byte_took : RepliesToHeard → (b : ℕ) (rs : List Reply) (t t' : TerminalState) → TakesAll t t' (terminal.byte b ∷ [])
+  pub byte_took : (b : ℕ) (rs : List Reply) (t t' : TerminalState) → TakesAll t t' (terminal.byte b ∷ [])
       → ((events : List AtTerminal) → TerminalStands t events → rs ≡ replies t.scale.setup (terminal.byte b ∷ events)) → Took g (byte b) (replied rs) t j t' j
-  byte_took law b rs t t' takes is = heard_took g (byte b) (terminal.byte b) (replied rs) t t' j takes tt tt (λ a st. (refl, ap replied (is a.terminal st)))
+  byte_took b rs t t' takes is = heard_took g (byte b) (terminal.byte b) (replied rs) t t' j takes tt tt (λ a st. (refl, ap replied (is a.terminal st)))
       (λ a. (replied (replies t.scale.setup (terminal.byte b ∷ a.terminal)), (refl, refl))) (λ h ears. refl) (λ events. refl)
-      (λ h ears. ap replied (replies_heard law (terminal.byte b) t h rs is ears)) (λ h ears. tt)
+      (λ h ears. ap replied (replies_heard (terminal.byte b) t h rs is ears)) (λ h ears. tt)
 
   -- a hang-up
   pub hang_up_took : (t t' : TerminalState) → TakesAll t t' (terminal.hang_up ∷ []) → Took g hang_up nothing t j t' j

@@ -8,9 +8,10 @@ use Rattle.wb_office.specs.Answer.{Told}
 use Rattle.wb_office.specs.declared.request.Request.{Request}
 use Rattle.wb_office.specs.CourseOfRequests as course
 use Rattle.wb_office.specs.CourseOfRequests.{AreBounds, Journal, Turn, after, answer_in, left}
-use Rattle.wb_office.specs.Laws.{AnsweredAgain, IsGone, IsKept}
+use Rattle.wb_office.specs.Laws.{IsGone, IsKept}
 use Rattle.wb_office.specs.Wanted.{Wanted, HasBound, IsWanted, wanted}
 use Rattle.wb_store.specs.Lists.{by_key, is_spent}
+use Rattle.wb_office.proofs.Theorems.{law_of_repeated_requests}
 use Rattle.wb_station.specs.declared.fault.HttpFault.{HttpFault}
 use Rattle.wb_station.specs.Account.{Account, ComesOf, IsAccount, Out, leaves, situation}
 use Rattle.wb_station.specs.CourseOfHistory.{Adds, AreTurns, HasCourse, IsCourse, KeptForGood, SameAgain, journal_of, turn}
@@ -52,7 +53,7 @@ has_course s opening (office at bytes true ∷ h) a is = let c = has_course s op
 has_course s opening (office at bytes false ∷ h) a is =
     one_turn s opening at bytes h is.2.1.0 is.0 a is.2.0 is.2.1.1 is.1 is.2.1.2 (has_course s opening h is.0 is.1)
 
-module _ (law : AnsweredAgain) (s : Setup) (before : Account) (request : Request) (want : Wanted) (e : EntryParts) (adds : Adds s before request want e) (later : List Happening) (c : Account)
+module _ (s : Setup) (before : Account) (request : Request) (want : Wanted) (e : EntryParts) (adds : Adds s before request want e) (later : List Happening) (c : Account)
     (account : IsAccount s (leaves want before) later c) where
   abbrev first_turn : Turn
   first_turn = turn s adds.at request adds.is.bound before
@@ -71,7 +72,7 @@ module _ (law : AnsweredAgain) (s : Setup) (before : Account) (request : Request
 
   either : (u : Turn) → u.request ≡ request → IsKept (journal_of c) e (answer_in (journal_of before) first_turn) (answer_in (journal_of c) u) ⊎ IsGone (journal_of c) e (answer_in (journal_of c) u)
   either u same = subst (λ j. IsKept j e (answer_in (journal_of before) first_turn) (answer_in j u) ⊎ IsGone j e (answer_in j u)) (sym ends)
-      (law (journal_of before) adds.lists first_turn e adds.adds course_of.turns bounds u same)
+      (law_of_repeated_requests (journal_of before) adds.lists first_turn e adds.adds course_of.turns bounds u same)
 
   pub again : (at : ℕ) (want' : Wanted) → IsWanted request (situation s at c) want' → IsKept (journal_of c) e want.answer want'.answer ⊎ IsGone (journal_of c) e want'.answer
   again at want' is' = subst₂ (λ x y. IsKept (journal_of c) e x y ⊎ IsGone (journal_of c) e y) (sym (ap (λ x. x.answer) adds.is.is)) (sym (ap (λ x. x.answer) is'.is))
@@ -85,8 +86,8 @@ module _ (law : AnsweredAgain) (s : Setup) (before : Account) (request : Request
       one (inl kept) = inl kept.stored
       one (inr gone) = inr gone.spent
 
-pub same_again : AnsweredAgain → SameAgain
+pub same_again : SameAgain
 same_again = again
 
-pub kept_for_good : AnsweredAgain → KeptForGood
+pub kept_for_good : KeptForGood
 kept_for_good = stays

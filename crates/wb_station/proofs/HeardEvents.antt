@@ -2,7 +2,6 @@
 use Rattle.std.proofs.Common.{ℕ, List, subst, sym}
 use Rattle.sqlite.specs.Store.{Ghosts}
 use Rattle.wb_sics.specs.declared.reply.Reply.{Reply}
-use Rattle.wb_sics.specs.Heard.{RepliesToHeard}
 use Rattle.wb_sics.specs.Stands.{TerminalState}
 use Rattle.wb_store.specs.Journal.{StoreView}
 use Rattle.wb_station.specs.declared.event.AtTerminal.TheVariants.{Byte, Hangup}
@@ -14,8 +13,8 @@ use Rattle.wb_station.specs.Stands.{Took}
 use Rattle.wb_station.proofs.Accounts.{byte_took, hang_up_took}
 
 module _ {D : Type 0} (g : Ghosts D) (j : StoreView D) (rs : List Reply) (response : List ℕ) (t t' : TerminalState) (room : Room) where
-  pub byte_heard : RepliesToHeard → (b : ℕ) → Heard (Byte b) t t' rs room → Took g (byte b) (shown_in room rs response) t j t' j
-  byte_heard law b is = subst (λ x. Took g (byte b) (shown_in x rs response) t j t' j) (sym is.in_room) (byte_took g j law b rs t t' is.takes is.replies)
+  pub byte_heard : (b : ℕ) → Heard (Byte b) t t' rs room → Took g (byte b) (shown_in room rs response) t j t' j
+  byte_heard b is = subst (λ x. Took g (byte b) (shown_in x rs response) t j t' j) (sym is.in_room) (byte_took g j b rs t t' is.takes is.replies)
 
   pub hang_up_heard : Heard Hangup t t' rs room → Took g hang_up (shown_in room rs response) t j t' j
   hang_up_heard is = subst (λ x. Took g hang_up (shown_in x rs response) t j t' j) (sym is.in_room) (hang_up_took g j t t' is.takes)

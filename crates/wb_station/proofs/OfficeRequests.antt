@@ -12,7 +12,6 @@ use Rattle.wb_journal.specs.declared.journal_check.Finding.TheVariants as findin
 use Rattle.wb_journal.specs.declared.kind.Kind.{Kind}
 use Rattle.wb_journal.specs.declared.kind.Kind.TheVariants.{First, Second, Single, Void}
 use Rattle.wb_journal.specs.Check.{check}
-use Rattle.wb_journal.specs.Laws.{HasOneBound}
 use Rattle.wb_journal.specs.Moment.{day_of}
 use Rattle.wb_journal.specs.Pairs.{with_number}
 use Rattle.wb_journal.specs.Rising.{IsRising}
@@ -34,12 +33,14 @@ use Rattle.wb_scale.specs.State.{State}
 use Rattle.wb_sics.specs.Calls.{calls}
 use Rattle.wb_sics.specs.Event.{Event as AtTerminal, stored}
 use Rattle.wb_sics.specs.Heard.{heard}
-use Rattle.wb_sics.specs.Stands.{TakesStored, TerminalState, Stands as TerminalStands}
+use Rattle.wb_sics.specs.Stands.{TerminalState, Stands as TerminalStands}
 use Rattle.wb_store.specs.declared.fault.StoreFault.TheVariants.{Closed}
 use Rattle.wb_store.specs.Journal.{IsHonest, Reopens, StoreView, Stands as StoreStands}
 use Rattle.wb_store.specs.Keeping.{LeavesOnly}
 use Rattle.wb_store.specs.Rows.{IsStorable}
 use Rattle.wb_store.specs.Lists.{AreLists, next_number}
+use Rattle.wb_journal.proofs.Theorems.{law_of_one_bound}
+use Rattle.wb_sics.proofs.Theorems.{law_of_stored_weighings}
 use Rattle.wb_station.specs.declared.fault.HttpFault.{HttpFault}
 use Rattle.wb_station.specs.declared.fault.HttpFault.TheVariants.{BadField, HeadTooLarge, Malformed, Memory, NoLength, NoRoute, TooLarge, WrongMethod}
 use Rattle.wb_station.specs.Account.{Account, Comes, IsAccount, IsResponse, Out, leaves, responded, situation}
@@ -48,8 +49,8 @@ use Rattle.wb_station.specs.Judgement.{IsJudged, MayWantMemory}
 use Rattle.wb_station.specs.UnlessMemoryRefused.{IsOf}
 use Rattle.wb_station.specs.Response.{Told, is_export, response_text, told_fault, told_result}
 use Rattle.wb_station.specs.Stands.{Hears, IsKept, IsLedTo, IsOfHistory, IsOutright, LeavesSoon, MustBeUnmade, Stands, StandsAt, Took}
-use Rattle.wb_station.specs.WholeRequests.{OneJudgement}
 use Rattle.wb_station.proofs.Accounts.{of_account, one_later, quiet_took}
+use Rattle.wb_station.proofs.judgement.WholeRequests.{one_judgement}
 
 -- ---- exports change nothing
 
@@ -103,11 +104,11 @@ export_is_quiet Check w want is export = is_quiet w want _ is.is (record { entri
 
 -- ---- something is wanted of every request
 
-pub some_wanted : HasOneBound → (request : Request) (w : Situation) → IsRising w.entries → (want : Wanted) × IsWanted request w want
-some_wanted bounds Purge w rising =
-    let one = bounds w.entries (next_number w.entries w.spent) (day_of w.at) w.setup.retention_days rising in
+pub some_wanted : (request : Request) (w : Situation) → IsRising w.entries → (want : Wanted) × IsWanted request w want
+some_wanted Purge w rising =
+    let one = law_of_one_bound w.entries (next_number w.entries w.spent) (day_of w.at) w.setup.retention_days rising in
     (wanted Purge w one.0, record { bound = one.0; is_bound = one.1; is = refl })
-some_wanted bounds request w rising = (wanted request w 0, record { bound = 0; is_bound = tt; is = refl })
+some_wanted request w rising = (wanted request w 0, record { bound = 0; is_bound = tt; is = refl })
 
 -- ---- one judgement
 
@@ -121,23 +122,23 @@ no_both : (request : Request) (fault : HttpFault) → ◌≡◌ {A = Result Requ
 no_both request fault same = cc same
 
 -- what asks the store is none of those that are answered outright
-pub not_outright : OneJudgement → (s : Setup) (at : ℕ) (bytes : List ℕ) (request : Request) → IsJudged bytes (Ok request) → asks_store request ≡ true → (h : List Happening) (out : Out)
+pub not_outright : (s : Setup) (at : ℕ) (bytes : List ℕ) (request : Request) → IsJudged bytes (Ok request) → asks_store request ≡ true → (h : List Happening) (out : Out)
     → IsOutright s at bytes h out
-not_outright one s at bytes request judged asks h out = record {
-  fault = λ fault judged'. absurd (no_both request fault (one bytes (Ok request) (Err fault) judged judged'));
+not_outright s at bytes request judged asks h out = record {
+  fault = λ fault judged'. absurd (no_both request fault (one_judgement bytes (Ok request) (Err fault) judged judged'));
   no_ticket = λ judged'. absurd (other (Ticket 0) refl judged');
   indication = λ judged'. absurd (other Indication refl judged');
 }
   where
     other : (outright : Request) → asks_store outright ≡ false → IsJudged bytes (Ok outright) → ⊥
-    other outright none judged' = true≢false (sym asks ∙ ap asks_store (same_request request outright (one bytes (Ok request) (Ok outright) judged judged')) ∙ none)
+    other outright none judged' = true≢false (sym asks ∙ ap asks_store (same_request request outright (one_judgement bytes (Ok request) (Ok outright) judged judged')) ∙ none)
 
 -- ---- the store is asked
 
 closed_is_refusal : (r : Result Answer Refusal) → r ≡ Err (Store Closed) → is_store_refusal r ≡ true
 closed_is_refusal r is = ap is_store_refusal is
 
-module _ {D : Type 0} (g : Ghosts D) (stored_law : TakesStored) (bounds : HasOneBound) (one : OneJudgement) (at : ℕ) (bytes : List ℕ) (request : Request) (judged : IsJudged bytes (Ok request))
+module _ {D : Type 0} (g : Ghosts D) (at : ℕ) (bytes : List ℕ) (request : Request) (judged : IsJudged bytes (Ok request))
     (asks : asks_store request ≡ true) (t : TerminalState) (scale' : State) (j j' : StoreView D) (result : Result Answer Refusal) (serves : Serves g j j' t.scale scale' at result (IsWanted request)) where
   -- the terminal after it
   abbrev pub t' : TerminalState
@@ -151,11 +152,11 @@ module _ {D : Type 0} (g : Ghosts D) (stored_law : TakesStored) (bounds : HasOne
   of_setup false same = ap (λ s. s.setup) same
 
   marked : (marks : Bool) → Marks t.scale scale' marks → (events : List AtTerminal) → TerminalStands t events → TerminalStands t' (if marks then stored ∷ events else events)
-  marked true takes events st = (stored_law t scale' takes).stands events st
+  marked true takes events st = (law_of_stored_weighings t scale' takes).stands events st
   marked false same events st = subst (λ sc. TerminalStands (record t { scale = sc }) events) (sym same) st
 
   still_hears : (marks : Bool) → Marks t.scale scale' marks → (unmade : Bool) (h : List Happening) → Hears t h → Hears t' (office at bytes unmade ∷ h)
-  still_hears true takes unmade h ears = record { events = stored ∷ ears.events; stands = (stored_law t scale' takes).stands ears.events ears.stands; of_history = ears.of_history }
+  still_hears true takes unmade h ears = record { events = stored ∷ ears.events; stands = (law_of_stored_weighings t scale' takes).stands ears.events ears.stands; of_history = ears.of_history }
   still_hears false same unmade h ears =
       record { events = ears.events; stands = subst (λ sc. TerminalStands (record t { scale = sc }) ears.events) (sym same) ears.stands; of_history = ears.of_history }
 
@@ -180,7 +181,7 @@ module _ {D : Type 0} (g : Ghosts D) (stored_law : TakesStored) (bounds : HasOne
   crashes out response o h st honest there db may =
       let kept = st.at.store there in
       let w = situation t.scale.setup at st.account in
-      let some = some_wanted bounds request w st.at.lists.rising in
+      let some = some_wanted request w st.at.lists.rising in
       either some.0 some.1 (serves.leaves w (now st.account st.at.terminal) kept.stands honest some.0 some.1 db may)
     where
       either : (want : Wanted) → IsWanted request (situation t.scale.setup at st.account) want → Reopens db st.account.entries st.account.spent ⊎ Reopens db want.entries want.spent
@@ -224,7 +225,7 @@ module _ {D : Type 0} (g : Ghosts D) (stored_law : TakesStored) (bounds : HasOne
     honest = serves.honest;
     hears = still_hears serves.scale.0 serves.scale.1 false;
     replies = λ h ears. tt;
-    outright = λ h ears. not_outright one t.scale.setup at bytes request judged asks h out;
+    outright = λ h ears. not_outright t.scale.setup at bytes request judged asks h out;
   }
 
   -- what stands after a request that counts as never made
@@ -375,12 +376,12 @@ outright_any at bytes Purge judged asks s told out response a = absurd (cc asks)
 outright_any at bytes Check judged asks s told out response a = absurd (cc asks)
 
 -- and it is answered so
-answers_outright : OneJudgement → (at : ℕ) (bytes : List ℕ) (request : Request) → IsJudged bytes (Ok request) → (t : TerminalState) (result : Result Answer Refusal) → Outright t.scale request result
+answers_outright : (at : ℕ) (bytes : List ℕ) (request : Request) → IsJudged bytes (Ok request) → (t : TerminalState) (result : Result Answer Refusal) → Outright t.scale request result
     → (out : Out) → IsResponse at (told_result request (told_of result)) out → (h : List Happening) → Hears t h → IsOutright t.scale.setup at bytes h out
-answers_outright one at bytes request judged t result is out response h ears = record {
-  fault = λ fault judged'. absurd (no_both request fault (one bytes (Ok request) (Err fault) judged judged'));
-  no_ticket = λ judged'. ticket (same_request request (Ticket 0) (one bytes (Ok request) (Ok (Ticket 0)) judged judged'));
-  indication = λ judged'. indication (same_request request Indication (one bytes (Ok request) (Ok Indication) judged judged'));
+answers_outright at bytes request judged t result is out response h ears = record {
+  fault = λ fault judged'. absurd (no_both request fault (one_judgement bytes (Ok request) (Err fault) judged judged'));
+  no_ticket = λ judged'. ticket (same_request request (Ticket 0) (one_judgement bytes (Ok request) (Ok (Ticket 0)) judged judged'));
+  indication = λ judged'. indication (same_request request Indication (one_judgement bytes (Ok request) (Ok Indication) judged judged'));
 }
   where
     ticket : request ≡ Ticket 0 → IsResponse at (told_result (Ticket 0) (Err NoTicket)) out
@@ -432,11 +433,11 @@ no_export_outright Purge scale result none is = absurd (cc none)
 no_export_outright Check scale result none is = absurd (cc none)
 
 -- a request that asks no store must not count as never made
-pub need_not : OneJudgement → (at : ℕ) (bytes : List ℕ) (request : Request) → IsJudged bytes (Ok request) → asks_store request ≡ false → MustBeUnmade (office at bytes false)
-need_not one at bytes request judged none other judged' asks =
-    absurd (true≢false (sym asks ∙ ap asks_store (same_request other request (one bytes (Ok other) (Ok request) judged' judged)) ∙ none))
+pub need_not : (at : ℕ) (bytes : List ℕ) (request : Request) → IsJudged bytes (Ok request) → asks_store request ≡ false → MustBeUnmade (office at bytes false)
+need_not at bytes request judged none other judged' asks =
+    absurd (true≢false (sym asks ∙ ap asks_store (same_request other request (one_judgement bytes (Ok other) (Ok request) judged' judged)) ∙ none))
 
-module _ {D : Type 0} (g : Ghosts D) (stored_law : TakesStored) (bounds : HasOneBound) (one : OneJudgement) (at : ℕ) (bytes : List ℕ) (request : Request) (judged : IsJudged bytes (Ok request))
+module _ {D : Type 0} (g : Ghosts D) (at : ℕ) (bytes : List ℕ) (request : Request) (judged : IsJudged bytes (Ok request))
     (t : TerminalState) (scale' : State) (j j' : StoreView D) (result : Result Answer Refusal)
     (serves : asks_store request ≡ true → Serves g j j' t.scale scale' at result (IsWanted request))
     (outright : asks_store request ≡ false → (j' ≡ j) × (scale' ≡ t.scale) × Outright t.scale request result) where
@@ -446,8 +447,8 @@ module _ {D : Type 0} (g : Ghosts D) (stored_law : TakesStored) (bounds : HasOne
     where
       by_refusal : (asks : asks_store request ≡ true) (b : Bool) → is_store_refusal result ≡ b → (unmade : Bool) × Took g (office at bytes unmade) out t j (record t { scale = scale' }) j'
       by_refusal asks true is =
-          (true, refused_took g stored_law bounds one at bytes request judged asks t scale' j j' result (serves asks) out (subst (λ told. IsResponse at told out) (refusal_told request result is) response) is)
-      by_refusal asks false is = (false, made_took g stored_law bounds one at bytes request judged asks t scale' j j' result (serves asks) is out response)
+          (true, refused_took g at bytes request judged asks t scale' j j' result (serves asks) out (subst (λ told. IsResponse at told out) (refusal_told request result is) response) is)
+      by_refusal asks false is = (false, made_took g at bytes request judged asks t scale' j j' result (serves asks) is out response)
 
       by_request : (b : Bool) → asks_store request ≡ b → (unmade : Bool) × Took g (office at bytes unmade) out t j (record t { scale = scale' }) j'
       by_request true asks = by_refusal asks (is_store_refusal result) refl
@@ -455,8 +456,8 @@ module _ {D : Type 0} (g : Ghosts D) (stored_law : TakesStored) (bounds : HasOne
           let is = outright none in (
             false,
             subst₂ (λ sc i. Took g (office at bytes false) out t j (record t { scale = sc }) i) (sym is.1) (sym is.0)
-                (quiet_took g j at bytes false out t tt (need_not one at bytes request judged none) (outright_comes at bytes request judged none t result is.2 out response)
-                (outright_any at bytes request judged none t.scale.setup _ out response) (answers_outright one at bytes request judged t result is.2 out response)),
+                (quiet_took g j at bytes false out t tt (need_not at bytes request judged none) (outright_comes at bytes request judged none t result is.2 out response)
+                (outright_any at bytes request judged none t.scale.setup _ out response) (answers_outright at bytes request judged t result is.2 out response)),
           )
 
   -- memory was refused for its response
@@ -464,8 +465,8 @@ module _ {D : Type 0} (g : Ghosts D) (stored_law : TakesStored) (bounds : HasOne
   failed_took export out response = by_request (asks_store request) refl
     where
       by_refusal : (asks : asks_store request ≡ true) (b : Bool) → is_store_refusal result ≡ b → (unmade : Bool) × Took g (office at bytes unmade) out t j (record t { scale = scale' }) j'
-      by_refusal asks true is = (true, refused_took g stored_law bounds one at bytes request judged asks t scale' j j' result (serves asks) out response is)
-      by_refusal asks false is = (true, export_took g stored_law bounds one at bytes request judged asks t scale' j j' result (serves asks) out response is export)
+      by_refusal asks true is = (true, refused_took g at bytes request judged asks t scale' j j' result (serves asks) out response is)
+      by_refusal asks false is = (true, export_took g at bytes request judged asks t scale' j j' result (serves asks) out response is export)
 
       by_request : (b : Bool) → asks_store request ≡ b → (unmade : Bool) × Took g (office at bytes unmade) out t j (record t { scale = scale' }) j'
       by_request true asks = by_refusal asks (is_store_refusal result) refl
@@ -473,21 +474,21 @@ module _ {D : Type 0} (g : Ghosts D) (stored_law : TakesStored) (bounds : HasOne
 
 -- ---- faults of HTTP
 
-module _ {D : Type 0} (g : Ghosts D) (j : StoreView D) (one : OneJudgement) (at : ℕ) (bytes : List ℕ) (t : TerminalState) (out : Out) where
+module _ {D : Type 0} (g : Ghosts D) (j : StoreView D) (at : ℕ) (bytes : List ℕ) (t : TerminalState) (out : Out) where
   -- a fault of the judgement is made
   fault_made : (fault : HttpFault) → IsJudged bytes (Err fault) → IsResponse at (told_fault fault) out → (unmade : Bool) × Took g (office at bytes unmade) out t j t j
   fault_made fault judged response = (
     false,
     quiet_took g j at bytes false out t tt (λ other judged' asks. absurd (none other judged')) (λ a st lists. (Err fault, judged, (refl, response)))
         (λ a. (out, (Err fault, judged, (refl, response)))) (λ h ears. record {
-          fault = λ other judged'. subst (λ f. IsResponse at (told_fault f) out) (same_fault fault other (one bytes (Err fault) (Err other) judged judged')) response;
+          fault = λ other judged'. subst (λ f. IsResponse at (told_fault f) out) (same_fault fault other (one_judgement bytes (Err fault) (Err other) judged judged')) response;
           no_ticket = λ judged'. absurd (none (Ticket 0) judged');
           indication = λ judged'. absurd (none Indication judged');
         }),
   )
     where
       none : (other : Request) → IsJudged bytes (Ok other) → ⊥
-      none other judged' = no_both other fault (one bytes (Ok other) (Err fault) judged' judged)
+      none other judged' = no_both other fault (one_judgement bytes (Ok other) (Err fault) judged' judged)
 
   -- want of memory counts as never made
   memory_unmade : MayWantMemory bytes → IsResponse at (told_fault Memory) out → (unmade : Bool) × Took g (office at bytes unmade) out t j t j

@@ -9,8 +9,9 @@ use Rattle.wb_office.specs.Situation.{Situation}
 use Rattle.wb_office.specs.Wanted.{Wanted, HasBound, IsWanted, wanted}
 use Rattle.wb_sics.specs.Event as terminal
 use Rattle.wb_sics.specs.Event.{Event as AtTerminal}
-use Rattle.wb_sics.specs.Heard.{RepliesToHeard, heard}
+use Rattle.wb_sics.specs.Heard.{heard}
 use Rattle.wb_sics.specs.Replies.{replies}
+use Rattle.wb_sics.proofs.Theorems.{law_of_replies}
 use Rattle.wb_station.specs.declared.fault.HttpFault.{HttpFault}
 use Rattle.wb_station.specs.Account.{Account, Comes, ComesOf, IsAccount, IsOut, IsResponse, Out, leaves, replied, responded, situation}
 use Rattle.wb_station.specs.Happening.{Happening, heard_of, reading, byte, hang_up, office}
@@ -18,7 +19,7 @@ use Rattle.wb_station.specs.Judgement.{IsJudged}
 use Rattle.wb_station.specs.Laws.{OneHistory, RepliesAlone}
 use Rattle.wb_station.specs.Response.{Told, response_text, told_result}
 use Rattle.wb_station.specs.Stands.{IsReplied}
-use Rattle.wb_station.specs.WholeRequests.{OneJudgement}
+use Rattle.wb_station.proofs.judgement.WholeRequests.{one_judgement}
 
 one_response : (at : ℕ) (told : Told) (x y : Out) → IsResponse at told x → IsResponse at told y → x ≡ y
 one_response at told x y a b =
@@ -50,27 +51,27 @@ one_answer s at (Ok request) before a b x y one two =
       out = one_response at _ x y one.3 (subst (λ want. IsResponse at (told_result request want.answer) y) (sym same) two.3);
     }
 
-one_comes : OneJudgement → (s : Setup) (p : Happening) (before a b : Account) (x y : Out) → Comes s p before a x → Comes s p before b y → IsSame a b x y
-one_comes judgement s (reading r) before a b x y one two = record { account = one.0 ∙ sym two.0; out = one.1 ∙ sym two.1 }
-one_comes judgement s (byte c) before a b x y one two = record { account = one.0 ∙ sym two.0; out = one.1 ∙ sym two.1 }
-one_comes judgement s hang_up before a b x y one two = record { account = one.0 ∙ sym two.0; out = one.1 ∙ sym two.1 }
-one_comes judgement s (office at bytes true) before a b x y one two = record { account = one.0 ∙ sym two.0; out = one_response at _ x y one.1 two.1 }
-one_comes judgement s (office at bytes false) before a b x y one two =
-    let same : one.0 ≡ two.0 = judgement bytes one.0 two.0 one.1 two.1 in
+one_comes : (s : Setup) (p : Happening) (before a b : Account) (x y : Out) → Comes s p before a x → Comes s p before b y → IsSame a b x y
+one_comes s (reading r) before a b x y one two = record { account = one.0 ∙ sym two.0; out = one.1 ∙ sym two.1 }
+one_comes s (byte c) before a b x y one two = record { account = one.0 ∙ sym two.0; out = one.1 ∙ sym two.1 }
+one_comes s hang_up before a b x y one two = record { account = one.0 ∙ sym two.0; out = one.1 ∙ sym two.1 }
+one_comes s (office at bytes true) before a b x y one two = record { account = one.0 ∙ sym two.0; out = one_response at _ x y one.1 two.1 }
+one_comes s (office at bytes false) before a b x y one two =
+    let same : one.0 ≡ two.0 = one_judgement bytes one.0 two.0 one.1 two.1 in
     one_answer s at one.0 before a b x y one.2 (subst (λ r. ComesOf s at r before b y) (sym same) two.2)
 
-one_account : OneJudgement → (s : Setup) (opening : Account) (h : List Happening) (a b : Account) → IsAccount s opening h a → IsAccount s opening h b → a ≡ b
-one_account judgement s opening [] a b one two = one ∙ sym two
-one_account judgement s opening (p ∷ h) a b one two =
-    let same : one.0 ≡ two.0 = one_account judgement s opening h one.0 two.0 one.1 two.1 in
-    (one_comes judgement s p one.0 a b one.2.0 two.2.0 one.2.1 (subst (λ before. Comes s p before b two.2.0) (sym same) two.2.1)).account
+one_account : (s : Setup) (opening : Account) (h : List Happening) (a b : Account) → IsAccount s opening h a → IsAccount s opening h b → a ≡ b
+one_account s opening [] a b one two = one ∙ sym two
+one_account s opening (p ∷ h) a b one two =
+    let same : one.0 ≡ two.0 = one_account s opening h one.0 two.0 one.1 two.1 in
+    (one_comes s p one.0 a b one.2.0 two.2.0 one.2.1 (subst (λ before. Comes s p before b two.2.0) (sym same) two.2.1)).account
 
-pub one_history : OneJudgement → OneHistory
-one_history judgement = record {
-  account = one_account judgement;
+pub one_history : OneHistory
+one_history = record {
+  account = one_account;
   out = λ s opening p h x y one two.
-      let same : one.0 ≡ two.0 = one_account judgement s opening h one.0 two.0 one.1 two.1 in
-      (one_comes judgement s p one.0 one.2.0 two.2.0 x y one.2.1 (subst (λ before. Comes s p before two.2.0 y) (sym same) two.2.1)).out;
+      let same : one.0 ≡ two.0 = one_account s opening h one.0 two.0 one.1 two.1 in
+      (one_comes s p one.0 one.2.0 two.2.0 x y one.2.1 (subst (λ before. Comes s p before two.2.0 y) (sym same) two.2.1)).out;
 }
 
 -- ---- what the terminal heard
@@ -92,11 +93,11 @@ heard_history s opening (office at bytes true ∷ h) a none is = ap (λ c. heard
 heard_history s opening (office at bytes false ∷ h) a none is =
     heard_answer s at is.2.1.0 is.0 a is.2.0 is.2.1.2 ∙ heard_history s opening h is.0 none is.1
 
-alone : RepliesToHeard → (s : Setup) (e : AtTerminal) (events heard_events : List AtTerminal) → heard events ≡ heard_events → replies s (e ∷ events) ≡ replies s (e ∷ heard_events)
-alone law s e events heard_events same = sym (law s e events) ∙ ap (λ l. replies s (e ∷ l)) same
+alone : (s : Setup) (e : AtTerminal) (events heard_events : List AtTerminal) → heard events ≡ heard_events → replies s (e ∷ events) ≡ replies s (e ∷ heard_events)
+alone s e events heard_events same = sym (law_of_replies s e events) ∙ ap (λ l. replies s (e ∷ l)) same
 
-pub replies_alone : RepliesToHeard → RepliesAlone
-replies_alone law s opening (reading r) h x none is = is.2.1.1 ∙ ap replied (alone law s (terminal.reading r) is.0.terminal (heard_of h) (heard_history s opening h is.0 none is.1))
-replies_alone law s opening (byte b) h x none is = is.2.1.1 ∙ ap replied (alone law s (terminal.byte b) is.0.terminal (heard_of h) (heard_history s opening h is.0 none is.1))
-replies_alone law s opening hang_up h x none is = is.2.1.1
-replies_alone law s opening (office at bytes unmade) h x none is = tt
+pub replies_alone : RepliesAlone
+replies_alone s opening (reading r) h x none is = is.2.1.1 ∙ ap replied (alone s (terminal.reading r) is.0.terminal (heard_of h) (heard_history s opening h is.0 none is.1))
+replies_alone s opening (byte b) h x none is = is.2.1.1 ∙ ap replied (alone s (terminal.byte b) is.0.terminal (heard_of h) (heard_history s opening h is.0 none is.1))
+replies_alone s opening hang_up h x none is = is.2.1.1
+replies_alone s opening (office at bytes unmade) h x none is = tt

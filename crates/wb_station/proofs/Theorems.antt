@@ -3,8 +3,6 @@ use Rattle.std.proofs.Common.{◌∙◌, ap, sym}
 use Rattle.httpdate.proofs.Theorems.{unix_secs_injective}
 use Rattle.httpdate.specs.Text.{imf_fixdate}
 use Rattle.sqlite.specs.Store.{Ghosts}
-use Rattle.wb_office.proofs.Theorems.{law_of_repeated_requests}
-use Rattle.wb_sics.proofs.Theorems.{law_of_replies}
 use Rattle.wb_station.specs.CourseOfHistory.{HasCourse, KeptForGood, SameAgain}
 use Rattle.wb_station.specs.Laws.{OneHistory, RepliesAlone}
 use Rattle.wb_station.specs.Response.{OneResponse, response_text, told}
@@ -31,11 +29,11 @@ law_of_one_response moment outcome a b h k =
 
 -- A history has one account, and at each event one output.
 pub law_of_one_history : OneHistory
-law_of_one_history = one_history law_of_one_judgement
+law_of_one_history = one_history
 
 -- The terminal's replies are those of the readings, bytes and hang-ups alone: requests to the office change none.
 pub law_of_replies_alone : RepliesAlone
-law_of_replies_alone = replies_alone law_of_replies
+law_of_replies_alone = replies_alone
 
 -- Events that are taken one after the other lead where their history does, as a whole and from each place on. After a fault of the disk each later
 -- request that asks the store is answered 503.
@@ -50,8 +48,8 @@ law_of_courses = has_course
 -- A request that was answered with an entry, its own or one that it repeated, is answered so whenever it is made again, and so is the ticket of its
 -- number, whatever came between; or its entry was purged, and it is refused as gone.
 pub law_of_same_again : SameAgain
-law_of_same_again = same_again law_of_repeated_requests
+law_of_same_again = same_again
 
 -- An entry that was added or repeated is stored in every later account, or its key is spent.
 pub law_of_kept_entries : KeptForGood
-law_of_kept_entries = kept_for_good law_of_repeated_requests
+law_of_kept_entries = kept_for_good

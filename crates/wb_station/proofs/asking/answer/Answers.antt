@@ -4,16 +4,13 @@ use Rattle.wb_office.specs.Serves.{Serves, told_of}
 use Rattle.wb_office.specs.Wanted.{IsWanted}
 use Rattle.wb_station.specs.Account.{responded}
 use Rattle.wb_station.specs.Response.{IsDateOf, is_export, told_result}
-use Rattle.wb_journal.proofs.Theorems.{law_of_one_bound}
-use Rattle.wb_sics.proofs.Theorems.{law_of_stored_weighings}
-use Rattle.wb_station.proofs.Theorems.{law_of_one_judgement}
 use Rattle.wb_station.proofs.Accounts.{response_is, when_err, when_not_err}
 use Rattle.wb_station.proofs.OfficeRequests.{answered_took, failed_took}
 use Rattle.wb_station.proofs.asking.answer.Goals as goal
 
 pub returns-then-is_err : goal.returns-then-is_err
 returns-then-is_err g c = λ bytes judged.
-    failed_took g.D.Store law_of_stored_weighings law_of_one_bound law_of_one_judgement c.args.moment.now bytes c.args.request judged
+    failed_took g.D.Store c.args.moment.now bytes c.args.request judged
     c.args.terminal.now c.answer-result.new.scale c.args.office.now c.answer-result.new.self c.answer-result.result
     (λ asks. subst₂ (λ sc at. Serves g.D.Store c.args.office.now c.answer-result.new.self sc c.answer-result.new.scale at c.answer-result.result (IsWanted c.args.request)) c.scale_mut.ensures.value
     c.copied.ensures (c.answer-result.ensures.serves asks))
@@ -23,7 +20,7 @@ returns-then-is_err g c = λ bytes judged.
 
 pub returns : goal.returns
 returns g c = λ bytes judged.
-    answered_took g.D.Store law_of_stored_weighings law_of_one_bound law_of_one_judgement c.args.moment.now bytes c.args.request judged
+    answered_took g.D.Store c.args.moment.now bytes c.args.request judged
     c.args.terminal.now c.answer-result.new.scale c.args.office.now c.answer-result.new.self c.answer-result.result
     (λ asks. subst₂ (λ sc at. Serves g.D.Store c.args.office.now c.answer-result.new.self sc c.answer-result.new.scale at c.answer-result.result (IsWanted c.args.request)) c.scale_mut.ensures.value
     c.copied.ensures (c.answer-result.ensures.serves asks))

@@ -1,7 +1,6 @@
 use Rattle.std.proofs.Common.{subst}
 use Rattle.wb_station.specs.Account.{responded}
 use Rattle.wb_station.specs.Judgement.{IsJudged}
-use Rattle.wb_station.proofs.Theorems.{law_of_one_judgement}
 use Rattle.wb_station.proofs.OfficeRequests.{fault_took}
 use Rattle.wb_station.proofs.asking.ask.Goals as goal
 
@@ -13,4 +12,4 @@ returns-in-Ok g c =
 pub returns-in-Err : goal.returns-in-Err
 returns-in-Err g c =
     let judged = c.in-Err.ensures.judged in
-    fault_took g.D.Store c.args.office.now law_of_one_judgement c.args.moment.now c.args.bytes.now c.args.terminal.now (responded c.put_fault.new.room) c.in-Err.fault judged.0 judged.1 judged.2 c.in-Err.ensures.memory c.put_fault.ensures
+    fault_took g.D.Store c.args.office.now c.args.moment.now c.args.bytes.now c.args.terminal.now (responded c.put_fault.new.room) c.in-Err.fault judged.0 judged.1 judged.2 c.in-Err.ensures.memory c.put_fault.ensures

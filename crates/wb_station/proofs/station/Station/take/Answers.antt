@@ -1,5 +1,4 @@
 use Rattle.std.proofs.Common.{false}
-use Rattle.wb_sics.proofs.Theorems.{law_of_replies}
 use Rattle.wb_station.proofs.HeardEvents.{byte_heard, hang_up_heard}
 use Rattle.wb_station.proofs.station.Station.take.Goals as goal
 
@@ -10,7 +9,7 @@ pub returns-in-Byte : goal.returns-in-Byte
 returns-in-Byte g c =
     rw c.in-Byte.is (
       false,
-      byte_heard g.D.Store c.args.self.now.office c.hear.new.replies.items _ c.args.self.now.terminal c.hear.new.terminal c.hear.result law_of_replies c.in-Byte.byte c.hear.ensures,
+      byte_heard g.D.Store c.args.self.now.office c.hear.new.replies.items _ c.args.self.now.terminal c.hear.new.terminal c.hear.result c.in-Byte.byte c.hear.ensures,
     )
 
 pub returns-in-Hangup : goal.returns-in-Hangup

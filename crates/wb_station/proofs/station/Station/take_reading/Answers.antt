@@ -1,7 +1,6 @@
-use Rattle.wb_sics.proofs.Theorems.{law_of_replies}
 use Rattle.wb_station.proofs.Accounts.{reading_took}
 use Rattle.wb_station.proofs.station.Station.take_reading.Goals as goal
 
 pub returns : goal.returns
 returns g c =
-    reading_took g.D.Store c.args.self.now.office law_of_replies c.args.reading c.hear.new.replies.items c.args.self.now.terminal c.hear.new.terminal c.hear.ensures.takes c.hear.ensures.replies
+    reading_took g.D.Store c.args.self.now.office c.args.reading c.hear.new.replies.items c.args.self.now.terminal c.hear.new.terminal c.hear.ensures.takes c.hear.ensures.replies
