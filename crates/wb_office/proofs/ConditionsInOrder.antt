@@ -1,9 +1,6 @@
 -- Conditions one after the other.
 use Rattle.std.proofs.Common.{◌≡◌, Bool, true, false, if◌then◌else◌, List, [], ◌∷◌, ◌++◌, Some, None, refl}
-use Rattle.wb_office.specs.declared.refusal.Refusal.{Refusal}
-use Rattle.wb_office.specs.Situation.{Asking}
-use Rattle.wb_office.specs.helpers.ConditionGroups.{of_journal, of_load, of_tare}
-use Rattle.wb_office.specs.Verdict.{Condition, first_refusal, of_new}
+use Rattle.wb_office.proofs.Common.{Refusal, Asking, of_journal, of_load, of_tare, Condition, first_refusal, of_new}
 
 -- where none of the first conditions holds, those after them decide
 pub later : (xs ys : List Condition) (a : Asking) → first_refusal xs a ≡ None → first_refusal (xs ++ ys) a ≡ first_refusal ys a

@@ -1,14 +1,6 @@
 -- Entries found by key and by number.
 use Rattle.std.proofs.Common.{◌≡◌, ◌∙◌, sym, ℕ, ◌<◌, ◌==◌, Bool, true, false, ◌||◌, if◌then◌else◌, List, [], ◌∷◌, Option, Some, None, unwrap_or, refl, ap, arith, true≢false}
-use Rattle.std.proofs.lemmas.Bool.Decides.{nat_tests}
-use Rattle.std.proofs.lemmas.Slice.Eq.{bytes_eq-Decides}
-use Rattle.std.specs.List.{AllByRecursion, find, list_any}
-use Rattle.std.specs.Str.{bytes_eq}
-use Rattle.wb_journal.specs.declared.entry.EntryParts.{EntryParts}
-use Rattle.wb_journal.specs.Pairs.{partner, partner_of, with_number}
-use Rattle.wb_journal.specs.Rising.{IsRising, IsRisingFrom}
-use Rattle.wb_store.specs.Lists.{by_key, has_key, is_spent}
-use Rattle.wb_store.specs.Rows.{SpentKey}
+use Rattle.wb_office.proofs.Common.{nat_tests, bytes_eq-Decides, AllByRecursion, find, list_any, bytes_eq, EntryParts, partner, partner_of, with_number, IsRising, IsRisingFrom, by_key, has_key, is_spent, SpentKey}
 
 -- what is found passes the test
 pub find_any : {X : Type 0} (p : X → Bool) (xs : List X) (x : X) → find p xs ≡ Some x → list_any p xs ≡ true

@@ -1,3 +1,4 @@
+mod Common
 mod ConditionsInOrder
 mod ExportRecords
 mod FoundEntries

@@ -1,26 +1,8 @@
 -- Why a load isn't stored, by what is indicated and by the conditions.
 use Rattle.std.proofs.Common.{◌≡◌, ◌∙◌, Bool, true, false, not, ◌&&◌, if◌then◌else◌, Option, Some, None, ℤ, pos, refl}
-use Rattle.std.specs.Prelude.{int_lt, is_none, option_map, ◌-ℤ◌}
-use Rattle.wb_instrument.specs.Limits.{is_over, is_under}
-use Rattle.wb_instrument.specs.Rounding.{round}
-use Rattle.wb_instrument.specs.Setup.{Setup}
-use Rattle.wb_journal.specs.declared.kind.Kind.{Kind}
-use Rattle.wb_journal.specs.declared.kind.Kind.TheVariants.{First, Second, Single, Void}
-use Rattle.wb_journal.specs.Kind.{is_void}
-use Rattle.wb_scale.specs.Indication.{gross, indicated, indicated_at, shown}
-use Rattle.wb_scale.specs.Tare.{tare_now, tare_tenths}
-use Rattle.wb_scale.specs.Zero.{above_zero}
-use Rattle.wb_window.specs.Stability.{is_stable}
-use Rattle.wb_office.specs.declared.refusal.Refusal.{Refusal}
+use Rattle.wb_office.proofs.Common.{int_lt, is_none, option_map, is_over, is_under, round, Setup, Kind, First, Second, Single, Void, is_void, gross, indicated, indicated_at, shown, tare_now, tare_tenths, above_zero, is_stable, Refusal, TareNow, Empty, Weighed, Preset, readings, Asking, holds_of, is_preset_below, weighs, of_load, gross_of_shown, gross_shown, is_preset_below_shown, refusal_of_shown, first_refusal, gross_kg, kilograms}
+use Rattle.std.specs.Prelude.{◌-ℤ◌}
 use Rattle.wb_office.specs.declared.refusal.Refusal.TheVariants as refusal
-use Rattle.wb_scale.specs.declared.answers.TareNow.{TareNow}
-use Rattle.wb_scale.specs.declared.answers.TareNow.TheVariants.{Empty, Weighed, Preset}
-use Rattle.wb_scale.specs.Moment.{readings}
-use Rattle.wb_office.specs.Situation.{Asking}
-use Rattle.wb_office.specs.Conditions.{holds_of, is_preset_below, weighs}
-use Rattle.wb_office.specs.helpers.ConditionGroups.{of_load}
-use Rattle.wb_office.specs.helpers.IndicatedLoad.{gross_of_shown, gross_shown, is_preset_below_shown, refusal_of_shown}
-use Rattle.wb_office.specs.Verdict.{first_refusal, gross_kg, kilograms}
 
 -- the conditions on a load of a First, Second or Single, one after the other
 in_order : Setup → Bool → Bool → Option ℤ → Option Refusal

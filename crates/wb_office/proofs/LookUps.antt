@@ -1,13 +1,6 @@
 -- Calls of the store that only read it, one after the other.
 use Rattle.std.proofs.Common.{◌≡◌, ◌∙◌, ap, sym, refl, Bool, true, false, ◌||◌, List, Result, Ok, Err, IfOk, MatchResult}
-use Rattle.sqlite.specs.Store.{Ghosts}
-use Rattle.wb_journal.specs.declared.entry.EntryParts.{EntryParts}
-use Rattle.wb_store.specs.declared.fault.StoreFault.{StoreFault}
-use Rattle.wb_store.specs.declared.fault.StoreFault.TheVariants.{Closed, Disk, Memory}
-use Rattle.wb_store.specs.Faults.{closed_by}
-use Rattle.wb_store.specs.Journal.{IsHonest, StoreView, Stands}
-use Rattle.wb_store.specs.Keeping.{Closes, Keeps}
-use Rattle.wb_store.specs.Rows.{SpentKey}
+use Rattle.wb_office.proofs.Common.{Ghosts, EntryParts, StoreFault, Closed, Disk, Memory, closed_by, IsHonest, StoreView, Stands, Closes, Keeps, SpentKey}
 use Rattle.wb_office.specs.helpers.LookUps.{LooksUp}
 
 the_fault : {X : Type 0} → Result X StoreFault → StoreFault

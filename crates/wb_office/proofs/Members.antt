@@ -1,12 +1,6 @@
 -- Members of lists of entries.
 use Rattle.std.proofs.Common.{◌≡◌, ◌∙◌, sym, ap, ℕ, suc, ◌<◌, ◌≤◌, nat_le, nat_lt, Bool, true, false, cond, ◌||◌, inl, inr, List, [], ◌∷◌, ◌++◌, map, refl, arith, true≢false}
-use Rattle.std.proofs.lemmas.Bool.Decides.{nat_tests}
-use Rattle.std.specs.List.{list_any}
-use Rattle.std.specs.Prelude.{Contains}
-use Rattle.wb_journal.specs.declared.entry.EntryParts.{EntryParts}
-use Rattle.wb_journal.specs.Retention.{kept}
-use Rattle.wb_journal.proofs.offered.Members.{Among}
-use Rattle.wb_office.specs.Answer.{below, spent_by}
+use Rattle.wb_office.proofs.Common.{nat_tests, list_any, Contains, EntryParts, kept, Among, below, spent_by}
 
 pub contains : {A : Type 0} (x : A) (xs : List A) → Among x xs → Contains xs x
 contains x [] h = absurd h

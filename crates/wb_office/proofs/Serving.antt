@@ -1,30 +1,12 @@
 -- How calls of the store serve a weighing or void.
 use Rattle.std.proofs.Common.{ℕ, ◌≡◌, ◌≢◌, ◌∙◌, ◌↔◌, inl, sym, ap, Bool, true, false, ◌||◌, not, List, [], ◌∷◌, ◌++◌, IfErr, IfOk, IsOk, OnErr, Option, Some, None, is_some, unwrap_or, Result, Ok, Err, refl, true≢false}
-use Rattle.sqlite.specs.Store.{Ghosts}
-use Rattle.wb_journal.specs.declared.entry.EntryParts.{EntryParts}
-use Rattle.wb_journal.specs.Kind.{is_void}
-use Rattle.wb_journal.specs.Pairs.{open_of}
+use Rattle.wb_office.proofs.Common.{Ghosts, EntryParts, is_void, open_of, StoreFault, Closed, Foreign, Memory, is_disk, IsHonest, StoreView, Stands, LeavesEither, LeavesOnly, IsNext, SpentKey, Refusal, Request, Told, answer_of, asking, entries_after, is_marked, nothing, outcome_of, spent_after, text_of, Situation, IsOnLists, holds_of, AsksFor, IsAccepted, IsOnScale, IsNow, Marks, Serves, fault_of_refusal, is_of_store, is_store_refusal, told, told_of, Wanted, HasBound, IsWanted, wanted, Verdict, accepted, verdict, IsWeighingWanted, wanted_by}
+use Rattle.std.specs.Result.{IsErrAnd}
 use Rattle.wb_scale.specs.State.{State}
-use Rattle.wb_store.specs.declared.fault.StoreFault.{StoreFault}
-use Rattle.wb_store.specs.declared.fault.StoreFault.TheVariants.{Closed, Foreign, Memory}
-use Rattle.wb_store.specs.Faults.{is_disk}
-use Rattle.wb_store.specs.Journal.{IsHonest, StoreView, Stands}
-use Rattle.wb_store.specs.Keeping.{LeavesEither, LeavesOnly}
-use Rattle.wb_store.specs.Lists.{IsNext}
-use Rattle.wb_store.specs.Rows.{SpentKey}
 use Rattle.wb_office.specs.declared.answer.Answer.{Answer}
 use Rattle.wb_office.specs.declared.judging.Asked.{Asked}
-use Rattle.wb_office.specs.declared.refusal.Refusal.{Refusal}
 use Rattle.wb_office.specs.declared.refusal.Refusal.TheVariants.{Store}
-use Rattle.wb_office.specs.declared.request.Request.{Request}
-use Rattle.wb_office.specs.Answer.{Told, answer_of, asking, entries_after, is_marked, nothing, outcome_of, spent_after, text_of}
-use Rattle.wb_office.specs.Situation.{Situation, IsOnLists}
-use Rattle.wb_office.specs.Conditions.{holds_of}
-use Rattle.wb_office.specs.helpers.JudgedByVerdict.{AsksFor, IsAccepted, IsOnScale}
-use Rattle.wb_office.specs.Serves.{IsNow, Marks, Serves, closed_by, fault_of_refusal, is_of_store, is_store_refusal, told, told_of}
-use Rattle.wb_office.specs.Wanted.{Wanted, HasBound, IsWanted, wanted}
-use Rattle.wb_office.specs.Verdict.{Verdict, accepted, verdict}
-use Rattle.wb_office.specs.helpers.WeighingWanted.{IsWeighingWanted, wanted_by}
+use Rattle.wb_office.specs.Serves.{closed_by}
 use Rattle.wb_office.proofs.LookUps.{Reads, ok_is_no_fault, stood}
 
 -- ---- what is asked for in a situation
@@ -39,6 +21,11 @@ pub on_lists_now : (asked : Asked) (w : Situation) → IsOnLists w.entries w.spe
 on_lists_now asked w = record { entries = refl; spent = refl }
 
 -- ---- refusals
+
+-- a fault of the store that is handed on
+pub handed_on : {X : Type 0} (r : Result X Refusal) (f : StoreFault) → IsErrAnd r (λ why. why ≡ Store f) → r ≡ Err (Store f)
+handed_on (Ok x) f h = absurd h
+handed_on (Err why) f h = ap Err h
 
 no_disk : (o : Option StoreFault) → is_some o ≡ false → holds_of is_disk o ≡ false
 no_disk None plain = refl

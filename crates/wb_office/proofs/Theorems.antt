@@ -5,10 +5,7 @@
 -- store stands for the lists that they leave (`judged`). So each request is one turn of a course. One that is answered 15 left the
 -- lists as they were (`kept`), or its disk failed; then, and at any stop, an opening finds the lists before it or those after it
 -- (`leaves`). In a course it was made or it wasn't.
-use Rattle.sqlite.specs.Store.{Ghosts}
-use Rattle.wb_office.specs.Laws.{AllWeighed, AnsweredAgain, FullAtLastNumber, KeepsPartners, KeyDecides, NumbersRun, OneEntryPerKey, WithinCapacity}
-use Rattle.wb_office.specs.LawsOfJournals.{ClosingsHavePartners, FirstsClosedOnce, KeptForItsTime, RefusalsChangeNothing, StaysSound, TicketGivenAgain}
-use Rattle.wb_office.specs.Stops.{AnsweredAfterStops}
+use Rattle.wb_office.proofs.Common.{Ghosts, AllWeighed, AnsweredAgain, FullAtLastNumber, KeepsPartners, KeyDecides, NumbersRun, OneEntryPerKey, WithinCapacity, ClosingsHavePartners, FirstsClosedOnce, KeptForItsTime, RefusalsChangeNothing, StaysSound, TicketGivenAgain, AnsweredAfterStops}
 use Rattle.wb_office.proofs.Verdicts.{key_decides}
 use Rattle.wb_office.proofs.courses.AcceptedEntries.{full_for_closing}
 use Rattle.wb_office.proofs.courses.ClosedWeighings.{closings_have_partners, firsts_closed_once}

@@ -1,13 +1,7 @@
 -- The verdict, case by case.
 use Rattle.std.proofs.Common.{◌≡◌, ◌∙◌, sym, true, false, true≢false, Option, Some, None, refl}
-use Rattle.wb_journal.specs.declared.entry.EntryParts.{EntryParts}
-use Rattle.wb_store.specs.Lists.{by_key}
-use Rattle.wb_office.specs.declared.refusal.Refusal.{Refusal}
+use Rattle.wb_office.proofs.Common.{EntryParts, by_key, Refusal, Asking, gone, is_damaged, is_other, KeyDecides, accepted, first_refusal, new_entry, of_new, on_new, refused, repeated, verdict}
 use Rattle.wb_office.specs.declared.refusal.Refusal.TheVariants as refusal
-use Rattle.wb_office.specs.Situation.{Asking}
-use Rattle.wb_office.specs.Conditions.{gone, is_damaged, is_other}
-use Rattle.wb_office.specs.Laws.{KeyDecides}
-use Rattle.wb_office.specs.Verdict.{accepted, first_refusal, new_entry, of_new, on_new, refused, repeated, verdict}
 use Rattle.wb_office.proofs.FoundEntries.{found_unspent}
 
 -- the key is that of an entry

@@ -26,13 +26,9 @@ pub(crate) fn answer_journal<D: Alter>(
     ensures { (scale : State) (at : ℕ) → Serves D.Store store.old store.new scale scale at result
         (IsWanted request.JournalCsv) }
 {
-    match store.entries(alloc) {
-        Ok(entries) => {
-            let text = journal_text(alloc, &entries);
-            exported(text)
-        }
-        Err(fault) => Err(Refusal::Store(fault)),
-    }
+    let entries = store.entries(alloc)?;
+    let text = journal_text(alloc, &entries);
+    exported(text)
 }
 
 /// Answers the export of the tickets, unless the journal is damaged.
@@ -43,21 +39,15 @@ pub(crate) fn answer_tickets<D: Alter>(
     ensures { (scale : State) (at : ℕ) → Serves D.Store store.old store.new scale scale at result
         (IsWanted request.TicketsCsv) }
 {
-    match store.entries(alloc) {
-        Ok(entries) => tickets_if_sound(alloc, &entries),
-        Err(fault) => Err(Refusal::Store(fault)),
-    }
+    let entries = store.entries(alloc)?;
+    tickets_if_sound(alloc, &entries)
 }
 
 fn tickets_if_sound(alloc: Global, entries: &[Entry]) -> Result<Answer, Refusal>
     ensures memory { WantsMemory result }
     ensures tells { IsRising entries.now → Tells result (tickets_answer entries.now) }
 {
-    let finding = match finding_of(alloc, entries) {
-        Ok(finding) => finding,
-        Err(fault) => return Err(Refusal::Store(fault)),
-    };
-    match finding {
+    match finding_of(alloc, entries)? {
         Finding::Sound(_) => {
             let text = tickets_text(alloc, entries);
             exported(text)

@@ -2,9 +2,11 @@
 ghost use Rattle.std.specs.Prelude.{◌≡◌};
 ghost use Rattle.wb_office.specs.RefusalText.{number as number_of, name as name_of};
 
+use std::error::Error;
+use std::fmt::{self, Display};
 use wb_store::StoreFault;
 
-/// A refusal of the office. Each has a number and a name, by which operators and programs know it.
+/// A refusal of the office. Each has a number and a name, by which operators and programs know it, and is shown as these.
 #[derive(Clone, Copy, Debug, PartialEq, Eq)]
 pub enum Refusal {
     /// An entry with this key is stored, and its kind or plate differs.
@@ -94,3 +96,21 @@ impl Refusal {
         }
     }
 }
+
+impl From<StoreFault> for Refusal {
+    ghost use Rattle.wb_office.specs.declared.refusal.Refusal.TheVariants.{Store};
+
+    ghost from_gives = { λ fault refusal. refusal ≡ Store fault };
+
+    fn from(fault: StoreFault) -> Refusal {
+        Refusal::Store(fault)
+    }
+}
+
+impl Display for Refusal {
+    fn fmt<W: fmt::Write>(&self, f: &mut fmt::Formatter<W>) -> fmt::Result {
+        write!(f, "{} {}", self.number(), self.name())
+    }
+}
+
+impl Error for Refusal {}

@@ -31,10 +31,8 @@ pub(crate) fn answer_ticket<D: Alter>(store: &mut Store<D>, number: u32) -> Resu
     ensures { (scale : State) (at : ℕ) → Serves D.Store store.old store.new scale scale at result
         (IsWanted (request.Ticket number)) }
 {
-    match find_pair(store, number) {
-        Ok(found) => ticket(found),
-        Err(fault) => Err(Refusal::Store(fault)),
-    }
+    let found = find_pair(store, number)?;
+    ticket(found)
 }
 
 /// The entry of a number, with its partner.

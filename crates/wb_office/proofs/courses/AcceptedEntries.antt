@@ -1,25 +1,8 @@
 -- What an accepted weighing or void was judged on, and what a request makes of the lists.
 use Rattle.std.proofs.Common.{◌≡◌, ◌∙◌, sym, ap, subst, ℕ, ◌+◌, ◌<◌, Bool, true, false, ◌&&◌, ◌||◌, if◌then◌else◌, List, [], ◌∷◌, ◌++◌, take, Option, Some, None, refl, arith, true≢false}
-use Rattle.std.proofs.lemmas.Bool.Decides.{nat_tests}
-use Rattle.std.specs.List.{list_any}
+use Rattle.wb_office.proofs.Common.{nat_tests, list_any, EntryParts, Finding, Sound, FoundDamaged, Kind, First, Second, Single, Void, check, is_closing, by_key, next_number, Refusal, Request, Weigh, VoidOpen, Purge, Outcome, adds, answer, answer_of, asking, nothing, outcome, outcome_of, purges, unless_damaged, Asking, Situation, gone, is_damaged, is_other, journal_full, places, places_of, added, added_by, answered_with, entry_of, Condition, Verdict, accepted, first_refusal, new_entry, of_new, on, on_new, refused, repeated, verdict}
 use Rattle.std.specs.Prelude.{nat_lt}
-use Rattle.wb_journal.specs.declared.entry.EntryParts.{EntryParts}
-use Rattle.wb_journal.specs.declared.journal_check.Finding.{Finding}
-use Rattle.wb_journal.specs.declared.journal_check.Finding.TheVariants.{Sound, Damaged as FoundDamaged}
-use Rattle.wb_journal.specs.declared.kind.Kind.{Kind}
-use Rattle.wb_journal.specs.declared.kind.Kind.TheVariants.{First, Second, Single, Void}
-use Rattle.wb_journal.specs.Check.{check}
-use Rattle.wb_journal.specs.Kind.{is_closing}
-use Rattle.wb_store.specs.Lists.{by_key, next_number}
-use Rattle.wb_office.specs.declared.refusal.Refusal.{Refusal}
 use Rattle.wb_office.specs.declared.refusal.Refusal.TheVariants as refusal
-use Rattle.wb_office.specs.declared.request.Request.{Request}
-use Rattle.wb_office.specs.declared.request.Request.TheVariants.{Weigh, VoidOpen, Purge}
-use Rattle.wb_office.specs.Answer.{Outcome, adds, answer, answer_of, asking, nothing, outcome, outcome_of, purges, unless_damaged}
-use Rattle.wb_office.specs.Situation.{Asking, Situation}
-use Rattle.wb_office.specs.Conditions.{gone, is_damaged, is_other, journal_full, places, places_of}
-use Rattle.wb_office.specs.CourseOfRequests.{added, added_by, answered_with, entry_of}
-use Rattle.wb_office.specs.Verdict.{Condition, Verdict, accepted, first_refusal, new_entry, of_new, on, on_new, refused, repeated, verdict}
 use Rattle.wb_office.proofs.FoundEntries.{is_some_same, none_some}
 use Rattle.wb_office.proofs.Verdicts.{by_damage, by_newness, by_other, by_repetition, by_spent}
 

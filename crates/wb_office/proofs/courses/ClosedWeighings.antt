@@ -1,19 +1,6 @@
 -- A First is closed at most once, and what closes it has it as its partner.
 use Rattle.std.proofs.Common.{◌≡◌, ◌∙◌, sym, ◌⊎◌, inl, inr, ◌<◌, ◌≤◌, Bool, true, false, true≢false, not, ◌&&◌, nat_lt, List, Option, Some, None, refl, arith}
-use Rattle.std.proofs.lemmas.Bool.{and_parts, and_from, not-true, lt-ltb, ltb-true, ltb-false}
-use Rattle.std.proofs.lemmas.Slice.Eq.{bytes_eq-Decides}
-use Rattle.std.specs.List.{list_any}
-use Rattle.std.specs.Prelude.{is_none}
-use Rattle.std.specs.Str.{bytes_eq}
-use Rattle.wb_journal.specs.declared.entry.EntryParts.{EntryParts}
-use Rattle.wb_journal.specs.declared.kind.Kind.{Kind}
-use Rattle.wb_journal.specs.declared.kind.Kind.TheVariants.{First, Second, Single, Void}
-use Rattle.wb_journal.specs.Kind.{is_closing, is_first, is_single}
-use Rattle.wb_journal.specs.Pairs.{is_first_of, is_partner, lies_between, may_pair_of, partner}
-use Rattle.wb_journal.proofs.offered.Members.{Among, among-contains, find-among}
-use Rattle.wb_store.specs.Lists.{has_key}
-use Rattle.wb_office.specs.CourseOfRequests.{additions, after}
-use Rattle.wb_office.specs.LawsOfJournals.{ClosingsHavePartners, FirstsClosedOnce}
+use Rattle.wb_office.proofs.Common.{and_parts, and_from, not-true, lt-ltb, ltb-true, ltb-false, bytes_eq-Decides, list_any, is_none, bytes_eq, EntryParts, Kind, First, Second, Single, Void, is_closing, is_first, is_single, is_first_of, is_partner, lies_between, may_pair_of, partner, Among, among-contains, find-among, has_key, additions, after, ClosingsHavePartners, FirstsClosedOnce}
 use Rattle.wb_office.proofs.Members.{some_passes}
 use Rattle.wb_office.proofs.courses.KnownEntries.{IsLasting, added_lasts}
 use Rattle.wb_office.proofs.courses.StoredEntries.{IsPast, IsStored}

@@ -1,20 +1,6 @@
 -- An entry is kept until a purge at its bound takes it out.
 use Rattle.std.proofs.Common.{◌≡◌, ◌∙◌, sym, ap, subst, ◌⊎◌, inl, inr, ℕ, ◌<◌, Bool, true, false, if◌then◌else◌, nat_le, List, [], ◌∷◌, length, Option, Some, None, refl, arith}
-use Rattle.std.proofs.lemmas.Bool.Decides.{nat_tests}
-use Rattle.std.specs.List.{find}
-use Rattle.std.specs.Prelude.{Contains}
-use Rattle.wb_journal.specs.declared.entry.EntryParts.{EntryParts}
-use Rattle.wb_journal.specs.declared.journal_check.Finding.TheVariants.{Sound}
-use Rattle.wb_journal.specs.Check.{check, finding, is_faulty}
-use Rattle.wb_journal.specs.Moment.{day_of}
-use Rattle.wb_journal.specs.Retention.{IsOfAge, kept}
-use Rattle.wb_journal.proofs.offered.Members.{Among, among-contains}
-use Rattle.wb_store.specs.Rows.{SpentKey}
-use Rattle.wb_office.specs.declared.request.Request.TheVariants.{Purge}
-use Rattle.wb_office.specs.Answer.{IsBoundAt, Outcome, outcome_of, adds, entries_after, nothing, outcome, purges, spent_after, spent_by, unless_damaged}
-use Rattle.wb_office.specs.CourseOfRequests.{AreBounds, Journal, Turn, added_in_turn, added, additions, after, after_turn, left, situation, with_one}
-use Rattle.wb_office.specs.LawsOfJournals.{AreSound, IsTakenOut, KeptForItsTime, TakesOut}
-use Rattle.wb_office.specs.Wanted.{HasBound}
+use Rattle.wb_office.proofs.Common.{nat_tests, find, Contains, EntryParts, Sound, check, finding, is_faulty, day_of, IsOfAge, kept, Among, among-contains, SpentKey, Purge, IsBoundAt, Outcome, outcome_of, adds, entries_after, nothing, outcome, purges, spent_after, spent_by, unless_damaged, AreBounds, Journal, Turn, added_in_turn, added, additions, after, after_turn, left, situation, with_one, AreSound, IsTakenOut, KeptForItsTime, TakesOut, HasBound}
 use Rattle.wb_office.proofs.FoundEntries.{none_some}
 use Rattle.wb_office.proofs.Members.{among_left, among_right, contains, kept_among, spent_among}
 use Rattle.wb_office.proofs.courses.AcceptedEntries.{Comes, adding, comes, is_added, purging, stays}

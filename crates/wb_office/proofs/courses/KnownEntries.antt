@@ -1,29 +1,6 @@
 -- An entry that was stored once, after whatever was asked: it is stored still, or was purged.
 use Rattle.std.proofs.Common.{◌≡◌, ◌∙◌, sym, ap, subst, ℕ, ◌+◌, ◌<◌, ◌≤◌, ◌==◌, max, ◌⊎◌, Bool, true, false, inl, inr, not, ◌&&◌, ◌||◌, nat_le, if◌then◌else◌, List, [], ◌∷◌, ◌++◌, map, Option, Some, None, refl, arith, true≢false}
-use Rattle.std.proofs.lemmas.Bool.Decides.{nat_tests}
-use Rattle.std.proofs.lemmas.Int.{clamps}
-use Rattle.std.proofs.lemmas.List.Folds.{find-append, list_any-append}
-use Rattle.std.proofs.lemmas.Slice.Eq.{bytes_eq-Decides}
-use Rattle.std.specs.List.{list_any}
-use Rattle.std.specs.Prelude.{is_none}
-use Rattle.std.specs.Str.{bytes_eq}
-use Rattle.wb_journal.specs.declared.entry.EntryParts.{EntryParts}
-use Rattle.wb_journal.specs.Kind.{is_closing}
-use Rattle.wb_journal.specs.Moment.{day_of}
-use Rattle.wb_journal.specs.Pairs.{open_of, partner}
-use Rattle.wb_journal.specs.Retention.{kept}
-use Rattle.wb_journal.specs.Rising.{IsRising}
-use Rattle.wb_journal.proofs.offered.Members.{Among}
-use Rattle.wb_journal.proofs.Theorems.{law_of_closing}
-use Rattle.wb_store.specs.Lists.{AreLists, HaveOwnKeys, by_key, greatest, greatest_spent, has_key, is_spent, next_number}
-use Rattle.wb_store.specs.Rows.{SpentKey}
-use Rattle.wb_store.proofs.offered.LaterLists.{left_rises, next_stays}
-use Rattle.wb_office.specs.declared.request.Request.{Request}
-use Rattle.wb_office.specs.Answer.{IsBoundAt, Outcome, outcome_of, below, entries_after, entries_left, spent_after, spent_by, spent_left}
-use Rattle.wb_office.specs.Situation.{Asking, Situation}
-use Rattle.wb_office.specs.CourseOfRequests.{AreBounds, Journal, Turn, added, additions, after, left, situation, with_one}
-use Rattle.wb_office.specs.Verdict.{accepted, of_new, verdict}
-use Rattle.wb_office.specs.Wanted.{HasBound}
+use Rattle.wb_office.proofs.Common.{nat_tests, clamps, find-append, list_any-append, bytes_eq-Decides, list_any, is_none, bytes_eq, EntryParts, is_closing, day_of, open_of, partner, kept, IsRising, Among, law_of_closing, AreLists, HaveOwnKeys, by_key, greatest, greatest_spent, has_key, is_spent, next_number, SpentKey, left_rises, next_stays, Request, IsBoundAt, Outcome, outcome_of, below, entries_after, entries_left, spent_after, spent_by, spent_left, Asking, Situation, AreBounds, Journal, Turn, added, additions, after, left, situation, with_one, accepted, of_new, verdict, HasBound}
 use Rattle.wb_office.proofs.ConditionsInOrder.{none_holds}
 use Rattle.wb_office.proofs.FoundEntries.{find_any, find_none, found_unspent, is_some_same}
 use Rattle.wb_office.proofs.courses.AcceptedEntries.{Comes, IsNew, adding, and_true, asking_for, comes, is_added, is_new, purging, stays}

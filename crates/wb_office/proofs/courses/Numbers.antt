@@ -1,13 +1,6 @@
 -- The next number, after every request.
 use Rattle.std.proofs.Common.{◌≡◌, ◌∙◌, sym, ap, ℕ, ◌+◌, max, List, [], ◌∷◌, ◌++◌, refl, arith}
-use Rattle.std.proofs.lemmas.Int.{clamps}
-use Rattle.wb_journal.specs.declared.entry.EntryParts.{EntryParts}
-use Rattle.wb_store.specs.Lists.{greatest, greatest_spent, next_number}
-use Rattle.wb_store.proofs.offered.LaterLists.{next_stays}
-use Rattle.wb_office.specs.Answer.{Outcome, entries_after, outcome, spent_after}
-use Rattle.wb_office.specs.Situation.{Asking, Situation}
-use Rattle.wb_office.specs.Laws.{IsNumbered, NumbersRun}
-use Rattle.wb_office.specs.Verdict.{accepted, verdict}
+use Rattle.wb_office.proofs.Common.{clamps, EntryParts, greatest, greatest_spent, next_number, next_stays, Outcome, entries_after, outcome, spent_after, Asking, Situation, IsNumbered, NumbersRun, accepted, verdict}
 use Rattle.wb_office.proofs.courses.AcceptedEntries.{Comes, adding, asking_for, comes, is_new, purging, stays}
 use Rattle.wb_office.proofs.FoundEntries.{is_some_same, none_some}
 

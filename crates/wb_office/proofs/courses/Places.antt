@@ -1,31 +1,7 @@
 -- The places that are taken, and the partners, after every request.
 use Rattle.std.proofs.Common.{◌≡◌, ap, ap₂, ℕ, ◌+◌, ◌≤◌, ◌<◌, max, Bool, true, false, cond, not, ◌&&◌, ◌||◌, nat_le, nat_lt, List, [], ◌∷◌, ◌++◌, length, refl, arith, true≢false}
-use Rattle.std.proofs.lemmas.Bool.Decides.{nat_tests}
-use Rattle.std.proofs.lemmas.Int.{clamps}
-use Rattle.std.proofs.lemmas.List.Sums.{sum_by-cons}
-use Rattle.std.specs.List.{list_any}
-use Rattle.std.specs.Prelude.{Contains, count_by, is_some}
-use Rattle.wb_journal.specs.declared.entry.EntryParts.{EntryParts}
-use Rattle.wb_journal.specs.declared.journal_check.Finding.{Finding}
-use Rattle.wb_journal.specs.declared.journal_check.Finding.TheVariants.{Sound, Damaged}
-use Rattle.wb_journal.specs.declared.kind.Kind.{Kind}
-use Rattle.wb_journal.specs.declared.kind.Kind.TheVariants.{First, Second, Single, Void}
-use Rattle.wb_journal.specs.Check.{check}
-use Rattle.wb_journal.specs.Kind.{is_closing, is_first}
-use Rattle.wb_journal.specs.Moment.{day_of}
-use Rattle.wb_journal.specs.Pairs.{is_first_of, is_open, is_partner, lies_between, may_pair_of, open_count, open_of, partner}
-use Rattle.wb_journal.specs.Retention.{kept}
-use Rattle.wb_journal.specs.Rising.{IsRising, IsRisingFrom}
-use Rattle.wb_journal.proofs.offered.Kept.{kept-partner}
-use Rattle.wb_journal.proofs.offered.Members.{among-contains}
-use Rattle.wb_store.specs.Lists.{greatest, greatest_spent, next_number}
-use Rattle.wb_store.proofs.offered.LaterLists.{one, open_count_more}
-use Rattle.wb_office.specs.declared.request.Request.TheVariants.{Purge}
-use Rattle.wb_office.specs.Answer.{Outcome, entries_after, entries_left}
-use Rattle.wb_office.specs.Situation.{Asking}
-use Rattle.wb_office.specs.Conditions.{places, places_of}
-use Rattle.wb_office.specs.Laws.{KeepsPartners, WithinCapacity}
-use Rattle.wb_office.specs.Verdict.{accepted, of_new, verdict}
+use Rattle.wb_office.proofs.Common.{nat_tests, clamps, sum_by-cons, list_any, Contains, count_by, EntryParts, Finding, Sound, Damaged, Kind, First, Second, Single, Void, check, is_closing, is_first, day_of, is_first_of, is_open, is_partner, lies_between, may_pair_of, open_count, open_of, partner, kept, IsRising, IsRisingFrom, kept-partner, among-contains, greatest, greatest_spent, next_number, one, open_count_more, Purge, Outcome, entries_after, entries_left, Asking, places, places_of, KeepsPartners, WithinCapacity, accepted, of_new, verdict}
+use Rattle.std.specs.Prelude.{is_some}
 use Rattle.wb_office.proofs.courses.AcceptedEntries.{Comes, adding, asking_for, comes, is_new, purging, stays}
 use Rattle.wb_office.proofs.ConditionsInOrder.{none_holds}
 use Rattle.wb_office.proofs.Members.{among_kept}

@@ -1,17 +1,6 @@
 -- A refusal changes nothing.
 use Rattle.std.proofs.Common.{◌≡◌, ap, ℕ, List, length, Result, Ok, Err, refl}
-use Rattle.wb_journal.specs.declared.entry.EntryParts.{EntryParts}
-use Rattle.wb_journal.specs.declared.journal_check.Finding.{Finding}
-use Rattle.wb_journal.specs.declared.journal_check.Finding.TheVariants.{Sound, Damaged}
-use Rattle.wb_journal.specs.declared.kind.Kind.TheVariants.{Void}
-use Rattle.wb_journal.specs.Check.{check}
-use Rattle.wb_office.specs.declared.refusal.Refusal.{Refusal}
-use Rattle.wb_office.specs.declared.request.Request.{Request}
-use Rattle.wb_office.specs.declared.request.Request.TheVariants.{Weigh, VoidOpen, Purge}
-use Rattle.wb_office.specs.Answer.{Told, answer_of, asking, below, entries_after, if_sound, is_marked, nothing, outcome, outcome_of, purged_told, spent_after, unless_damaged}
-use Rattle.wb_office.specs.Situation.{Situation}
-use Rattle.wb_office.specs.LawsOfJournals.{ChangesNothing, RefusalsChangeNothing}
-use Rattle.wb_office.specs.Verdict.{Verdict, accepted, refused, repeated, verdict}
+use Rattle.wb_office.proofs.Common.{EntryParts, Finding, Sound, Damaged, Void, check, Refusal, Request, Weigh, VoidOpen, Purge, Told, answer_of, asking, below, entries_after, if_sound, is_marked, nothing, outcome, outcome_of, purged_told, spent_after, unless_damaged, Situation, ChangesNothing, RefusalsChangeNothing, Verdict, accepted, refused, repeated, verdict}
 
 told_no_refusal : {C : Type 0} (text : Told) (why : Refusal) → ◌≡◌ {A = Result Told Refusal} (Ok text) (Err why) → C
 told_no_refusal text why same = absurd (cc)

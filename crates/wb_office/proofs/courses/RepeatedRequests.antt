@@ -1,30 +1,8 @@
 -- A request that was answered with an entry and is made again.
 use Rattle.std.proofs.Common.{◌≡◌, ◌∙◌, sym, ap, subst, ◌⊎◌, ℕ, Bool, true, false, inl, inr, not, ◌&&◌, ◌||◌, if◌then◌else◌, List, [], ◌∷◌, ◌++◌, Option, Some, None, Result, Ok, refl, true≢false}
-use Rattle.std.proofs.lemmas.Slice.Eq.{bytes_eq-Decides}
-use Rattle.std.specs.List.{list_any}
-use Rattle.std.specs.Prelude.{is_none}
-use Rattle.std.specs.Str.{bytes_eq}
-use Rattle.wb_journal.specs.declared.entry.EntryParts.{EntryParts}
-use Rattle.wb_journal.specs.declared.kind.Kind.{Kind}
-use Rattle.wb_journal.specs.declared.kind.Kind.TheVariants.{First, Second, Single, Void}
-use Rattle.wb_journal.specs.Digest.{is_sound}
-use Rattle.wb_journal.specs.Kind.{is_closing, is_second, same_kind}
-use Rattle.wb_journal.specs.Pairs.{open_of, partner}
-use Rattle.wb_journal.specs.Rising.{IsRising}
+use Rattle.wb_office.proofs.Common.{bytes_eq-Decides, list_any, is_none, bytes_eq, EntryParts, Kind, First, Second, Single, Void, is_sound, is_closing, is_second, same_kind, open_of, partner, IsRising, find-among, sound-sealed, law_of_closing, AreLists, by_key, has_key, is_spent, Refusal, Request, Told, answer, answer_of, asking, entries_after, outcome_of, spent_after, text_of, ticket_told, Asking, Situation, holds_of, is_damaged, is_other, AreBounds, Journal, Turn, after, answer_in, entry_of, left, situation, AnsweredAgain, IsGone, IsKept, Verdict, accepted, of_new, refused, repeated, verdict}
 use Rattle.wb_journal.specs.Texts.{ticket}
-use Rattle.wb_journal.proofs.offered.Members.{find-among}
-use Rattle.wb_journal.proofs.offered.Seals.{sound-sealed}
-use Rattle.wb_journal.proofs.Theorems.{law_of_closing}
-use Rattle.wb_store.specs.Lists.{AreLists, by_key, has_key, is_spent}
-use Rattle.wb_office.specs.declared.refusal.Refusal.{Refusal}
 use Rattle.wb_office.specs.declared.refusal.Refusal.TheVariants as refusal
-use Rattle.wb_office.specs.declared.request.Request.{Request}
-use Rattle.wb_office.specs.Answer.{Told, answer, answer_of, asking, entries_after, outcome_of, spent_after, text_of, ticket_told}
-use Rattle.wb_office.specs.Situation.{Asking, Situation}
-use Rattle.wb_office.specs.Conditions.{holds_of, is_damaged, is_other}
-use Rattle.wb_office.specs.CourseOfRequests.{AreBounds, Journal, Turn, after, answer_in, entry_of, left, situation}
-use Rattle.wb_office.specs.Laws.{AnsweredAgain, IsGone, IsKept}
-use Rattle.wb_office.specs.Verdict.{Verdict, accepted, of_new, refused, repeated, verdict}
 use Rattle.wb_office.proofs.FoundEntries.{found_by_number, is_some_same, none_some}
 use Rattle.wb_office.proofs.ConditionsInOrder.{none_holds}
 use Rattle.wb_office.proofs.NewEntries.{unsealed}

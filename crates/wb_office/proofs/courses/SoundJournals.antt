@@ -1,28 +1,6 @@
 -- A journal in which the check finds no damage, after whatever was asked.
 use Rattle.std.proofs.Common.{◌≡◌, ◌∙◌, sym, ap, subst, ◌⊎◌, inl, inr, ℕ, ◌<◌, ◌≤◌, Bool, true, false, not, ◌&&◌, ◌||◌, List, [], ◌∷◌, ◌++◌, length, Option, Some, None, refl, arith}
-use Rattle.std.specs.List.{find}
-use Rattle.std.specs.Prelude.{is_none}
-use Rattle.wb_journal.specs.declared.entry.EntryParts.{EntryParts}
-use Rattle.wb_journal.specs.declared.journal_check.Finding.TheVariants.{Sound}
-use Rattle.wb_journal.specs.Check.{finding, is_faulty}
-use Rattle.wb_journal.specs.Digest.{is_sound}
-use Rattle.wb_journal.specs.Kind.{is_closing}
-use Rattle.wb_journal.specs.Moment.{day_of}
-use Rattle.wb_journal.specs.Pairs.{partner}
-use Rattle.wb_journal.specs.Retention.{kept}
-use Rattle.wb_journal.specs.Rising.{IsRising}
-use Rattle.wb_journal.proofs.offered.Kept.{kept-partner}
-use Rattle.wb_journal.proofs.offered.Members.{Among, among-either, find-absent}
-use Rattle.wb_journal.proofs.offered.Seals.{sound-sealed}
-use Rattle.wb_journal.proofs.Theorems.{law_of_closing}
-use Rattle.wb_store.specs.Lists.{greatest, greatest_spent, next_number}
-use Rattle.wb_office.specs.declared.request.Request.{Request}
-use Rattle.wb_office.specs.Answer.{IsBoundAt, Outcome, entries_after, entries_left}
-use Rattle.wb_office.specs.Situation.{Asking, Situation}
-use Rattle.wb_office.specs.CourseOfRequests.{Journal, after, situation}
-use Rattle.wb_office.specs.LawsOfJournals.{AreSound, StaysSound}
-use Rattle.wb_office.specs.Verdict.{accepted, verdict}
-use Rattle.wb_office.specs.Wanted.{HasBound}
+use Rattle.wb_office.proofs.Common.{find, is_none, EntryParts, Sound, finding, is_faulty, is_sound, is_closing, day_of, partner, kept, IsRising, kept-partner, Among, among-either, find-absent, sound-sealed, law_of_closing, greatest, greatest_spent, next_number, Request, IsBoundAt, Outcome, entries_after, entries_left, Asking, Situation, Journal, after, situation, AreSound, StaysSound, accepted, verdict, HasBound}
 use Rattle.wb_office.proofs.FoundEntries.{find_none}
 use Rattle.wb_office.proofs.Members.{among_kept, none_passes}
 use Rattle.wb_office.proofs.NewEntries.{unsealed}

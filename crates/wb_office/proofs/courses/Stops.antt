@@ -1,19 +1,8 @@
 -- A weighing or void that a stop broke off.
 use Rattle.std.proofs.Common.{◌≡◌, ◌⊎◌, inl, inr, ap, subst, sym, ◌∙◌, ℕ, Result, refl}
+use Rattle.wb_office.proofs.Common.{Ghosts, Reopens, AreLists, Refusal, Request, Told, answer, answer_of, Asking, IsOnLists, Journal, Turn, left, situation, IsByKey, AnsweredAfterStops, Asks, IsAnsweredByKey, IsFoundAgain, verdict, wanted}
 use Rattle.sqlite.specs.Effect.{Database, IsDatabase}
-use Rattle.sqlite.specs.Store.{Ghosts}
-use Rattle.wb_store.specs.Journal.{Reopens}
-use Rattle.wb_store.specs.Lists.{AreLists}
 use Rattle.wb_store.proofs.Theorems.{law_of_reopening}
-use Rattle.wb_office.specs.declared.refusal.Refusal.{Refusal}
-use Rattle.wb_office.specs.declared.request.Request.{Request}
-use Rattle.wb_office.specs.Answer.{Told, answer, answer_of}
-use Rattle.wb_office.specs.Situation.{Asking, IsOnLists}
-use Rattle.wb_office.specs.CourseOfRequests.{Journal, Turn, left, situation}
-use Rattle.wb_office.specs.Laws.{IsByKey}
-use Rattle.wb_office.specs.Stops.{AnsweredAfterStops, Asks, IsAnsweredByKey, IsFoundAgain}
-use Rattle.wb_office.specs.Verdict.{verdict}
-use Rattle.wb_office.specs.Wanted.{wanted}
 use Rattle.wb_office.proofs.Verdicts.{key_decides}
 
 -- the answer is that of the verdict

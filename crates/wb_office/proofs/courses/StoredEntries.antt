@@ -1,21 +1,6 @@
 -- An entry that is stored, after other entries were added and after purges.
 use Rattle.std.proofs.Common.{◌≡◌, ◌∙◌, sym, ap, ap₂, ℕ, ◌≤◌, ◌<◌, ◌==◌, Bool, true, false, cond, inl, inr, not, ◌&&◌, ◌||◌, nat_le, nat_lt, List, [], ◌∷◌, ◌++◌, map, Option, Some, None, refl, arith, true≢false}
-use Rattle.std.proofs.lemmas.Bool.Decides.{nat_tests}
-use Rattle.std.proofs.lemmas.List.Folds.{find-append, list_any-append}
-use Rattle.std.proofs.lemmas.Slice.Eq.{bytes_eq-Decides}
-use Rattle.std.specs.List.{find, list_any}
-use Rattle.std.specs.Option.{option_or}
-use Rattle.std.specs.Str.{bytes_eq}
-use Rattle.wb_journal.specs.declared.entry.EntryParts.{EntryParts}
-use Rattle.wb_journal.specs.Kind.{is_closing}
-use Rattle.wb_journal.specs.Pairs.{is_first_of, is_partner, lies_between, may_pair_of, partner}
-use Rattle.wb_journal.specs.Retention.{IsPurgeBound, kept}
-use Rattle.wb_journal.specs.Rising.{IsRising}
-use Rattle.wb_journal.proofs.offered.Kept.{kept-partner}
-use Rattle.wb_journal.proofs.offered.Members.{Among, find-among}
-use Rattle.wb_store.specs.Lists.{by_key, has_key, is_of_key, is_spent}
-use Rattle.wb_store.specs.Rows.{SpentKey}
-use Rattle.wb_office.specs.Answer.{below, spent_by}
+use Rattle.wb_office.proofs.Common.{nat_tests, find-append, list_any-append, bytes_eq-Decides, find, list_any, option_or, bytes_eq, EntryParts, is_closing, is_first_of, is_partner, lies_between, may_pair_of, partner, IsPurgeBound, kept, IsRising, kept-partner, Among, find-among, by_key, has_key, is_of_key, is_spent, SpentKey, below, spent_by}
 use Rattle.wb_office.proofs.FoundEntries.{is_some_same}
 
 -- another entry of the same key

@@ -1,30 +1,13 @@
 -- The load behind the gross of an accepted weighing.
 use Rattle.std.proofs.Common.{◌≡◌, ◌∙◌, sym, ap, subst, All, length, take, Bool, true, false, not, ◌&&◌, List, Option, Some, None, ℤ, pos, refl, arith}
-use Rattle.std.proofs.lemmas.Int.{ints}
-use Rattle.std.specs.Prelude.{int_lt, is_none, option_map, ◌≤ℤ◌, ◌-ℤ◌}
-use Rattle.wb_instrument.specs.Limits.{is_over, is_under}
-use Rattle.wb_instrument.specs.Rounding.{round}
-use Rattle.wb_instrument.specs.Setup.{IsSetup, Setup}
-use Rattle.wb_journal.specs.declared.entry.EntryParts.{EntryParts}
-use Rattle.wb_journal.specs.declared.kind.Kind.{Kind}
-use Rattle.wb_journal.specs.declared.kind.Kind.TheVariants.{First, Second, Single, Void}
-use Rattle.wb_journal.specs.Kind.{is_void}
+use Rattle.wb_office.proofs.Common.{ints, int_lt, is_none, option_map, is_over, is_under, round, IsSetup, Setup, EntryParts, Kind, First, Second, Single, Void, is_void, TareNow, gross, indicated, indicated_at, readings, tare_now, tare_tenths, above_zero, zero_now, is_stable, Asking, holds_of, AllWeighed, IsWeighed, accepted, first_refusal, gross_kg, kilograms, of_new, verdict}
+use Rattle.std.specs.Prelude.{◌≤ℤ◌, ◌-ℤ◌}
 use Rattle.wb_scale.specs.declared.answers.Indicated.TheVariants.{Shown}
-use Rattle.wb_scale.specs.declared.answers.TareNow.{TareNow}
 use Rattle.wb_scale.specs.Call.{Call}
 use Rattle.wb_scale.specs.Cleared.{is_cleared}
 use Rattle.wb_scale.specs.History.{moments}
-use Rattle.wb_scale.specs.Indication.{gross, indicated, indicated_at}
-use Rattle.wb_scale.specs.Moment.{readings}
 use Rattle.wb_scale.specs.Steady.{IsNear}
 use Rattle.wb_scale.proofs.Theorems.{law_of_steady_indication}
-use Rattle.wb_scale.specs.Tare.{tare_now, tare_tenths}
-use Rattle.wb_scale.specs.Zero.{above_zero, zero_now}
-use Rattle.wb_window.specs.Stability.{is_stable}
-use Rattle.wb_office.specs.Situation.{Asking}
-use Rattle.wb_office.specs.Conditions.{holds_of}
-use Rattle.wb_office.specs.Laws.{AllWeighed, IsWeighed}
-use Rattle.wb_office.specs.Verdict.{accepted, first_refusal, gross_kg, kilograms, of_new, verdict}
 use Rattle.wb_office.proofs.courses.AcceptedEntries.{asking_for, is_added, is_new}
 use Rattle.wb_office.proofs.ConditionsInOrder.{none_holds}
 

@@ -1,23 +1,6 @@
 -- A key that is stored or spent stays so, and no entry is added under it.
 use Rattle.std.proofs.Common.{◌≡◌, ◌∙◌, sym, subst, ℕ, ◌+◌, ◌≤◌, Bool, true, false, cond, not, ◌||◌, if◌then◌else◌, List, [], ◌∷◌, ◌++◌, map, nat_le, nat_lt, ◌⊎◌, inl, inr, Some, None, refl, arith, true≢false}
-use Rattle.std.proofs.lemmas.Bool.Decides.{nat_tests}
-use Rattle.std.proofs.lemmas.List.Folds.{list_any-append}
-use Rattle.std.proofs.lemmas.List.Sums.{sum_by-cons}
-use Rattle.std.proofs.lemmas.Slice.Eq.{bytes_eq-Decides}
-use Rattle.std.specs.List.{list_any}
-use Rattle.std.specs.Prelude.{Contains, count_by}
-use Rattle.std.specs.Str.{bytes_eq}
-use Rattle.wb_journal.specs.declared.entry.EntryParts.{EntryParts}
-use Rattle.wb_journal.specs.Retention.{kept}
-use Rattle.wb_journal.proofs.offered.Members.{among-contains}
-use Rattle.wb_store.specs.Lists.{AreLists, by_key, has_key, is_of_key, is_spent}
-use Rattle.wb_store.specs.Rows.{SpentKey}
-use Rattle.wb_office.specs.declared.request.Request.{Request}
-use Rattle.wb_office.specs.Answer.{Outcome, adds, below, entries_after, nothing, outcome, purges, spent_after, spent_by}
-use Rattle.wb_office.specs.Situation.{Asking, Situation}
-use Rattle.wb_office.specs.CourseOfRequests.{AreBounds, Journal, Turn, added, added_by, additions, after, left, situation, with_one}
-use Rattle.wb_office.specs.Laws.{OneEntryPerKey, is_taken}
-use Rattle.wb_office.specs.Verdict.{accepted, verdict}
+use Rattle.wb_office.proofs.Common.{nat_tests, list_any-append, sum_by-cons, bytes_eq-Decides, list_any, Contains, count_by, bytes_eq, EntryParts, kept, among-contains, AreLists, by_key, has_key, is_of_key, is_spent, SpentKey, Request, Outcome, adds, below, entries_after, nothing, outcome, purges, spent_after, spent_by, Asking, Situation, AreBounds, Journal, Turn, added, added_by, additions, after, left, situation, with_one, OneEntryPerKey, is_taken, accepted, verdict}
 use Rattle.wb_office.proofs.courses.AcceptedEntries.{Comes, added_is, adding, asking_for, comes, is_new, purging, stays}
 use Rattle.wb_office.proofs.FoundEntries.{find_none}
 use Rattle.wb_office.proofs.courses.KnownEntries.{IsLasting, added_lasts}

@@ -1,17 +1,7 @@
 -- A ticket that was given, after whatever was asked.
 use Rattle.std.proofs.Common.{◌≡◌, ◌∙◌, sym, ap, ◌⊎◌, inl, inr, ℕ, ◌==◌, Bool, true, false, true≢false, if◌then◌else◌, List, Option, Some, None, Result, Ok, Err, refl}
-use Rattle.std.proofs.lemmas.Bool.{eqb-true}
-use Rattle.std.proofs.lemmas.Slice.Eq.{bytes_eq-Decides}
-use Rattle.wb_journal.specs.declared.entry.EntryParts.{EntryParts}
-use Rattle.wb_journal.specs.Pairs.{partner, with_number}
-use Rattle.wb_journal.proofs.offered.Members.{Among, find-among}
-use Rattle.wb_store.specs.Lists.{has_key}
-use Rattle.wb_office.specs.declared.refusal.Refusal.{Refusal}
+use Rattle.wb_office.proofs.Common.{eqb-true, bytes_eq-Decides, EntryParts, partner, with_number, Among, find-among, has_key, Refusal, Told, has_ticket, text_of, ticket_answer, ticket_if_sound, ticket_of, is_damaged, after, IsTakenOut, TicketGivenAgain}
 use Rattle.wb_office.specs.declared.refusal.Refusal.TheVariants as refusal
-use Rattle.wb_office.specs.Answer.{Told, has_ticket, text_of, ticket_answer, ticket_if_sound, ticket_of}
-use Rattle.wb_office.specs.Conditions.{is_damaged}
-use Rattle.wb_office.specs.CourseOfRequests.{after}
-use Rattle.wb_office.specs.LawsOfJournals.{IsTakenOut, TicketGivenAgain}
 use Rattle.wb_office.proofs.FoundEntries.{found_by_number}
 use Rattle.wb_office.proofs.Members.{some_passes}
 use Rattle.wb_office.proofs.courses.KeptEntries.{stands_or_out}

@@ -1,8 +1,5 @@
 use Rattle.std.proofs.Common.{◌≡◌, ◌∙◌, sym, ap, Bool, true, false, not, ◌&&◌, ◌||◌, refl}
-use Rattle.std.specs.Option.{option_copied}
-use Rattle.wb_journal.specs.Digest.{is_sound}
-use Rattle.wb_journal.specs.Kind.{is_second}
-use Rattle.wb_office.specs.Conditions.{holds_of}
+use Rattle.wb_office.proofs.Common.{option_copied, is_sound, is_second, holds_of}
 use Rattle.wb_office.proofs.judging.is_damaged.Goals as goal
 
 unsound : (x y z : Bool) → x ≡ true → x ≡ x || (y && z)

@@ -1,6 +1,5 @@
 use Rattle.std.proofs.Common.{rules, ◌≡◌, ◌∙◌, sym, ap, Err, Some, None}
-use Rattle.wb_journal.specs.Pairs.{partner_of}
-use Rattle.wb_store.specs.Lists.{AreLists, by_key}
+use Rattle.wb_office.proofs.Common.{partner_of, AreLists, by_key}
 use Rattle.wb_office.proofs.LookUps.{also, made, nothing_told, reads, stood, stop, then_told, told}
 use Rattle.wb_office.proofs.judging.judge.Goals as goal
 

@@ -1,6 +1,5 @@
 use Rattle.std.proofs.Common.{rules, ◌≡◌, ◌∙◌, sym, None, refl}
-use Rattle.wb_store.specs.Lists.{has_key}
-use Rattle.wb_office.specs.Verdict.{first_refusal, new_entry, of_new}
+use Rattle.wb_office.proofs.Common.{has_key, first_refusal, new_entry, of_new}
 use Rattle.wb_office.proofs.FoundEntries.{find_none, is_some_same}
 use Rattle.wb_office.proofs.Verdicts.{by_condition, by_none}
 use Rattle.wb_office.proofs.judging.judge_evidence.Goals as goal

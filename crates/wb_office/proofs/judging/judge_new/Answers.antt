@@ -1,6 +1,5 @@
 use Rattle.std.proofs.Common.{rules, ◌≡◌, ◌∙◌, sym, ap, Err, true, false}
-use Rattle.wb_store.specs.Lists.{is_spent}
-use Rattle.wb_office.specs.Conditions.{gone}
+use Rattle.wb_office.proofs.Common.{is_spent, gone}
 use Rattle.wb_office.specs.helpers.EvidenceShown.{ShowsJournal}
 use Rattle.wb_office.proofs.LookUps.{also, made, nothing_told, reads, stood, stop, told}
 use Rattle.wb_office.proofs.Verdicts.{by_spent}

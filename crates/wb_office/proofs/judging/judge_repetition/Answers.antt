@@ -1,7 +1,5 @@
 use Rattle.std.proofs.Common.{rules, ◌≡◌, ◌∙◌, sym, ap, Bool, true, false, not}
-use Rattle.std.specs.Option.{option_copied}
-use Rattle.wb_journal.specs.Pairs.{partner}
-use Rattle.wb_office.specs.Conditions.{gone, is_damaged, is_other}
+use Rattle.wb_office.proofs.Common.{option_copied, partner, gone, is_damaged, is_other}
 use Rattle.wb_office.specs.helpers.Partners.{is_damaged_with}
 use Rattle.wb_office.proofs.FoundEntries.{found_unspent, partner_of_found}
 use Rattle.wb_office.proofs.Verdicts.{by_damage, by_other, by_repetition}

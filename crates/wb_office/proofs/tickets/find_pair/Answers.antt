@@ -1,6 +1,5 @@
 use Rattle.std.proofs.Common.{rules, ◌≡◌, ◌∙◌, sym, ap, Err, Some}
-use Rattle.std.specs.Option.{option_and_then}
-use Rattle.wb_journal.specs.Pairs.{partner, with_number}
+use Rattle.wb_office.proofs.Common.{option_and_then, partner, with_number}
 use Rattle.wb_office.proofs.LookUps.{also, made, nothing_told, reads, stood, stop, told}
 use Rattle.wb_office.proofs.tickets.find_pair.Goals as goal
 

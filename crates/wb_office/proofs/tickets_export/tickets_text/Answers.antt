@@ -1,9 +1,6 @@
 use Rattle.std.proofs.Common.{◌≡◌, ◌∙◌, sym, ap, ap₂, ◌++◌, Some, slice_get}
+use Rattle.wb_office.proofs.Common.{option_and_then, option_copied, partner, record_with, ticket_record, record_text}
 use Rattle.std.proofs.lemmas.Option.{slice_get-get_or}
-use Rattle.std.specs.Option.{option_and_then, option_copied}
-use Rattle.wb_journal.specs.Pairs.{partner}
-use Rattle.wb_office.specs.Exports.{record_with, ticket_record}
-use Rattle.wb_office.specs.helpers.ExportRecord.{record_text}
 use Rattle.wb_office.proofs.ExportRecords.{ticket_more}
 use Rattle.wb_office.proofs.tickets_export.tickets_text.Goals as goal
 

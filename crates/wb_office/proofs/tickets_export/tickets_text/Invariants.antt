@@ -1,5 +1,5 @@
 use Rattle.std.proofs.Common.{◌≡◌}
-use Rattle.wb_journal.specs.Rising.{IsRising}
+use Rattle.wb_office.proofs.Common.{IsRising}
 use Rattle.wb_office.proofs.ExportRecords.{tickets_to}
 use Rattle.wb_office.proofs.tickets_export.tickets_text.Given as goal
 

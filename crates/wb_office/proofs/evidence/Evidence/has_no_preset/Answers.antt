@@ -1,11 +1,5 @@
 use Rattle.std.proofs.Common.{◌≡◌, ◌∙◌, sym, true, not, ap, refl}
-use Rattle.wb_journal.specs.declared.kind.Kind.{Kind}
-use Rattle.wb_journal.specs.declared.kind.Kind.TheVariants.{First, Second, Single, Void}
-use Rattle.wb_journal.specs.Kind.{is_single, is_void}
-use Rattle.wb_scale.specs.Indication.{gross}
-use Rattle.wb_scale.specs.Tare.{tare_now}
-use Rattle.wb_office.specs.Conditions.{is_preset_below}
-use Rattle.wb_office.specs.helpers.IndicatedLoad.{is_preset_below_shown}
+use Rattle.wb_office.proofs.Common.{Kind, First, Second, Single, Void, is_single, is_void, gross, tare_now, is_preset_below, is_preset_below_shown}
 use Rattle.wb_office.proofs.LoadConditions.{preset_by_indication}
 use Rattle.wb_office.proofs.evidence.Evidence.has_no_preset.Goals as goal
 

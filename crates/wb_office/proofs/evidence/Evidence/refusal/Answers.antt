@@ -1,7 +1,5 @@
 use Rattle.std.proofs.Common.{◌≡◌, ◌∙◌, sym, rules, ◌++◌, Some, None, false}
-use Rattle.wb_office.specs.Conditions.{clock_back}
-use Rattle.wb_office.specs.helpers.ConditionGroups.{of_journal, of_load, of_tare}
-use Rattle.wb_office.specs.Verdict.{first_refusal}
+use Rattle.wb_office.proofs.Common.{clock_back, of_journal, of_load, of_tare, first_refusal}
 use Rattle.wb_office.proofs.ConditionsInOrder.{earlier, later}
 use Rattle.wb_office.proofs.evidence.Evidence.refusal.Goals as goal
 

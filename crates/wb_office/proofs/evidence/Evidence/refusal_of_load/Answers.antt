@@ -1,7 +1,5 @@
 use Rattle.std.proofs.Common.{◌≡◌, ◌∙◌, sym, true, not, ap}
-use Rattle.wb_journal.specs.Kind.{is_void}
-use Rattle.wb_office.specs.Conditions.{weighs}
-use Rattle.wb_office.specs.helpers.IndicatedLoad.{refusal_of_shown}
+use Rattle.wb_office.proofs.Common.{is_void, weighs, refusal_of_shown}
 use Rattle.wb_office.proofs.LoadConditions.{by_indication, of_void}
 use Rattle.wb_office.proofs.evidence.Evidence.refusal_of_load.Goals as goal
 
