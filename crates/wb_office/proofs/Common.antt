@@ -48,7 +48,8 @@ pub use Rattle.wb_store.specs.Rows.{SpentKey}
 pub use Rattle.wb_store.specs.declared.fault.StoreFault.{StoreFault}
 pub use Rattle.wb_store.specs.declared.fault.StoreFault.TheVariants.{Closed, Disk, Foreign, Memory}
 pub use Rattle.wb_window.specs.Stability.{is_stable}
-pub use Rattle.wb_office.specs.Answer.{IsBoundAt, Outcome, Told, adds, answer, answer_of, asking, below, entries_after, entries_left, finding_told, has_ticket, if_sound, indication_text, is_marked, nothing, outcome, outcome_of, purged_told, purges, spent_after, spent_by, spent_left, text_of, ticket_answer, ticket_if_sound, ticket_of, ticket_told, tickets_answer, unless_damaged}
+pub use Rattle.wb_store.specs.Purging.{gone as below, spent_by}
+pub use Rattle.wb_office.specs.Answer.{IsBoundAt, Outcome, Told, adds, answer, answer_of, asking, entries_after, entries_left, finding_told, has_ticket, if_sound, indication_text, is_marked, nothing, outcome, outcome_of, purged_told, purges, spent_after, spent_left, text_of, ticket_answer, ticket_if_sound, ticket_of, ticket_told, tickets_answer, unless_damaged}
 pub use Rattle.wb_office.specs.Conditions.{clock_back, gone, holds_of, is_damaged, is_other, is_preset_below, journal_full, places, places_of, weighs}
 pub use Rattle.wb_office.specs.CourseOfRequests.{AreBounds, Journal, Turn, added, added_by, added_in_turn, additions, after, after_turn, answer_in, answered_with, entry_of, left, situation, with_one}
 pub use Rattle.wb_office.specs.Exports.{journal_columns, journal_csv, journal_record, record_with, records_text, ticket_columns, ticket_record, tickets_csv}

@@ -1,5 +1,5 @@
 -- The office's answers, and what they leave.
-use Rattle.std.specs.Prelude.{ℕ, Bool, false, not, ◌||◌, nat_lt, List, [], ◌∷◌, ◌++◌, length, filter, map, codes, Option, Some, None, Result, Ok, Err, if◌then◌else◌, ℤ, pos, ◌*ℤ◌}
+use Rattle.std.specs.Prelude.{ℕ, Bool, false, not, ◌||◌, List, [], ◌∷◌, ◌++◌, length, codes, Option, Some, None, Result, Ok, Err, if◌then◌else◌, ℤ, pos, ◌*ℤ◌}
 use Rattle.wb_instrument.specs.Setup.{Setup}
 use Rattle.wb_instrument.specs.WeightField.{weight_field}
 use Rattle.wb_journal.specs.declared.entry.EntryParts.{EntryParts}
@@ -17,6 +17,7 @@ use Rattle.wb_scale.specs.declared.answers.Indicated.{Indicated}
 use Rattle.wb_scale.specs.declared.answers.Indicated.TheVariants.{NoLoad, Over, Under, Shown}
 use Rattle.wb_scale.specs.Indication.{indicated}
 use Rattle.wb_store.specs.Lists.{next_number}
+use Rattle.wb_store.specs.Purging.{gone as below, spent_after as spent_past}
 use Rattle.wb_store.specs.Rows.{SpentKey}
 use Rattle.wb_office.specs.declared.refusal.Refusal.{Refusal}
 use Rattle.wb_office.specs.declared.refusal.Refusal.TheVariants as refusal
@@ -105,10 +106,6 @@ tickets_answer es = if_sound (check es) (csv_told (tickets_csv es))
 
 -- ---- a purge
 
--- the entries below a number
-abbrev pub below : ℕ → List EntryParts → List EntryParts
-below b es = filter (λ e. nat_lt e.number b) es
-
 -- b is the purge bound on the day of a moment
 abbrev pub IsBoundAt : Setup → List EntryParts → List SpentKey → ℕ → ℕ → Type 0
 IsBoundAt s es ks at b = IsPurgeBound es (next_number es ks) (day_of at) s.retention_days b
@@ -167,13 +164,9 @@ entries_after (purges b) es = kept b es
 abbrev pub entries_left : Situation → ℕ → Request → List EntryParts
 entries_left w b request = entries_after (outcome w b request) w.entries
 
--- the key of an entry, with the entry's number
-abbrev pub spent_by : EntryParts → SpentKey
-spent_by e = record { key = e.key; number = e.number }
-
 -- the spent keys after it: a purge spends those of the entries below the bound
 abbrev pub spent_after : Outcome → List EntryParts → List SpentKey → List SpentKey
-spent_after (purges b) es ks = ks ++ map spent_by (below b es)
+spent_after (purges b) es ks = spent_past b es ks
 spent_after _ es ks = ks
 
 abbrev pub spent_left : Situation → ℕ → Request → List SpentKey

@@ -11,7 +11,8 @@ use Rattle.wb_store.specs.Lists.{AreLists}
 use Rattle.wb_office.specs.declared.refusal.Refusal.{Refusal}
 use Rattle.wb_office.specs.declared.request.Request.{Request}
 use Rattle.wb_office.specs.declared.request.Request.TheVariants.{Purge}
-use Rattle.wb_office.specs.Answer.{IsBoundAt, Told, answer, entries_left, marks, spent_by, spent_left, ticket_answer}
+use Rattle.wb_store.specs.Purging.{spent_by}
+use Rattle.wb_office.specs.Answer.{IsBoundAt, Told, answer, entries_left, marks, spent_left, ticket_answer}
 use Rattle.wb_office.specs.Situation.{Situation}
 use Rattle.wb_office.specs.CourseOfRequests.{AreBounds, Journal, Turn, additions, after}
 

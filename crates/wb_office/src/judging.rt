@@ -2,7 +2,6 @@
 ghost use Rattle.std.specs.Prelude.{◌≡◌, IfOk, None, Some, false, not, true};
 ghost use Rattle.std.specs.Option.{option_copied};
 ghost use Rattle.wb_journal.specs.Digest.{is_sound as is_sound_entry};
-ghost use Rattle.wb_journal.specs.Kind.{same_kind};
 ghost use Rattle.wb_journal.specs.Pairs.{partner_of};
 ghost use Rattle.wb_office.specs.Situation.{Asking, IsOnLists};
 ghost use Rattle.wb_office.specs.Conditions.{gone, holds_of, is_other};
@@ -65,18 +64,7 @@ fn judge_repetition(entry: Entry, partner: Option<Entry>, asked: &Asked) -> Judg
 fn is_same(entry: &Entry, asked: &Asked) -> bool
     ensures { (a : Asking) → AsksFor asked.now a → result ≡ not (is_other a entry.now) }
 {
-    is_same_kind(entry.kind(), asked.kind) && entry.plate().as_str() == asked.plate.as_str()
-}
-
-fn is_same_kind(one: Kind, other: Kind) -> bool
-    ensures { result ≡ same_kind one other }
-{
-    match one {
-        Kind::First => other.is_first(),
-        Kind::Second => matches!(other, Kind::Second),
-        Kind::Single => other.is_single(),
-        Kind::Void => matches!(other, Kind::Void),
-    }
+    entry.kind() == asked.kind && entry.plate().as_str() == asked.plate.as_str()
 }
 
 /// Whether the entry isn't sound, or is a Second whose partner is missing or isn't sound.

@@ -30,7 +30,7 @@ pub enum What {
 #[derive(Clone, Copy, Debug, PartialEq, Eq, Error)]
 pub enum PrintFault {
     /// The store refused; nothing was printed.
-    #[error("store {}", number_and_name(*.0))]
+    #[error("store {0}")]
     Store(StoreFault),
     /// The tickets of a damaged journal are not exported; nothing was printed.
     #[error("refused 17 damaged")]
@@ -41,17 +41,6 @@ pub enum PrintFault {
     /// Memory was refused; nothing was printed.
     #[error("want of memory")]
     Memory,
-}
-
-/// The number and the name of a store's fault.
-fn number_and_name(fault: StoreFault) -> &'static str {
-    match fault {
-        StoreFault::Memory => "1 memory",
-        StoreFault::Disk => "2 disk",
-        StoreFault::Size => "3 size",
-        StoreFault::Foreign => "4 foreign",
-        StoreFault::Closed => "5 closed",
-    }
 }
 
 /// Prints what the check of the store's journal finds: `SOUND` and how many entries there are, or `DAMAGED` and the least number at

@@ -6,6 +6,8 @@ ghost use Rattle.wb_station.specs.Routes.{method_text};
 
 use http::StatusCode;
 use std::alloc::AllocError;
+use std::error::Error;
+use std::fmt::{self, Display};
 
 /// The method of a route.
 #[derive(Clone, Copy, Debug, PartialEq, Eq)]
@@ -27,7 +29,8 @@ impl Method {
     }
 }
 
-/// Why the bytes of a request are no request to the office, in the order in which they are judged.
+/// Why the bytes of a request are no request to the office, in the order in which they are judged. It is shown as its status and its
+/// name.
 #[derive(Clone, Copy, Debug, PartialEq, Eq)]
 pub enum HttpFault {
     /// 431: more than 8,192 bytes, and no head among the first 8,192.
@@ -109,3 +112,11 @@ impl From<AllocError> for HttpFault {
         HttpFault::Memory
     }
 }
+
+impl Display for HttpFault {
+    fn fmt<W: fmt::Write>(&self, f: &mut fmt::Formatter<W>) -> fmt::Result {
+        write!(f, "{} {}", self.status().as_u16(), self.name())
+    }
+}
+
+impl Error for HttpFault {}

@@ -210,6 +210,23 @@ const FAULTS: &[(HttpFault, &str, &str)] = &[
     ),
 ];
 
+/// What a refusal and a fault are shown as, where they are no body.
+const SHOWN: &[(Refusal, HttpFault, &str, &str)] = &[
+    (Refusal::KeyReused, HttpFault::HeadTooLarge, "1 key_reused", "431 head_too_large"),
+    (Refusal::Gone, HttpFault::WrongMethod(Method::Get), "2 gone", "405 wrong_method"),
+    (Refusal::Store(StoreFault::Disk), HttpFault::Memory, "15 store", "503 store"),
+];
+
+#[test]
+fn shows_refusals_and_faults_by_number_and_name(rt: HostRuntime) -> Result<(), Fail> {
+    for (refusal, fault, refused, failed) in SHOWN {
+        let shown = format!(in rt.alloc(); "{refusal}, {fault}")?;
+        let wanted = format!(in rt.alloc(); "{refused}, {failed}")?;
+        assert_eq!(rt; shown.as_str(), wanted.as_str());
+    }
+    Ok(())
+}
+
 #[test]
 fn reports_faults_in_text(rt: HostRuntime) -> Result<(), Fail> {
     for (fault, status, body) in FAULTS {
