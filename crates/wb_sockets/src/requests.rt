@@ -1,7 +1,11 @@
 //! What requests are, as the station judges them.
 use std::alloc::{AllocError, Global};
 use wb_connections::Requests;
-use wb_station::{Routes, is_whole};
+use wb_sources::REQUEST_ROOM;
+use wb_station::{MOST_REQUEST_BYTES, Routes, is_whole};
+
+// The room of a source's request is as much as the station reads of one.
+const _: () = prove!(REQUEST_ROOM == MOST_REQUEST_BYTES);
 
 /// Requests to a station.
 #[derive(Drop)]

@@ -13,7 +13,7 @@ use crate::head::Head;
 use httparse::spans::HeaderSpan;
 
 /// The bytes of a body at most.
-const BODY_LIMIT: u32 = 1_024;
+pub(crate) const BODY_LIMIT: u32 = 1_024;
 
 /// The length of a POST's body, or what is wrong with it.
 pub(crate) fn said_length(head: &Head<'_>) -> Result<u32, HttpFault>

@@ -11,7 +11,7 @@ use httparse::Status;
 use httparse::spans::{HeaderSpan, RequestSpans, parse_request};
 
 /// The bytes of a head at most.
-const HEAD_LIMIT: usize = 8_192;
+pub(crate) const HEAD_LIMIT: usize = 8_192;
 
 /// The fields of a head at most.
 pub(crate) const FIELD_LIMIT: usize = 64;

@@ -39,4 +39,4 @@ pub use room::ResponseRoom;
 pub use routes::Routes;
 pub use run::{ReplyBytes, RunStopped, reply_bytes};
 pub use station::{OpenRefused, Station};
-pub use whole::is_whole;
+pub use whole::{MOST_REQUEST_BYTES, is_whole};
