@@ -19,7 +19,11 @@ pub(crate) fn look_at_journal<D: Alter>(
     let open = store.open_of(plate)?;
     let count = store.count()?;
     let open_count = store.open_count()?;
-    let next_number = store.next_number()?;
+    // Each spent number is below those that stand.
+    let next_number = match &newest {
+        Some(entry) => u64::from(entry.number()) + 1,
+        None => store.next_number()?,
+    };
     Ok(OfJournal {
         newest,
         open,
