@@ -212,9 +212,24 @@ const FAULTS: &[(HttpFault, &str, &str)] = &[
 
 /// What a refusal and a fault are shown as, where they are no body.
 const SHOWN: &[(Refusal, HttpFault, &str, &str)] = &[
-    (Refusal::KeyReused, HttpFault::HeadTooLarge, "1 key_reused", "431 head_too_large"),
-    (Refusal::Gone, HttpFault::WrongMethod(Method::Get), "2 gone", "405 wrong_method"),
-    (Refusal::Store(StoreFault::Disk), HttpFault::Memory, "15 store", "503 store"),
+    (
+        Refusal::KeyReused,
+        HttpFault::HeadTooLarge,
+        "1 key_reused",
+        "431 head_too_large",
+    ),
+    (
+        Refusal::Gone,
+        HttpFault::WrongMethod(Method::Get),
+        "2 gone",
+        "405 wrong_method",
+    ),
+    (
+        Refusal::Store(StoreFault::Disk),
+        HttpFault::Memory,
+        "15 store",
+        "503 store",
+    ),
 ];
 
 #[test]
