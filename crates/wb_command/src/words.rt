@@ -10,7 +10,7 @@ use wb_instrument::Instrument;
 pub const REFUSED: u8 = 2;
 
 /// The version of the program, and the line by which `rt version` names the kit that proved it.
-const VERSION: &str = "1.0.0\nproved by rattle-kit-13f logic dac8208d650f15bf";
+const VERSION: &str = "1.0.0\nproved by rattle-kit-13b logic dac8208d650f15bf";
 
 const REPLAY_EXAMPLE: &str = "Example:
   printf 'r 9170 4\\nt SI\\n' | weighbridge replay

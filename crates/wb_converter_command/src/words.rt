@@ -8,7 +8,7 @@ use std::alloc::{AllocError, Global};
 pub const REFUSED: u8 = 2;
 
 /// The version of the program, and the line by which `rt version` names the kit that proved it.
-const VERSION: &str = "1.0.0\nproved by rattle-kit-13f logic dac8208d650f15bf";
+const VERSION: &str = "1.0.0\nproved by rattle-kit-13b logic dac8208d650f15bf";
 
 const RUN_EXAMPLE: &str = "Example:
   modbus --tcp 192.168.1.10 .. | weighbridge-converter run --calibration calibration --listen 127.0.0.1:4000

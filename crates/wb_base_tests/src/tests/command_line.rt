@@ -135,11 +135,11 @@ static EXPORTS: [Row; 2] = [
 static VERSIONS: [Row; 2] = [
     Row(
         "weighbridge --version",
-        "words, status 0: weighbridge 1.0.0\nproved by rattle-kit-13f logic dac8208d650f15bf\n",
+        "words, status 0: weighbridge 1.0.0\nproved by rattle-kit-13b logic dac8208d650f15bf\n",
     ),
     Row(
         "weighbridge -V",
-        "words, status 0: weighbridge 1.0.0\nproved by rattle-kit-13f logic dac8208d650f15bf\n",
+        "words, status 0: weighbridge 1.0.0\nproved by rattle-kit-13b logic dac8208d650f15bf\n",
     ),
 ];
 
