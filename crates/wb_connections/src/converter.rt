@@ -4,7 +4,7 @@ ghost use Rattle.wb_sources.specs.SourceAnswers.{IsConverted};
 ghost use Rattle.wb_window.specs.Reading.{IsReading};
 
 use crate::limits::{ENDLESS_LINE, FRESH_SECONDS, LOOK_MILLIS};
-use crate::lines::Lines;
+use crate::converter_lines::Lines;
 use crate::ready::{Ready, is_past};
 use crate::source::Source;
 use std::fs::{File, Files};

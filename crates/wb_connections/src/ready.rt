@@ -1,6 +1,6 @@
 //! Reads and writes that don't wait, and how long ago something was.
 ghost use Rattle.std.specs.Prelude.{◌≤◌, IfSome, length};
-ghost use Rattle.wb_connections.specs.Ready.{IsWithin};
+ghost use Rattle.wb_connections.specs.Ready.{FitsRoom};
 
 use std::io;
 use std::io::{ErrorKind, Read, Write};
@@ -21,7 +21,7 @@ pub(crate) enum Ready {
 
 /// A read of a stream that is set to not wait. An empty room finds an end.
 pub(crate) fn read_ready<S: Read>(stream: &mut S, room: &mut [u8]) -> Ready
-    ensures { IsWithin result (length room.new) }
+    ensures { FitsRoom result (length room.new) }
 {
     match stream.read(room) {
         Ok(0) => Ready::End,
@@ -32,7 +32,7 @@ pub(crate) fn read_ready<S: Read>(stream: &mut S, room: &mut [u8]) -> Ready
 
 /// What a refused read means.
 fn not_read(error: &io::Error) -> Ready
-    ensures { IsWithin result 0 }
+    ensures { FitsRoom result 0 }
 {
     match error.kind() {
         ErrorKind::WouldBlock | ErrorKind::Interrupted => Ready::Nothing,

@@ -1,9 +1,9 @@
 //! What a converter's bytes are read from.
-ghost use Rattle.wb_connections.specs.Ready.{IsWithin};
+ghost use Rattle.wb_connections.specs.Ready.{FitsRoom};
 
 use crate::address::loopback;
 use crate::limits::{CONNECT_SECONDS, PAUSE_MILLIS};
-use crate::lines::CONVERTER_ROOM;
+use crate::converter_lines::CONVERTER_ROOM;
 use crate::ready::{Ready, read_ready};
 use std::fs::{File, Files, OpenOptions};
 use std::io::Read;
@@ -46,7 +46,7 @@ impl<S: Read + OpenStream + Drop> Source<S> {
 
     /// A read that doesn't wait.
     pub(crate) fn read_now(&mut self, room: &mut [u8; CONVERTER_ROOM]) -> Ready
-        ensures { IsWithin result 512 }
+        ensures { FitsRoom result 512 }
     {
         match self {
             Source::Stream(stream) => match stream.set_nonblocking(true) {
@@ -65,7 +65,7 @@ impl<S: Read + OpenStream + Drop> Source<S> {
         left: Duration,
         room: &mut [u8; CONVERTER_ROOM],
     ) -> Ready
-        ensures { IsWithin result 512 }
+        ensures { FitsRoom result 512 }
     {
         match self {
             Source::Stream(stream) => match set_to_wait(stream, left) {
@@ -95,7 +95,7 @@ fn connect<R: Net>(rt: &R, address: SocketAddrV4) -> Option<R::Stream> {
 
 /// A read of a device or FIFO that doesn't wait. These have no end: a device that gives none of its bytes any more is gone.
 fn read_device(file: &mut File, room: &mut [u8; CONVERTER_ROOM]) -> Ready
-    ensures { IsWithin result 512 }
+    ensures { FitsRoom result 512 }
 {
     match read_ready(file, room) {
         Ready::End => Ready::Fault,

@@ -1,6 +1,6 @@
 -- A line of a reader of a load cell, without its end.
 use Rattle.std.specs.Prelude.{ℕ, List, Option, Some, None, ℤ, pos, neg_ℤ, int_le, ◌&&◌, if◌then◌else◌}
-use Rattle.wb_sources.specs.Number.{number}
+use Rattle.wb_sources.specs.Number.{signed_number}
 
 -- a number that fits in 32 bits
 abbrev pub fitting : ℤ → Option ℤ
@@ -12,4 +12,4 @@ fitting_of None = None
 
 -- an optional minus sign and 1 to 18 digits, of a number that fits in 32 bits; any other line has no counts
 abbrev pub counts_of : List ℕ → Option ℤ
-counts_of line = fitting_of (number line)
+counts_of line = fitting_of (signed_number line)

@@ -9,7 +9,7 @@
 mod answering;
 mod client;
 mod counts;
-mod lines;
+mod cut_lines;
 mod outbox;
 mod per_interval;
 mod running;
@@ -20,7 +20,7 @@ mod taken;
 pub use answering::answer;
 pub use client::Clients;
 pub use counts::counts_line;
-pub use lines::Lines;
+pub use cut_lines::Lines;
 pub use outbox::{LINE_ROOM, Outbox};
 pub use per_interval::sensitivity;
 pub use running::{RunEnd, run};

@@ -1,7 +1,7 @@
 //! The load of each line of counts, handed on as it comes.
 use crate::answering::answer;
 use crate::client::{Clients, is_waiting};
-use crate::lines::Lines;
+use crate::cut_lines::Lines;
 use std::io::{Read, Write};
 use std::net::{OpenListener, OpenStream};
 use std::thread;

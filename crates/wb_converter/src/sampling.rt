@@ -2,7 +2,7 @@
 ghost use Rattle.std.specs.Prelude.{◌≡◌, ◌≤◌, ◌+◌, IfOk, vec_len};
 
 use crate::counts::counts_line;
-use crate::lines::Lines;
+use crate::cut_lines::Lines;
 use std::alloc::Global;
 use std::io::Read;
 use thiserror::Error;

@@ -1,12 +1,12 @@
 -- A setup is one if each part is within its limits.
 use Rattle.std.proofs.Common.{◌≡◌, ℕ, suc, zero as nought, ◌≤◌, true, arith}
 use Rattle.std.specs.Prelude.{All}
-use Rattle.wb_instrument.specs.Interval.{is_interval}
+use Rattle.wb_instrument.specs.Interval.{is_allowed_interval}
 use Rattle.wb_instrument.specs.declared.setup.PartFault.TheVariants.{Interval, Max, Window, Band, Pace, Wait, Serial, Retention, Capacity}
-use Rattle.wb_instrument.specs.Setup.{Setup, IsSetup, IsWithin, judged}
+use Rattle.wb_instrument.specs.Setup.{Setup, IsSetup, IsWithinLimits, parts_in_order}
 
 -- every part is within its limits where each judged one is
-pub IsSetup-judged : (s : Setup) → All (λ part. IsWithin part s) judged → IsSetup s
+pub IsSetup-judged : (s : Setup) → All (λ part. IsWithinLimits part s) parts_in_order → IsSetup s
 IsSetup-judged s each = record {
   interval = each 0 Interval (omega arith);
   max = each 1 Max (omega arith);
@@ -23,6 +23,6 @@ IsSetup-judged s each = record {
 pub one_kilogram : (s : Setup) → IsSetup s → 1 ≤ s.interval_kg
 one_kilogram s is = least s.interval_kg is.interval
   where
-    least : (kg : ℕ) → is_interval kg ≡ true → 1 ≤ kg
+    least : (kg : ℕ) → is_allowed_interval kg ≡ true → 1 ≤ kg
     least nought e = absurd (cc)
     least (suc k) e = omega arith

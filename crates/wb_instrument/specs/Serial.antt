@@ -7,5 +7,5 @@ abbrev pub is_serial_byte : ℕ → Bool
 is_serial_byte byte = (nat_le 65 byte && nat_le byte 90) || (nat_le 48 byte && nat_le byte 57)
 
 -- 1 to 16 characters of A-Z and 0-9
-abbrev pub is_serial : List ℕ → Bool
-is_serial text = nat_le 1 (length text) && nat_le (length text) 16 && list_all is_serial_byte text
+abbrev pub is_serial_text : List ℕ → Bool
+is_serial_text text = nat_le 1 (length text) && nat_le (length text) 16 && list_all is_serial_byte text

@@ -3,8 +3,8 @@ use Rattle.std.specs.Prelude.{◌≡◌, ℕ, ◌≤◌, ◌/◌, ◌%◌, true,
 use Rattle.wb_instrument.specs.declared.setup.Parts.{Parts}
 use Rattle.wb_instrument.specs.declared.setup.PartFault.{PartFault}
 use Rattle.wb_instrument.specs.declared.setup.PartFault.TheVariants.{Interval, Max, Window, Band, Pace, Wait, Serial, Retention, Capacity}
-use Rattle.wb_instrument.specs.Interval.{is_interval}
-use Rattle.wb_instrument.specs.Serial.{is_serial}
+use Rattle.wb_instrument.specs.Interval.{is_allowed_interval}
+use Rattle.wb_instrument.specs.Serial.{is_serial_text}
 
 -- what is stated of an instrument at its setup
 pub record Setup : Type 0 where
@@ -48,38 +48,38 @@ abbrev pub IsMax : ℕ → ℕ → Type 0
 IsMax interval_kg max_kg = (max_kg % interval_kg ≡ 0) × (500 ≤ max_kg / interval_kg) × (max_kg / interval_kg ≤ 10000)
 
 -- a part is within its limits
-abbrev pub IsWithin : PartFault → Setup → Type 0
-IsWithin Interval s = is_interval s.interval_kg ≡ true
-IsWithin Max s = IsMax s.interval_kg s.max_kg
-IsWithin Window s = (4 ≤ s.window) × (s.window ≤ 64)
-IsWithin Band s = (1 ≤ s.band) × (s.band ≤ 2)
-IsWithin Pace s = (2 ≤ s.pace) × (s.pace ≤ 50)
-IsWithin Wait s = (1 ≤ s.wait) × (s.wait ≤ 600)
-IsWithin Serial s = is_serial s.serial ≡ true
-IsWithin Retention s = (1 ≤ s.retention_days) × (s.retention_days ≤ 3650)
-IsWithin Capacity s = (2 ≤ s.capacity) × (s.capacity ≤ 100000)
+abbrev pub IsWithinLimits : PartFault → Setup → Type 0
+IsWithinLimits Interval s = is_allowed_interval s.interval_kg ≡ true
+IsWithinLimits Max s = IsMax s.interval_kg s.max_kg
+IsWithinLimits Window s = (4 ≤ s.window) × (s.window ≤ 64)
+IsWithinLimits Band s = (1 ≤ s.band) × (s.band ≤ 2)
+IsWithinLimits Pace s = (2 ≤ s.pace) × (s.pace ≤ 50)
+IsWithinLimits Wait s = (1 ≤ s.wait) × (s.wait ≤ 600)
+IsWithinLimits Serial s = is_serial_text s.serial ≡ true
+IsWithinLimits Retention s = (1 ≤ s.retention_days) × (s.retention_days ≤ 3650)
+IsWithinLimits Capacity s = (2 ≤ s.capacity) × (s.capacity ≤ 100000)
 
 -- each part is
 pub record IsSetup (s : Setup) : Type 0 where
-  pub interval : IsWithin Interval s
-  pub max : IsWithin Max s
-  pub window : IsWithin Window s
-  pub band : IsWithin Band s
-  pub pace : IsWithin Pace s
-  pub wait : IsWithin Wait s
-  pub serial : IsWithin Serial s
-  pub retention : IsWithin Retention s
-  pub capacity : IsWithin Capacity s
+  pub interval : IsWithinLimits Interval s
+  pub max : IsWithinLimits Max s
+  pub window : IsWithinLimits Window s
+  pub band : IsWithinLimits Band s
+  pub pace : IsWithinLimits Pace s
+  pub wait : IsWithinLimits Wait s
+  pub serial : IsWithinLimits Serial s
+  pub retention : IsWithinLimits Retention s
+  pub capacity : IsWithinLimits Capacity s
 
 -- the parts, in the order in which they are judged
-abbrev pub judged : List PartFault
-judged = Interval ∷ Max ∷ Window ∷ Band ∷ Pace ∷ Wait ∷ Serial ∷ Retention ∷ Capacity ∷ []
+abbrev pub parts_in_order : List PartFault
+parts_in_order = Interval ∷ Max ∷ Window ∷ Band ∷ Pace ∷ Wait ∷ Serial ∷ Retention ∷ Capacity ∷ []
 
 -- the part at this place is outside its limits, and each part before it is within them
 pub record FirstFaultAt (s : Setup) (fault : PartFault) (place : ℕ) : Type 0 where
-  pub is : slice_get judged place ≡ Some fault
-  pub outside : ¬ IsWithin fault s
-  pub before : All (λ part. IsWithin part s) (take place judged)
+  pub is : slice_get parts_in_order place ≡ Some fault
+  pub outside : ¬ IsWithinLimits fault s
+  pub before : All (λ part. IsWithinLimits part s) (take place parts_in_order)
 
 -- the first part that is outside its limits
 abbrev pub IsFirstFault : Setup → PartFault → Type 0

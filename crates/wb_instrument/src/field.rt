@@ -1,6 +1,6 @@
 //! The text of a weight.
 ghost use Rattle.std.specs.Prelude.{◌≡◌};
-ghost use Rattle.wb_instrument.specs.WeightField.{weight_field as field};
+ghost use Rattle.wb_instrument.specs.WeightField.{weight_in_field};
 
 use arrayvec::ArrayString;
 use itoa::Buffer;
@@ -10,7 +10,7 @@ const WIDTH: usize = 10;
 
 /// The number of kilograms, right-aligned in 10 characters; a longer number stands whole.
 pub fn weight_field(kg: i32) -> ArrayString<16>
-    ensures { result.bytes ≡ field kg }
+    ensures { result.bytes ≡ weight_in_field kg }
 {
     let mut buffer = Buffer::new();
     let digits = buffer.format(kg);

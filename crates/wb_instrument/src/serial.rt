@@ -1,6 +1,6 @@
 //! The serial of an instrument.
 ghost use Rattle.std.specs.Prelude.{◌≡◌, ◌≤◌, IfSome, is_some, length, true};
-ghost use Rattle.wb_instrument.specs.Serial.{is_serial as is_serial_text, is_serial_byte};
+ghost use Rattle.wb_instrument.specs.Serial.{is_serial_byte, is_serial_text};
 ghost use Rattle.std.specs.List.{list_all};
 
 use arrayvec::ArrayString;
@@ -14,13 +14,13 @@ pub struct Serial {
 
 impl Model for Serial {
     ghost use Rattle.std.specs.Prelude.{◌≡◌, ℕ, List, true};
-    ghost use Rattle.wb_instrument.specs.Serial.{is_serial};
+    ghost use Rattle.wb_instrument.specs.Serial.{is_serial_text};
 
     ghost Value = { List ℕ };
 
     ghost view = { λ s. s.text.bytes };
 
-    ghost invariant = { λ s. is_serial s.text.bytes ≡ true };
+    ghost invariant = { λ s. is_serial_text s.text.bytes ≡ true };
 }
 
 impl Serial {

@@ -1,6 +1,6 @@
 //! The setup of an instrument.
 ghost use Rattle.std.specs.Prelude.{◌≡◌, IfErr, IfOk, IsTrue, ◌↔◌};
-ghost use Rattle.wb_instrument.specs.Setup.{IsFirstFault, IsMax, IsSetup, IsWithin, setup_of};
+ghost use Rattle.wb_instrument.specs.Setup.{IsFirstFault, IsMax, IsSetup, IsWithinLimits, setup_of};
 
 use crate::interval::is_interval;
 use crate::serial::{Serial, is_serial};
@@ -194,7 +194,7 @@ impl Instrument {
 
 /// Whether a part is within its limits.
 fn is_within(part: PartFault, parts: &Parts<'_>) -> bool
-    ensures { IsTrue result ↔ IsWithin part (setup_of parts.now) }
+    ensures { IsTrue result ↔ IsWithinLimits part (setup_of parts.now) }
 {
     match part {
         PartFault::Interval => is_interval(parts.interval_kg),

@@ -15,6 +15,6 @@ gross_over_preset (Some gross) None = None
 gross_over_preset (Some gross) (Some preset) = Some (pos gross -ℤ pos preset)
 
 -- the net of an entry: with its partner, or over its preset tare
-abbrev pub net : EntryParts → Option EntryParts → Option ℤ
-net e None = gross_over_preset e.gross_kg e.preset_kg
-net e (Some partner) = gross_difference e.gross_kg partner.gross_kg
+abbrev pub net_of_entry : EntryParts → Option EntryParts → Option ℤ
+net_of_entry e None = gross_over_preset e.gross_kg e.preset_kg
+net_of_entry e (Some partner) = gross_difference e.gross_kg partner.gross_kg

@@ -1,12 +1,12 @@
 -- Slips and tickets: texts of an entry, and of its partner (print symbols of OIML R 76-1:2006: G gross, N net, PT preset tare).
 use Rattle.std.specs.Prelude.{ℕ, ◌+◌, ◌-◌, ◌/◌, ◌%◌, List, [], ◌∷◌, ◌++◌, Option, Some, None, ℤ, pos, codes, decimal}
-use Rattle.wb_instrument.specs.WeightField.{weight_field}
+use Rattle.wb_instrument.specs.WeightField.{weight_in_field}
 use Rattle.wb_journal.specs.declared.civil.Civil.{Civil}
 use Rattle.wb_journal.specs.declared.entry.EntryParts.{EntryParts}
 use Rattle.wb_journal.specs.Civil.{civil}
 use Rattle.wb_journal.specs.EntryText.{line}
 use Rattle.wb_journal.specs.Kind.{capitals}
-use Rattle.wb_journal.specs.Net.{net}
+use Rattle.wb_journal.specs.Net.{net_of_entry}
 
 -- the last two digits of a number
 abbrev pub two_digits : ℕ → List ℕ
@@ -26,7 +26,7 @@ moment_text moment = date_text (civil moment) ++ codes " " ++ clock_text (civil 
 
 -- a line with a weight
 abbrev pub weight_line : List ℕ → ℤ → List ℕ
-weight_line name kg = name ++ weight_field kg ++ codes " kg\n"
+weight_line name kg = name ++ weight_in_field kg ++ codes " kg\n"
 
 -- such a line where there is a weight
 abbrev pub kilogram_line : List ℕ → Option ℕ → List ℕ
@@ -70,4 +70,4 @@ partner_block (Some partner) = block partner
 
 -- the ticket of an entry and its partner
 unfoldable pub ticket : EntryParts → Option EntryParts → List ℕ
-ticket e partner = title (codes "WEIGHING TICKET ") e ++ partner_block partner ++ block e ++ net_line (net e partner)
+ticket e partner = title (codes "WEIGHING TICKET ") e ++ partner_block partner ++ block e ++ net_line (net_of_entry e partner)

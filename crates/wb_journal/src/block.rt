@@ -4,7 +4,7 @@ ghost use Rattle.std.specs.Option.{ForSome};
 ghost use Rattle.std.specs.Prelude.{◌≡◌, ◌≤◌, ◌+◌, ◌++◌, IsOk, OnOk, length};
 ghost use Rattle.wb_journal.specs.Texts.{block, block_device, block_head, block_weights, kilogram_line, weight_line};
 
-use crate::line::{push_line, push_number, push_number_line};
+use crate::text_lines::{push_line, push_number, push_number_line};
 use crate::{Entry, text_of_moment};
 use arrayvec::ArrayString;
 use std::alloc::AllocError;

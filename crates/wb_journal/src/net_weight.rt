@@ -1,14 +1,14 @@
 //! The net of a ticket.
 ghost use Rattle.std.specs.Option.{ForSome, option_copied};
 ghost use Rattle.std.specs.Prelude.{◌≡◌, ◌≤◌};
-ghost use Rattle.wb_journal.specs.Net.{gross_difference, gross_over_preset, net as net_of};
+ghost use Rattle.wb_journal.specs.Net.{gross_difference, gross_over_preset, net_of_entry};
 
 use crate::Entry;
 
 /// The net in kilograms: with a partner the greater gross less the smaller, else the gross less the preset tare. It is
 /// there where both weights are.
 pub fn net(entry: &Entry, partner: Option<&Entry>) -> Option<i32>
-    ensures { result ≡ net_of entry.now (option_copied partner.entry) }
+    ensures { result ≡ net_of_entry entry.now (option_copied partner.entry) }
 {
     match partner {
         Some(partner) => difference(entry.gross_kg(), partner.gross_kg()),

@@ -1,7 +1,7 @@
 //! The plate of a vehicle.
 ghost use Rattle.std.specs.List.{list_all};
 ghost use Rattle.std.specs.Prelude.{◌≡◌, ◌≤◌, IfSome, is_some, length, true};
-ghost use Rattle.wb_journal.specs.Plate.{is_plate as is_plate_text, is_plate_byte};
+ghost use Rattle.wb_journal.specs.Plate.{is_plate_byte, is_plate_text};
 
 use arrayvec::ArrayString;
 use std::marker::Model;
@@ -14,13 +14,13 @@ pub struct Plate {
 
 impl Model for Plate {
     ghost use Rattle.std.specs.Prelude.{◌≡◌, ℕ, List, true};
-    ghost use Rattle.wb_journal.specs.Plate.{is_plate};
+    ghost use Rattle.wb_journal.specs.Plate.{is_plate_text};
 
     ghost Value = { List ℕ };
 
     ghost view = { λ p. p.text.bytes };
 
-    ghost invariant = { λ p. is_plate p.text.bytes ≡ true };
+    ghost invariant = { λ p. is_plate_text p.text.bytes ≡ true };
 }
 
 impl Plate {

@@ -18,12 +18,12 @@ pub use Rattle.wb_journal.proofs.Theorems.{law_of_closing}
 pub use Rattle.wb_journal.proofs.offered.Kept.{kept-partner}
 pub use Rattle.wb_journal.proofs.offered.Members.{Among, among-contains, among-either, find-absent, find-among}
 pub use Rattle.wb_journal.proofs.offered.Seals.{sound-sealed}
-pub use Rattle.wb_journal.specs.Check.{check, check as check_of, finding, is_faulty}
-pub use Rattle.wb_journal.specs.Digest.{is_sound, sealed}
-pub use Rattle.wb_journal.specs.Kind.{is_closing, is_first, is_second, is_single, is_void, same_kind}
+pub use Rattle.wb_journal.specs.Check.{finding, finding_in, finding_in as check_of, is_faulty}
+pub use Rattle.wb_journal.specs.Digest.{is_sound_entry, sealed_entry}
+pub use Rattle.wb_journal.specs.Kind.{is_closing_kind, is_first_kind, is_second_kind, is_single_kind, is_void_kind, same_kind}
 pub use Rattle.wb_journal.specs.Moment.{day_of}
-pub use Rattle.wb_journal.specs.Pairs.{is_first_of, is_partner, lies_between, may_pair_of, open_count, open_of, partner_of, with_number}
-unfoldable pub use Rattle.wb_journal.specs.Pairs.{is_open, partner}
+pub use Rattle.wb_journal.specs.Pairs.{count_of_open, is_first_of, is_partner, lies_between, may_pair_of, open_entry, partner_of, with_number}
+unfoldable pub use Rattle.wb_journal.specs.Pairs.{is_open, partner_in}
 pub use Rattle.wb_journal.specs.Retention.{IsOfAge, IsPurgeBound, kept}
 pub use Rattle.wb_journal.specs.Rising.{IsRising, IsRisingFrom}
 pub use Rattle.wb_journal.specs.declared.entry.EntryParts.{EntryParts}
@@ -31,7 +31,7 @@ pub use Rattle.wb_journal.specs.declared.journal_check.Finding.{Finding}
 pub use Rattle.wb_journal.specs.declared.journal_check.Finding.TheVariants.{Damaged, Damaged as FoundDamaged, Sound}
 pub use Rattle.wb_journal.specs.declared.kind.Kind.{Kind}
 pub use Rattle.wb_journal.specs.declared.kind.Kind.TheVariants.{First, Second, Single, Void}
-pub use Rattle.wb_scale.specs.Indication.{gross, indicated_at, shown}
+pub use Rattle.wb_scale.specs.Indication.{gross, indicated_at, weights_unless_outside}
 unfoldable pub use Rattle.wb_scale.specs.Indication.{indicated}
 pub use Rattle.wb_scale.specs.Moment.{readings}
 pub use Rattle.wb_scale.specs.Tare.{IsTare, tare_now, tare_tenths}
@@ -41,24 +41,24 @@ pub use Rattle.wb_scale.specs.declared.answers.TareNow.{TareNow}
 pub use Rattle.wb_scale.specs.declared.answers.TareNow.TheVariants.{Empty, Preset, Weighed}
 pub use Rattle.wb_store.proofs.offered.LaterLists.{left_rises, next_stays, one, open_count_more}
 pub use Rattle.wb_store.specs.Faults.{closed_by, is_disk}
-pub use Rattle.wb_store.specs.Journal.{IsHonest, Reopens, Stands, StoreView}
+pub use Rattle.wb_store.specs.Journal.{IsHonest, Reopens, StoreStands, StoreView}
 pub use Rattle.wb_store.specs.Keeping.{Closes, Keeps, LeavesEither, LeavesOnly}
-pub use Rattle.wb_store.specs.Lists.{AreLists, HaveOwnKeys, IsNext, by_key, greatest, greatest_spent, has_key, is_of_key, is_spent, next_number}
+pub use Rattle.wb_store.specs.Lists.{AreLists, HaveOwnKeys, IsNext, entry_by_key, greatest, greatest_spent, has_key, is_of_key, is_spent, number_after}
 pub use Rattle.wb_store.specs.Rows.{SpentKey}
 pub use Rattle.wb_store.specs.declared.fault.StoreFault.{StoreFault}
 pub use Rattle.wb_store.specs.declared.fault.StoreFault.TheVariants.{Closed, Disk, Foreign, Memory}
 pub use Rattle.wb_window.specs.Stability.{is_stable}
-pub use Rattle.wb_store.specs.Purging.{gone as below, spent_by}
-pub use Rattle.wb_office.specs.Answer.{IsBoundAt, Outcome, Told, adds, answer, answer_of, asking, entries_after, entries_left, finding_told, has_ticket, if_sound, indication_text, is_marked, nothing, outcome, outcome_of, purged_told, purges, spent_after, spent_left, text_of, ticket_answer, ticket_if_sound, ticket_of, ticket_told, tickets_answer, unless_damaged}
-pub use Rattle.wb_office.specs.Conditions.{clock_back, gone, holds_of, is_damaged, is_other, is_preset_below, journal_full, places, places_of, weighs}
-pub use Rattle.wb_office.specs.CourseOfRequests.{AreBounds, Journal, Turn, added, added_by, added_in_turn, additions, after, after_turn, answer_in, answered_with, entry_of, left, situation, with_one}
+pub use Rattle.wb_store.specs.Purging.{entries_below as below, spent_by}
+pub use Rattle.wb_office.specs.Answer.{Content, IsBoundAt, Outcome, adds, answer, answer_by_verdict, asking, entries_after, entries_left, entry_content, finding_content, has_ticket, if_sound, is_marked, nothing, outcome, outcome_of, purged_content, purges, spent_by_outcome, spent_left, text_of_indication, ticket_answer, ticket_content, ticket_if_sound, ticket_of, tickets_answer, unless_damaged}
+pub use Rattle.wb_office.specs.Conditions.{clock_back, holds_of, is_damaged, is_other, is_preset_below, journal_full, key_gone, places, places_needed, weighs}
+pub use Rattle.wb_office.specs.CourseOfRequests.{AreBounds, Journal, RequestTurn, added, added_by, added_in_turn, additions, after, after_turn, answer_in, answered_with, entry_of, left, situation_of_turn, with_one}
 pub use Rattle.wb_office.specs.Exports.{journal_columns, journal_csv, journal_record, record_with, records_text, ticket_columns, ticket_record, tickets_csv}
-pub use Rattle.wb_office.specs.Laws.{AllWeighed, AnsweredAgain, FullAtLastNumber, IsByKey, IsGone, IsKept, IsNumbered, IsWeighed, KeepsPartners, KeyDecides, NumbersRun, OneEntryPerKey, WithinCapacity, is_taken}
+pub use Rattle.wb_office.specs.Laws.{AllWeighed, AnsweredAgain, FullAtLastNumber, IsByKey, IsGone, IsKeptEntry, IsNumbered, IsWeighed, KeepsPartners, KeyDecides, NumbersRun, OneEntryPerKey, WithinCapacity, is_taken}
 pub use Rattle.wb_office.specs.LawsOfJournals.{AreSound, ChangesNothing, ClosingsHavePartners, FirstsClosedOnce, IsTakenOut, KeptForItsTime, RefusalsChangeNothing, StaysSound, TakesOut, TicketGivenAgain}
-pub use Rattle.wb_office.specs.Serves.{IsNow, Marks, Serves, fault_of_refusal, is_of_store, is_store_refusal, told, told_of}
+pub use Rattle.wb_office.specs.Serves.{IsNow, Marks, Serves, content_of, contents_of, fault_of_refusal, is_of_store, is_store_refusal}
 pub use Rattle.wb_office.specs.Situation.{Asking, IsOnLists, Situation}
 pub use Rattle.wb_office.specs.Stops.{AnsweredAfterStops, Asks, IsAnsweredByKey, IsFoundAgain}
-pub use Rattle.wb_office.specs.Verdict.{Condition, Verdict, accepted, first_refusal, gross_kg, kilograms, new_entry, of_new, on, on_new, preset_kg, refused, repeated}
+pub use Rattle.wb_office.specs.Verdict.{Condition, Verdict, accepted, entry_added, first_refusal, gross_stored, kilograms_of, of_new, on, on_new, preset_stored, refused, repeated}
 unfoldable pub use Rattle.wb_office.specs.Verdict.{verdict}
 pub use Rattle.wb_office.specs.Wanted.{HasBound, IsWanted, Wanted, wanted}
 pub use Rattle.wb_office.specs.declared.refusal.Refusal.{Refusal}

@@ -1,6 +1,6 @@
 -- Why a load isn't stored, by what is indicated and by the conditions.
 use Rattle.std.proofs.Common.{◌≡◌, ◌∙◌, Bool, true, false, not, ◌&&◌, if◌then◌else◌, Option, Some, None, ℤ, pos, refl}
-use Rattle.wb_office.proofs.Common.{int_lt, is_none, option_map, is_over, is_under, round, Setup, Kind, First, Second, Single, Void, is_void, gross, indicated, indicated_at, shown, tare_now, tare_tenths, above_zero, is_stable, Refusal, TareNow, Empty, Weighed, Preset, readings, Asking, holds_of, is_preset_below, weighs, of_load, gross_of_shown, gross_shown, is_preset_below_shown, refusal_of_shown, first_refusal, gross_kg, kilograms}
+use Rattle.wb_office.proofs.Common.{int_lt, is_none, option_map, is_over, is_under, round, Setup, Kind, First, Second, Single, Void, is_void_kind, gross, indicated, indicated_at, weights_unless_outside, tare_now, tare_tenths, above_zero, is_stable, Refusal, TareNow, Empty, Weighed, Preset, readings, Asking, holds_of, is_preset_below, weighs, of_load, gross_of_shown, gross_shown, is_preset_below_shown, refusal_of_shown, first_refusal, gross_stored, kilograms_of}
 use Rattle.std.specs.Prelude.{◌-ℤ◌}
 use Rattle.wb_office.specs.declared.refusal.Refusal.TheVariants as refusal
 
@@ -15,7 +15,7 @@ in_order s weighed stable g =
     else None
 
 of_shown : (s : Setup) (stable : Bool) (g net : ℤ) (over under : Bool) → is_over s g ≡ over → is_under g ≡ under
-    → refusal_of_shown (shown s stable g net) ≡ in_order s true stable (Some g)
+    → refusal_of_shown (weights_unless_outside s stable g net) ≡ in_order s true stable (Some g)
 unfolding in_order
 of_shown s stable g net true under o u = rw (o) refl
 of_shown s stable g net false true o u = rw (o, u) refl
@@ -37,7 +37,7 @@ pub of_void : (a : Asking) → weighs a ≡ false → first_refusal of_load a �
 of_void a w = rw w refl
 
 preset_of_shown : (s : Setup) (stable : Bool) (shown_gross net : ℤ) (over under : Bool) (tare : TareNow) → is_over s shown_gross ≡ over → is_under shown_gross ≡ under
-    → refusal_of_shown (shown s stable shown_gross net) ≡ None → is_preset_below_shown tare (shown s stable shown_gross net) ≡ is_preset_below tare (Some shown_gross)
+    → refusal_of_shown (weights_unless_outside s stable shown_gross net) ≡ None → is_preset_below_shown tare (weights_unless_outside s stable shown_gross net) ≡ is_preset_below tare (Some shown_gross)
 preset_of_shown s stable shown_gross net true under tare o u free = absurd (cc (rw o at free))
 preset_of_shown s stable shown_gross net false true tare o u free = absurd (cc (rw (o, u) at free))
 preset_of_shown s stable shown_gross net false false Empty o u free = refl
@@ -59,29 +59,29 @@ preset_by_indication a tare w free =
     (by_indication a w ∙ free)
 
 gross_of_indicated : (s : Setup) (stable : Bool) (now : TareNow) (tenths : Option ℤ) → refusal_of_shown (indicated_at s stable now tenths) ≡ None
-    → gross_shown s (indicated_at s stable now tenths) ≡ option_map (kilograms s) (option_map round tenths)
+    → gross_shown s (indicated_at s stable now tenths) ≡ option_map (kilograms_of s) (option_map round tenths)
 gross_of_indicated s stable now None free = absurd (cc)
 gross_of_indicated s stable now (Some tenths) free = go (is_over s (round tenths)) (is_under (round tenths)) refl refl free
   where
     go : (over under : Bool) → is_over s (round tenths) ≡ over → is_under (round tenths) ≡ under → refusal_of_shown (indicated_at s stable now (Some tenths)) ≡ None
-        → gross_shown s (indicated_at s stable now (Some tenths)) ≡ Some (kilograms s (round tenths))
+        → gross_shown s (indicated_at s stable now (Some tenths)) ≡ Some (kilograms_of s (round tenths))
     go true under o u f = absurd (cc (rw o at f))
     go false true o u f = absurd (cc (rw (o, u) at f))
     go false false o u f = rw (o, u) refl
 
 -- where no load is refused, the gross that is stored is that which is shown
 pub gross_by_indication : (a : Asking) → first_refusal of_load a ≡ None
-    → gross_of_shown a.now.setup a.kind (indicated a.now.setup a.now.history) ≡ gross_kg a.now.setup a.kind (gross a.now.history)
+    → gross_of_shown a.now.setup a.kind (indicated a.now.setup a.now.history) ≡ gross_stored a.now.setup a.kind (gross a.now.history)
 unfolding indicated above_zero
 gross_by_indication a free = go a.kind (λ w. by_indication a w ∙ free)
   where
     shown_gross : refusal_of_shown (indicated a.now.setup a.now.history) ≡ None
-        → gross_shown a.now.setup (indicated a.now.setup a.now.history) ≡ option_map (kilograms a.now.setup) (gross a.now.history)
+        → gross_shown a.now.setup (indicated a.now.setup a.now.history) ≡ option_map (kilograms_of a.now.setup) (gross a.now.history)
     shown_gross f =
         gross_of_indicated a.now.setup (is_stable a.now.setup.window a.now.setup.band (readings a.now.history)) (tare_now a.now.history) (above_zero a.now.history) f
 
-    go : (k : Kind) → (not (is_void k) ≡ true → refusal_of_shown (indicated a.now.setup a.now.history) ≡ None)
-        → gross_of_shown a.now.setup k (indicated a.now.setup a.now.history) ≡ gross_kg a.now.setup k (gross a.now.history)
+    go : (k : Kind) → (not (is_void_kind k) ≡ true → refusal_of_shown (indicated a.now.setup a.now.history) ≡ None)
+        → gross_of_shown a.now.setup k (indicated a.now.setup a.now.history) ≡ gross_stored a.now.setup k (gross a.now.history)
     go First f = shown_gross (f refl)
     go Second f = shown_gross (f refl)
     go Single f = shown_gross (f refl)

@@ -1,6 +1,6 @@
 -- Calls of the store that only read it, one after the other.
 use Rattle.std.proofs.Common.{◌≡◌, ◌∙◌, ap, sym, refl, Bool, true, false, ◌||◌, List, Result, Ok, Err, IfOk, MatchResult}
-use Rattle.wb_office.proofs.Common.{Ghosts, EntryParts, StoreFault, Closed, Disk, Memory, closed_by, IsHonest, StoreView, Stands, Closes, Keeps, SpentKey}
+use Rattle.wb_office.proofs.Common.{Ghosts, EntryParts, StoreFault, Closed, Disk, Memory, closed_by, IsHonest, StoreView, StoreStands, Closes, Keeps, SpentKey}
 use Rattle.wb_office.specs.helpers.LookUps.{LooksUp}
 
 the_fault : {X : Type 0} → Result X StoreFault → StoreFault
@@ -69,7 +69,7 @@ module _ {D : Type 0} (g : Ghosts D) where
 
   -- after a call that found something the store holds the lists that it held
   pub stood : {old mid : StoreView D} {X : Type 0} {x : X} → Reads old mid {X = X} (Ok x)
-      → {es : List EntryParts} {ks : List SpentKey} → Stands g old es ks → IsHonest g mid → Stands g mid es ks
+      → {es : List EntryParts} {ks : List SpentKey} → StoreStands g old es ks → IsHonest g mid → StoreStands g mid es ks
   stood l {es} {ks} s h = l.keeps.stands es ks s h (l.closes.closes ∙ s.opened)
 
   -- one call after the other
@@ -94,18 +94,18 @@ module _ {D : Type 0} (g : Ghosts D) where
 
   -- what a look-up tells
   pub told : {old new : StoreView D} {X : Type 0} {x : X} {P : List EntryParts → List SpentKey → X → Type 0} → Reads old new {X = X} (Ok x)
-      → ((es : List EntryParts) (ks : List SpentKey) → Stands g old es ks → IsHonest g new → P es ks x) → LooksUp g old new (Ok x) P
+      → ((es : List EntryParts) (ks : List SpentKey) → StoreStands g old es ks → IsHonest g new → P es ks x) → LooksUp g old new (Ok x) P
   told l tells = record { tells = tells; keeps = l.keeps; closes = l.closes }
 
   -- something is made of what was found, unless memory is refused
   pub worked_out : {old new : StoreView D} {X Y : Type 0} {x : X} {P : List EntryParts → List SpentKey → Y → Type 0} {Q : Y → Type 0} (r : Result Y StoreFault) → Reads old new {X = X} (Ok x)
-      → MatchResult r Q (λ f. f ≡ Memory) → ((y : Y) → Q y → (es : List EntryParts) (ks : List SpentKey) → Stands g old es ks → IsHonest g new → P es ks y) → LooksUp g old new r P
+      → MatchResult r Q (λ f. f ≡ Memory) → ((y : Y) → Q y → (es : List EntryParts) (ks : List SpentKey) → StoreStands g old es ks → IsHonest g new → P es ks y) → LooksUp g old new r P
   worked_out {x = x} (Ok y) l q tells = told (made x y l) (tells y q)
   worked_out (Err f) l q tells = rw q (nothing_told (wanting l))
 
   -- what a later look-up tells, together with what was found before
   pub then_told : {old mid new : StoreView D} {X Y : Type 0} {x : X} {r : Result Y StoreFault} {P Q : List EntryParts → List SpentKey → Y → Type 0} → Reads old mid {X = X} (Ok x)
-      → LooksUp g mid new r P → ((es : List EntryParts) (ks : List SpentKey) → Stands g old es ks → IsHonest g mid → (y : Y) → P es ks y → Q es ks y) → LooksUp g old new r Q
+      → LooksUp g mid new r P → ((es : List EntryParts) (ks : List SpentKey) → StoreStands g old es ks → IsHonest g mid → (y : Y) → P es ks y → Q es ks y) → LooksUp g old new r Q
   then_told {r = r} {P = P} {Q = Q} first next follows = record {
     tells = λ es ks s h. if_ok_map (P es ks) (Q es ks) r (follows es ks s (next.closes.honest h)) (next.tells es ks (stood first s (next.closes.honest h)) h);
     keeps = (also first (reads next.keeps next.closes)).keeps;

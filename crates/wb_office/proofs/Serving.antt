@@ -1,12 +1,12 @@
 -- How calls of the store serve a weighing or void.
 use Rattle.std.proofs.Common.{ℕ, ◌≡◌, ◌≢◌, ◌∙◌, ◌↔◌, inl, sym, ap, Bool, true, false, ◌||◌, not, List, [], ◌∷◌, ◌++◌, IfErr, IfOk, IsOk, OnErr, Option, Some, None, is_some, unwrap_or, Result, Ok, Err, refl, true≢false}
-use Rattle.wb_office.proofs.Common.{Ghosts, EntryParts, is_void, open_of, StoreFault, Closed, Foreign, Memory, is_disk, IsHonest, StoreView, Stands, LeavesEither, LeavesOnly, IsNext, SpentKey, Refusal, Request, Told, answer_of, asking, entries_after, is_marked, nothing, outcome_of, spent_after, text_of, Situation, IsOnLists, holds_of, AsksFor, IsAccepted, IsOnScale, IsNow, Marks, Serves, fault_of_refusal, is_of_store, is_store_refusal, told, told_of, Wanted, HasBound, IsWanted, wanted, Verdict, accepted, verdict, IsWeighingWanted, wanted_by}
+use Rattle.wb_office.proofs.Common.{Ghosts, EntryParts, is_void_kind, open_entry, StoreFault, Closed, Foreign, Memory, is_disk, IsHonest, StoreView, StoreStands, LeavesEither, LeavesOnly, IsNext, SpentKey, Refusal, Request, Content, answer_by_verdict, asking, entries_after, is_marked, nothing, outcome_of, spent_by_outcome, entry_content, Situation, IsOnLists, holds_of, AsksFor, IsAccepted, IsOnScale, IsNow, Marks, Serves, fault_of_refusal, is_of_store, is_store_refusal, content_of, contents_of, Wanted, HasBound, IsWanted, wanted, Verdict, accepted, verdict, IsWeighingWanted, wanted_by}
 use Rattle.std.specs.Result.{IsErrAnd}
 use Rattle.wb_scale.specs.State.{State}
 use Rattle.wb_office.specs.declared.answer.Answer.{Answer}
 use Rattle.wb_office.specs.declared.judging.Asked.{Asked}
 use Rattle.wb_office.specs.declared.refusal.Refusal.TheVariants.{Store}
-use Rattle.wb_office.specs.Serves.{closed_by}
+use Rattle.wb_office.specs.Serves.{is_closed_after}
 use Rattle.wb_office.proofs.LookUps.{Reads, ok_is_no_fault, stood}
 
 -- ---- what is asked for in a situation
@@ -35,7 +35,7 @@ or_false : (b : Bool) → b || false ≡ b
 or_false true = refl
 or_false false = refl
 
-pub plain_closes : (was : Bool) (r : Result Answer Refusal) → is_store_refusal r ≡ false → closed_by was r ≡ was
+pub plain_closes : (was : Bool) (r : Result Answer Refusal) → is_store_refusal r ≡ false → is_closed_after was r ≡ was
 plain_closes was (Ok answer) plain = refl
 plain_closes was (Err why) plain = ap (λ b. was || b) (no_disk (fault_of_refusal why) plain) ∙ or_false was
 
@@ -69,7 +69,7 @@ pub ok_is_plain : (r : Result Answer Refusal) → IsOk r → is_store_refusal r 
 ok_is_plain (Ok answer) ok = refl
 ok_is_plain (Err why) ok = absurd (cc ok)
 
-pub ok_tells : (r : Result Answer Refusal) (t : Told) → IsOk r → IfOk r (λ answer. told answer ≡ t) → told_of r ≡ Ok t
+pub ok_tells : (r : Result Answer Refusal) (t : Content) → IsOk r → IfOk r (λ answer. content_of answer ≡ t) → contents_of r ≡ Ok t
 ok_tells (Ok answer) t ok is = ap Ok is
 ok_tells (Err why) t ok is = absurd (cc ok)
 
@@ -82,16 +82,16 @@ pub record IsAnswered (IsWanted : Situation → Wanted → Type 0) (w : Situatio
   pub entries : want.entries ≡ w.entries
   pub spent : want.spent ≡ w.spent
   pub marks : want.marks ≡ false
-  pub told_is : told_of r ≡ want.answer
+  pub told_is : contents_of r ≡ want.answer
 
 -- that of a verdict that adds nothing
 pub by_verdict : (asked : Asked) (w : Situation) (r : Result Answer Refusal) (v : Verdict) → verdict (asking w asked.key asked.kind asked.plate) ≡ v → outcome_of v ≡ nothing
-    → told_of r ≡ answer_of w.entries v → IsAnswered (IsWeighingWanted asked) w r
+    → contents_of r ≡ answer_by_verdict w.entries v → IsAnswered (IsWeighingWanted asked) w r
 by_verdict asked w r v is none tells = record {
   want = wanted_by w v;
   is = ap (wanted_by w) (sym is);
   entries = ap (λ o. entries_after o w.entries) none;
-  spent = ap (λ o. spent_after o w.entries w.spent) none;
+  spent = ap (λ o. spent_by_outcome o w.entries w.spent) none;
   marks = ap is_marked none;
   told_is = tells;
 }
@@ -99,7 +99,7 @@ by_verdict asked w r v is none tells = record {
 module _ {D : Type 0} (g : Ghosts D) (at : ℕ) (IsWanted : Situation → Wanted → Type 0) where
   -- the store was read alone
   pub read_serves : {old new : StoreView D} {X : Type 0} {x : X} (before : State) (r : Result Answer Refusal) → Reads g old new {X = X} (Ok x) → is_store_refusal r ≡ false
-      → ((w : Situation) → IsNow before at w → Stands g old w.entries w.spent → IsHonest g new → IsAnswered IsWanted w r) → Serves g old new before before at r IsWanted
+      → ((w : Situation) → IsNow before at w → StoreStands g old w.entries w.spent → IsHonest g new → IsAnswered IsWanted w r) → Serves g old new before before at r IsWanted
   read_serves {X = X} {x = x} before r reads plain answered = record {
     judged = λ w n s h p. let a = answered w n s h in (
       a.want,
@@ -156,7 +156,7 @@ module _ {D : Type 0} (g : Ghosts D) (at : ℕ) (IsWanted : Situation → Wanted
   -- the store was read, and what was read is told unless memory is refused
   pub told_serves : {old new : StoreView D} {X : Type 0} {x : X} (before : State) (r : Result Answer Refusal) → Reads g old new {X = X} (Ok x)
       → (is_store_refusal r ≡ true → r ≡ Err (Store Memory))
-      → (is_store_refusal r ≡ false → (w : Situation) → IsNow before at w → Stands g old w.entries w.spent → IsHonest g new → IsAnswered IsWanted w r) → Serves g old new before before at r IsWanted
+      → (is_store_refusal r ≡ false → (w : Situation) → IsNow before at w → StoreStands g old w.entries w.spent → IsHonest g new → IsAnswered IsWanted w r) → Serves g old new before before at r IsWanted
   told_serves {old = old} {new = new} before r reads memory answered = go (is_store_refusal r) refl
     where
       go : (b : Bool) → is_store_refusal r ≡ b → Serves g old new before before at r IsWanted
@@ -168,21 +168,21 @@ pub record Change : Type 1 where
   pub may : List EntryParts → List SpentKey → Type 0
   pub entries : List EntryParts → List SpentKey → List EntryParts
   pub spent : List EntryParts → List SpentKey → List SpentKey
-  pub tells : List EntryParts → List SpentKey → Told
+  pub tells : List EntryParts → List SpentKey → Content
 
 module _ {D : Type 0} (g : Ghosts D) (old new : StoreView D) (change : Change) (r : Result Answer Refusal) where
   -- the clauses of a change
   pub record Changed : Type 0 where
-    pub done : (es : List EntryParts) (ks : List SpentKey) → Stands g old es ks → change.may es ks → IsHonest g new
-        → IfOk r (λ answer. (told answer ≡ change.tells es ks) × Stands g new (change.entries es ks) (change.spent es ks) × LeavesOnly g new (change.entries es ks) (change.spent es ks))
-    pub kept : (es : List EntryParts) (ks : List SpentKey) → Stands g old es ks → IsHonest g new → new.is_closed ≡ false → OnErr r (Stands g new es ks × LeavesOnly g new es ks)
-    pub leaves : (es : List EntryParts) (ks : List SpentKey) → Stands g old es ks → change.may es ks → IsHonest g new
+    pub done : (es : List EntryParts) (ks : List SpentKey) → StoreStands g old es ks → change.may es ks → IsHonest g new
+        → IfOk r (λ answer. (content_of answer ≡ change.tells es ks) × StoreStands g new (change.entries es ks) (change.spent es ks) × LeavesOnly g new (change.entries es ks) (change.spent es ks))
+    pub kept : (es : List EntryParts) (ks : List SpentKey) → StoreStands g old es ks → IsHonest g new → new.is_closed ≡ false → OnErr r (StoreStands g new es ks × LeavesOnly g new es ks)
+    pub leaves : (es : List EntryParts) (ks : List SpentKey) → StoreStands g old es ks → change.may es ks → IsHonest g new
         → LeavesEither g new es ks (change.entries es ks) (change.spent es ks)
     pub known : r ≢ Err (Store Foreign)
     pub closed : (r ≡ Err (Store Closed)) ↔ (old.is_closed ≡ true)
     pub refused : IfErr r (λ why. is_of_store why ≡ true)
     pub still : old.is_closed ≡ true → new ≡ old
-    pub closes : new.is_closed ≡ closed_by old.is_closed r
+    pub closes : new.is_closed ≡ is_closed_after old.is_closed r
     pub honest : IsHonest g new → IsHonest g old
 
 -- the change is what is wanted in a situation
@@ -197,7 +197,7 @@ pub record IsChange (change : Change) (marks : Bool) (IsWanted : Situation → W
 module _ {D : Type 0} (g : Ghosts D) (at : ℕ) (IsWanted : Situation → Wanted → Type 0) (change : Change) where
   -- it was read, and the change was made
   pub change_serves : {old mid new : StoreView D} {X : Type 0} {x : X} {answer : Answer} (before after : State) (marks : Bool) → Reads g old mid {X = X} (Ok x)
-      → ((w : Situation) → IsNow before at w → Stands g old w.entries w.spent → IsHonest g mid → IsChange change marks IsWanted w)
+      → ((w : Situation) → IsNow before at w → StoreStands g old w.entries w.spent → IsHonest g mid → IsChange change marks IsWanted w)
       → Changed g mid new change (Ok answer) → Marks before after marks → Serves g old new before after at (Ok answer) IsWanted
   change_serves {X = X} {x = x} before after marks reads changes made marked = record {
     judged = λ w n s h p.
@@ -229,7 +229,7 @@ module _ {D : Type 0} (g : Ghosts D) (at : ℕ) (IsWanted : Situation → Wanted
 
   -- it was read, and the change was refused
   pub unchanged_serves : {old mid new : StoreView D} {X : Type 0} {x : X} {why : Refusal} (before : State) (marks : Bool) → Reads g old mid {X = X} (Ok x)
-      → ((w : Situation) → IsNow before at w → Stands g old w.entries w.spent → IsHonest g mid → IsChange change marks IsWanted w)
+      → ((w : Situation) → IsNow before at w → StoreStands g old w.entries w.spent → IsHonest g mid → IsChange change marks IsWanted w)
       → Changed g mid new change (Err why) → Serves g old new before before at (Err why) IsWanted
   unchanged_serves {X = X} {x = x} {why = why} before marks reads changes made = record {
     judged = λ w n s h p. absurd (true≢false (sym made.refused ∙ p));
@@ -242,7 +242,7 @@ module _ {D : Type 0} (g : Ghosts D) (at : ℕ) (IsWanted : Situation → Wanted
     known = λ es ks s h e. made.known e;
     closed = ((λ e. sym reads.closes.closes ∙ made.closed.0 e), λ e. made.closed.1 (reads.closes.closes ∙ e));
     still = λ e. ok_is_no_fault {X = X} x (reads.closes.closed.1 e);
-    closes = made.closes ∙ ap (λ was. closed_by was (Err why)) reads.closes.closes;
+    closes = made.closes ∙ ap (λ was. is_closed_after was (Err why)) reads.closes.closes;
     honest = λ h. reads.closes.honest (made.honest h);
     scale = (false, refl);
   }
@@ -250,15 +250,15 @@ module _ {D : Type 0} (g : Ghosts D) (at : ℕ) (IsWanted : Situation → Wanted
 -- an entry is added, with the First that it closes
 abbrev pub adding : EntryParts → Option EntryParts → Change
 adding e first = record {
-  may = λ es ks. IsNext es ks e × (first ≡ open_of es e.plate);
+  may = λ es ks. IsNext es ks e × (first ≡ open_entry es e.plate);
   entries = λ es ks. es ++ e ∷ [];
   spent = λ es ks. ks;
-  tells = λ es ks. text_of (es ++ e ∷ []) e e.kind;
+  tells = λ es ks. entry_content (es ++ e ∷ []) e e.kind;
 }
 
 -- it is what is wanted where it is accepted
 pub is_adding : (asked : Asked) (e : EntryParts) (first : Option EntryParts) (w : Situation) → IsAccepted e first (asking w asked.key asked.kind asked.plate)
-    → IsChange (adding e first) (not (is_void e.kind)) (IsWeighingWanted asked) w
+    → IsChange (adding e first) (not (is_void_kind e.kind)) (IsWeighingWanted asked) w
 is_adding asked e first w is = record {
   may = (is.next, is.paired);
   want = wanted_by w (accepted e);

@@ -1,23 +1,23 @@
 -- The office's answers, and what they leave.
 use Rattle.std.specs.Prelude.{ℕ, Bool, false, not, ◌||◌, List, [], ◌∷◌, ◌++◌, length, codes, Option, Some, None, Result, Ok, Err, if◌then◌else◌, ℤ, pos, ◌*ℤ◌}
 use Rattle.wb_instrument.specs.Setup.{Setup}
-use Rattle.wb_instrument.specs.WeightField.{weight_field}
+use Rattle.wb_instrument.specs.WeightField.{weight_in_field}
 use Rattle.wb_journal.specs.declared.entry.EntryParts.{EntryParts}
 use Rattle.wb_journal.specs.declared.journal_check.Finding.{Finding}
 use Rattle.wb_journal.specs.declared.journal_check.Finding.TheVariants as finding
 use Rattle.wb_journal.specs.declared.kind.Kind.{Kind}
 use Rattle.wb_journal.specs.declared.kind.Kind.TheVariants.{First, Second, Single, Void as VoidKind}
-use Rattle.wb_journal.specs.Check.{check}
-use Rattle.wb_journal.specs.Kind.{is_second, is_single, is_void}
+use Rattle.wb_journal.specs.Check.{finding_in}
+use Rattle.wb_journal.specs.Kind.{is_second_kind, is_single_kind, is_void_kind}
 use Rattle.wb_journal.specs.Moment.{day_of}
-use Rattle.wb_journal.specs.Pairs.{partner, with_number}
+use Rattle.wb_journal.specs.Pairs.{partner_in, with_number}
 use Rattle.wb_journal.specs.Retention.{IsPurgeBound, kept}
 use Rattle.wb_journal.specs.Texts.{slip, ticket}
 use Rattle.wb_scale.specs.declared.answers.Indicated.{Indicated}
 use Rattle.wb_scale.specs.declared.answers.Indicated.TheVariants.{NoLoad, Over, Under, Shown}
 use Rattle.wb_scale.specs.Indication.{indicated}
-use Rattle.wb_store.specs.Lists.{next_number}
-use Rattle.wb_store.specs.Purging.{gone as below, spent_after as spent_past}
+use Rattle.wb_store.specs.Lists.{number_after}
+use Rattle.wb_store.specs.Purging.{entries_below, spent_past}
 use Rattle.wb_store.specs.Rows.{SpentKey}
 use Rattle.wb_office.specs.declared.refusal.Refusal.{Refusal}
 use Rattle.wb_office.specs.declared.refusal.Refusal.TheVariants as refusal
@@ -29,90 +29,90 @@ use Rattle.wb_office.specs.Exports.{journal_csv, tickets_csv}
 use Rattle.wb_office.specs.Verdict.{Verdict, accepted, refused, repeated, verdict}
 
 -- an answer: the bytes of its text, or its count or number
-pub data Told : Type 0 where
-  slip_told : List ℕ → Told
-  ticket_told : List ℕ → Told
-  text_told : List ℕ → Told
-  csv_told : List ℕ → Told
-  purged_told : ℕ → Told
-  sound_told : ℕ → Told
-  damaged_told : ℕ → Told
+pub data Content : Type 0 where
+  slip_content : List ℕ → Content
+  ticket_content : List ℕ → Content
+  text_content : List ℕ → Content
+  csv_content : List ℕ → Content
+  purged_content : ℕ → Content
+  sound_content : ℕ → Content
+  damaged_content : ℕ → Content
 
 -- ---- a weighing or void
 
 -- the text of an entry: a slip of a First or Void, a ticket of a Single, and of a Second with its partner
-abbrev pub text_of : List EntryParts → EntryParts → Kind → Told
-text_of es e First = slip_told (slip e)
-text_of es e Second = ticket_told (ticket e (partner es e))
-text_of es e Single = ticket_told (ticket e None)
-text_of es e VoidKind = slip_told (slip e)
+abbrev pub entry_content : List EntryParts → EntryParts → Kind → Content
+entry_content es e First = slip_content (slip e)
+entry_content es e Second = ticket_content (ticket e (partner_in es e))
+entry_content es e Single = ticket_content (ticket e None)
+entry_content es e VoidKind = slip_content (slip e)
 
 -- the answer of a verdict: why it is refused, or the text of the entry that is repeated or added
-abbrev pub answer_of : List EntryParts → Verdict → Result Told Refusal
-answer_of es (refused why) = Err why
-answer_of es (repeated e) = Ok (text_of es e e.kind)
-answer_of es (accepted e) = Ok (text_of (es ++ e ∷ []) e e.kind)
+abbrev pub answer_by_verdict : List EntryParts → Verdict → Result Content Refusal
+answer_by_verdict es (refused why) = Err why
+answer_by_verdict es (repeated e) = Ok (entry_content es e e.kind)
+answer_by_verdict es (accepted e) = Ok (entry_content (es ++ e ∷ []) e e.kind)
 
 -- ---- a ticket
 
 -- a Second or Single has a ticket
 abbrev pub has_ticket : EntryParts → Bool
-has_ticket e = is_second e.kind || is_single e.kind
+has_ticket e = is_second_kind e.kind || is_single_kind e.kind
 
 -- its ticket; damaged if the entry isn't sound, or is a Second whose partner is missing or isn't sound
-abbrev pub ticket_if_sound : List EntryParts → EntryParts → Result Told Refusal
-ticket_if_sound es e = if is_damaged es e then Err refusal.Damaged else Ok (text_of es e e.kind)
+abbrev pub ticket_if_sound : List EntryParts → EntryParts → Result Content Refusal
+ticket_if_sound es e = if is_damaged es e then Err refusal.Damaged else Ok (entry_content es e e.kind)
 
-abbrev pub ticket_of : List EntryParts → Option EntryParts → Result Told Refusal
+abbrev pub ticket_of : List EntryParts → Option EntryParts → Result Content Refusal
 ticket_of es None = Err refusal.NoTicket
 ticket_of es (Some e) = if has_ticket e then ticket_if_sound es e else Err refusal.NoTicket
 
 -- the answer to a ticket's number; no entry has the number 0
-abbrev pub ticket_answer : List EntryParts → ℕ → Result Told Refusal
+abbrev pub ticket_answer : List EntryParts → ℕ → Result Content Refusal
 ticket_answer es number = ticket_of es (with_number number es)
 
 -- ---- the indication
 
-abbrev pub motion : Bool → List ℕ
-motion stable = if stable then codes "STABLE" else codes "MOVING"
+abbrev pub motion_word : Bool → List ℕ
+motion_word stable = if stable then codes "STABLE" else codes "MOVING"
 
 -- stable or moving, with gross and net in kilograms
 abbrev pub weights_text : Bool → ℤ → ℤ → List ℕ
-weights_text stable gross_kg net_kg = motion stable ++ codes " G " ++ weight_field gross_kg ++ codes " kg N " ++ weight_field net_kg ++ codes " kg"
+weights_text stable gross_kg net_kg = motion_word stable ++ codes " G " ++ weight_in_field gross_kg ++ codes " kg N " ++ weight_in_field net_kg ++ codes " kg"
 
 -- the indication: gross and net, or no load, overload or underload
-abbrev pub indication_text : Setup → Indicated → List ℕ
-indication_text s NoLoad = codes "NO LOAD"
-indication_text s Over = codes "OVERLOAD"
-indication_text s Under = codes "UNDERLOAD"
-indication_text s (Shown gross net stable) = weights_text stable (pos s.interval_kg *ℤ gross) (pos s.interval_kg *ℤ net)
+abbrev pub text_of_indication : Setup → Indicated → List ℕ
+text_of_indication s NoLoad = codes "NO LOAD"
+text_of_indication s Over = codes "OVERLOAD"
+text_of_indication s Under = codes "UNDERLOAD"
+text_of_indication s (Shown gross net stable) = weights_text stable (pos s.interval_kg *ℤ gross) (pos s.interval_kg *ℤ net)
 
 -- ---- the whole journal
 
-abbrev pub finding_told : Finding → Told
-finding_told (finding.Sound count) = sound_told count
-finding_told (finding.Damaged number) = damaged_told number
+abbrev pub finding_content : Finding → Content
+finding_content (finding.Sound count) = sound_content count
+finding_content (finding.Damaged number) = damaged_content number
 
-abbrev pub check_answer : List EntryParts → Told
-check_answer es = finding_told (check es)
+abbrev pub check_answer : List EntryParts → Content
+check_answer es = finding_content (finding_in es)
 
 -- an answer, where the check finds no damage
-abbrev pub if_sound : Finding → Told → Result Told Refusal
+abbrev pub if_sound : Finding → Content → Result Content Refusal
 if_sound (finding.Sound count) told = Ok told
 if_sound (finding.Damaged number) told = Err refusal.Damaged
 
-abbrev pub tickets_answer : List EntryParts → Result Told Refusal
-tickets_answer es = if_sound (check es) (csv_told (tickets_csv es))
+abbrev pub tickets_answer : List EntryParts → Result Content Refusal
+tickets_answer es = if_sound (finding_in es) (csv_content (tickets_csv es))
 
 -- ---- a purge
 
 -- b is the purge bound on the day of a moment
 abbrev pub IsBoundAt : Setup → List EntryParts → List SpentKey → ℕ → ℕ → Type 0
-IsBoundAt s es ks at b = IsPurgeBound es (next_number es ks) (day_of at) s.retention_days b
+IsBoundAt s es ks at b = IsPurgeBound es (number_after es ks) (day_of at) s.retention_days b
 
 -- a purge at this bound counts the entries below it, unless the journal is damaged
-abbrev pub purge_answer : List EntryParts → ℕ → Result Told Refusal
-purge_answer es b = if_sound (check es) (purged_told (length (below b es)))
+abbrev pub purge_answer : List EntryParts → ℕ → Result Content Refusal
+purge_answer es b = if_sound (finding_in es) (purged_content (length (entries_below b es)))
 
 -- ---- every request
 
@@ -121,12 +121,12 @@ abbrev pub asking : Situation → List ℕ → Kind → List ℕ → Asking
 asking w key kind plate = record { now = w; key = key; kind = kind; plate = plate }
 
 -- the answer to a request; b is the purge bound on the day of its moment. The journal is exported also if it is damaged
-abbrev pub answer : Situation → ℕ → Request → Result Told Refusal
-answer w b (Weigh key kind plate) = answer_of w.entries (verdict (asking w key kind plate))
-answer w b (VoidOpen key plate) = answer_of w.entries (verdict (asking w key VoidKind plate))
+abbrev pub answer : Situation → ℕ → Request → Result Content Refusal
+answer w b (Weigh key kind plate) = answer_by_verdict w.entries (verdict (asking w key kind plate))
+answer w b (VoidOpen key plate) = answer_by_verdict w.entries (verdict (asking w key VoidKind plate))
 answer w b (Ticket number) = ticket_answer w.entries number
-answer w b Indication = Ok (text_told (indication_text w.setup (indicated w.setup w.history)))
-answer w b JournalCsv = Ok (csv_told (journal_csv w.entries))
+answer w b Indication = Ok (text_content (text_of_indication w.setup (indicated w.setup w.history)))
+answer w b JournalCsv = Ok (csv_content (journal_csv w.entries))
 answer w b TicketsCsv = tickets_answer w.entries
 answer w b Purge = purge_answer w.entries b
 answer w b Check = Ok (check_answer w.entries)
@@ -152,7 +152,7 @@ unless_damaged (finding.Damaged number) b = nothing
 abbrev pub outcome : Situation → ℕ → Request → Outcome
 outcome w b (Weigh key kind plate) = outcome_of (verdict (asking w key kind plate))
 outcome w b (VoidOpen key plate) = outcome_of (verdict (asking w key VoidKind plate))
-outcome w b Purge = unless_damaged (check w.entries) b
+outcome w b Purge = unless_damaged (finding_in w.entries) b
 outcome w b _ = nothing
 
 -- the entries after it: a purge keeps those from the bound on
@@ -165,16 +165,16 @@ abbrev pub entries_left : Situation → ℕ → Request → List EntryParts
 entries_left w b request = entries_after (outcome w b request) w.entries
 
 -- the spent keys after it: a purge spends those of the entries below the bound
-abbrev pub spent_after : Outcome → List EntryParts → List SpentKey → List SpentKey
-spent_after (purges b) es ks = spent_past b es ks
-spent_after _ es ks = ks
+abbrev pub spent_by_outcome : Outcome → List EntryParts → List SpentKey → List SpentKey
+spent_by_outcome (purges b) es ks = spent_past b es ks
+spent_by_outcome _ es ks = ks
 
 abbrev pub spent_left : Situation → ℕ → Request → List SpentKey
-spent_left w b request = spent_after (outcome w b request) w.entries w.spent
+spent_left w b request = spent_by_outcome (outcome w b request) w.entries w.spent
 
 -- a First, Second or Single that is added is marked on the scale as stored
 abbrev pub is_marked : Outcome → Bool
-is_marked (adds e) = not (is_void e.kind)
+is_marked (adds e) = not (is_void_kind e.kind)
 is_marked _ = false
 
 -- no bound decides what is marked

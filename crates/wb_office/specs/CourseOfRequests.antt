@@ -8,7 +8,7 @@ use Rattle.wb_store.specs.Rows.{SpentKey}
 use Rattle.wb_office.specs.declared.refusal.Refusal.{Refusal}
 use Rattle.wb_office.specs.declared.request.Request.{Request}
 use Rattle.wb_office.specs.declared.request.Request.TheVariants.{Weigh, VoidOpen}
-use Rattle.wb_office.specs.Answer.{Outcome, Told, adds, answer, asking, entries_left, outcome, spent_left}
+use Rattle.wb_office.specs.Answer.{Content, Outcome, adds, answer, asking, entries_left, outcome, spent_left}
 use Rattle.wb_office.specs.Situation.{Situation}
 use Rattle.wb_office.specs.Verdict.{Verdict, accepted, refused, repeated, verdict}
 use Rattle.wb_office.specs.Wanted.{HasBound}
@@ -40,7 +40,7 @@ pub record Journal : Type 0 where
 
 -- a request in its turn, with the setup and the scale's history as they are then, and with the bound of a purge. One that was
 -- answered 15 or that a stop broke off may have been made or not; any other is made
-pub record Turn : Type 0 where
+pub record RequestTurn : Type 0 where
   pub setup : Setup
   pub history : List Moment
   pub at : ℕ
@@ -49,37 +49,37 @@ pub record Turn : Type 0 where
   pub is_made : Bool
 
 -- what it is judged on
-abbrev pub situation : Journal → Turn → Situation
-situation j t = record { setup = t.setup; history = t.history; entries = j.entries; spent = j.spent; at = t.at }
+abbrev pub situation_of_turn : Journal → RequestTurn → Situation
+situation_of_turn j t = record { setup = t.setup; history = t.history; entries = j.entries; spent = j.spent; at = t.at }
 
-abbrev pub answer_in : Journal → Turn → Result Told Refusal
-answer_in j t = answer (situation j t) t.bound t.request
+abbrev pub answer_in : Journal → RequestTurn → Result Content Refusal
+answer_in j t = answer (situation_of_turn j t) t.bound t.request
 
 -- the journal that it leaves if it is made
-abbrev pub left : Journal → Turn → Journal
-left j t = record { entries = entries_left (situation j t) t.bound t.request; spent = spent_left (situation j t) t.bound t.request }
+abbrev pub left : Journal → RequestTurn → Journal
+left j t = record { entries = entries_left (situation_of_turn j t) t.bound t.request; spent = spent_left (situation_of_turn j t) t.bound t.request }
 
-abbrev pub after_turn : Journal → Turn → Journal
+abbrev pub after_turn : Journal → RequestTurn → Journal
 after_turn j t = if t.is_made then left j t else j
 
 -- the journal after these turns, the newest first
-abbrev pub after : Journal → List Turn → Journal
+abbrev pub after : Journal → List RequestTurn → Journal
 after j [] = j
 after j (t ∷ ts) = after_turn (after j ts) t
 
 -- purges are at their bounds
-abbrev pub AreBounds : Journal → List Turn → Type 0
+abbrev pub AreBounds : Journal → List RequestTurn → Type 0
 AreBounds j [] = Unit {0}
-AreBounds j (t ∷ ts) = HasBound t.request (situation (after j ts) t) t.bound × AreBounds j ts
+AreBounds j (t ∷ ts) = HasBound t.request (situation_of_turn (after j ts) t) t.bound × AreBounds j ts
 
 abbrev pub with_one : Option EntryParts → List EntryParts → List EntryParts
 with_one None es = es
 with_one (Some e) es = e ∷ es
 
-abbrev pub added_in_turn : Journal → Turn → Option EntryParts
-added_in_turn j t = if t.is_made then added (situation j t) t.request else None
+abbrev pub added_in_turn : Journal → RequestTurn → Option EntryParts
+added_in_turn j t = if t.is_made then added (situation_of_turn j t) t.request else None
 
 -- the entries that these turns added, the newest first
-abbrev pub additions : Journal → List Turn → List EntryParts
+abbrev pub additions : Journal → List RequestTurn → List EntryParts
 additions j [] = []
 additions j (t ∷ ts) = with_one (added_in_turn (after j ts) t) (additions j ts)

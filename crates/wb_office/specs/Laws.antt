@@ -4,8 +4,8 @@ use Rattle.std.specs.List.{list_any}
 use Rattle.wb_instrument.specs.Limits.{is_over, is_under}
 use Rattle.wb_instrument.specs.Setup.{Setup, IsSetup}
 use Rattle.wb_journal.specs.declared.entry.EntryParts.{EntryParts}
-use Rattle.wb_journal.specs.Kind.{is_closing, is_void}
-use Rattle.wb_journal.specs.Pairs.{partner}
+use Rattle.wb_journal.specs.Kind.{is_closing_kind, is_void_kind}
+use Rattle.wb_journal.specs.Pairs.{partner_in}
 use Rattle.wb_journal.specs.Rising.{IsRising}
 use Rattle.wb_scale.specs.declared.answers.Indicated.TheVariants.{Shown}
 use Rattle.wb_scale.specs.Call.{Call}
@@ -15,16 +15,16 @@ use Rattle.wb_scale.specs.Indication.{indicated}
 use Rattle.wb_scale.specs.Moment.{Moment, readings}
 use Rattle.wb_scale.specs.Steady.{IsNear}
 use Rattle.wb_scale.specs.Zero.{zero_now}
-use Rattle.wb_store.specs.Lists.{AreLists, by_key, has_key, is_spent, next_number}
+use Rattle.wb_store.specs.Lists.{AreLists, entry_by_key, has_key, is_spent, number_after}
 use Rattle.wb_office.specs.declared.refusal.Refusal.{Refusal}
 use Rattle.wb_office.specs.declared.refusal.Refusal.TheVariants as refusal
 use Rattle.wb_office.specs.declared.request.Request.{Request}
 use Rattle.wb_office.specs.declared.request.Request.TheVariants.{Purge}
-use Rattle.wb_office.specs.Answer.{IsBoundAt, Told, entries_left, has_ticket, spent_left, ticket_answer}
+use Rattle.wb_office.specs.Answer.{Content, IsBoundAt, entries_left, has_ticket, spent_left, ticket_answer}
 use Rattle.wb_office.specs.Situation.{Asking, Situation}
 use Rattle.wb_office.specs.Conditions.{is_damaged, is_other, places}
-use Rattle.wb_office.specs.CourseOfRequests.{AreBounds, Journal, Turn, added, additions, after, answer_in, answered_with, left, situation}
-use Rattle.wb_office.specs.Verdict.{first_refusal, kilograms, of_new, on_new, refused, repeated, verdict}
+use Rattle.wb_office.specs.CourseOfRequests.{AreBounds, Journal, RequestTurn, added, additions, after, answer_in, answered_with, left, situation_of_turn}
+use Rattle.wb_office.specs.Verdict.{first_refusal, kilograms_of, of_new, on_new, refused, repeated, verdict}
 
 -- ---- keys
 
@@ -33,48 +33,48 @@ abbrev pub is_taken : Journal → List ℕ → Bool
 is_taken j key = list_any (has_key key) j.entries || is_spent j.spent key
 
 -- a key, after whatever requests came, stops among them
-pub record IsAcceptedOnce (j : Journal) (ts : List Turn) (key : List ℕ) : Type 0 where
+pub record IsAcceptedOnce (j : Journal) (ts : List RequestTurn) (key : List ℕ) : Type 0 where
   -- at most one entry was added under it, and none if the key was stored or spent before
   pub once : count_by (has_key key) (additions j ts) ≤ (if is_taken j key then 0 else 1)
   -- the entry that was added under it is stored, or the key is spent
   pub for_good : AreLists j.entries j.spent → AreBounds j ts → (e : EntryParts) → Contains (additions j ts) e → e.key ≡ key
-      → (by_key (after j ts).entries key ≡ Some e) ⊎ (is_spent (after j ts).spent key ≡ true)
+      → (entry_by_key (after j ts).entries key ≡ Some e) ⊎ (is_spent (after j ts).spent key ≡ true)
 
 abbrev pub OneEntryPerKey : Type 0
-OneEntryPerKey = (j : Journal) (ts : List Turn) (key : List ℕ) → IsAcceptedOnce j ts key
+OneEntryPerKey = (j : Journal) (ts : List RequestTurn) (key : List ℕ) → IsAcceptedOnce j ts key
 
 -- ---- a request that is made again
 
 -- its entry is stored: it is answered as at first, and so is the ticket of the entry's number, if it has one
-pub record IsKept (j : Journal) (e : EntryParts) (first again : Result Told Refusal) : Type 0 where
-  pub stored : by_key j.entries e.key ≡ Some e
+pub record IsKeptEntry (j : Journal) (e : EntryParts) (first again : Result Content Refusal) : Type 0 where
+  pub stored : entry_by_key j.entries e.key ≡ Some e
   pub same : again ≡ first
   pub ticket : has_ticket e ≡ true → ticket_answer j.entries e.number ≡ first
 
 -- its entry was purged: it is refused as gone
-pub record IsGone (j : Journal) (e : EntryParts) (again : Result Told Refusal) : Type 0 where
+pub record IsGone (j : Journal) (e : EntryParts) (again : Result Content Refusal) : Type 0 where
   pub spent : is_spent j.spent e.key ≡ true
   pub gone : again ≡ Err refusal.Gone
 
 -- a request that was answered with an entry, which it added or repeated, and is made again after whatever requests and stops, at whatever
 -- moment and load: its entry is stored and it is answered as at first, or its entry was purged and it is refused as gone
 abbrev pub AnsweredAgain : Type 0
-AnsweredAgain = (j : Journal) → AreLists j.entries j.spent → (t : Turn) (e : EntryParts) → answered_with (situation j t) t.request ≡ Some e
-    → (ts : List Turn) → AreBounds (left j t) ts → (u : Turn) → u.request ≡ t.request → let now = after (left j t) ts in
-    IsKept now e (answer_in j t) (answer_in now u) ⊎ IsGone now e (answer_in now u)
+AnsweredAgain = (j : Journal) → AreLists j.entries j.spent → (t : RequestTurn) (e : EntryParts) → answered_with (situation_of_turn j t) t.request ≡ Some e
+    → (ts : List RequestTurn) → AreBounds (left j t) ts → (u : RequestTurn) → u.request ≡ t.request → let now = after (left j t) ts in
+    IsKeptEntry now e (answer_in j t) (answer_in now u) ⊎ IsGone now e (answer_in now u)
 
 -- what a request for an entry comes to by its key, whoever wrote the tables: the load and the clock are looked at only if the key is new
 pub record IsByKey (a : Asking) : Type 0 where
   -- an entry of this key, kind and plate is stored: it is repeated
-  pub repeated : (e : EntryParts) → by_key a.now.entries a.key ≡ Some e → is_other a e ≡ false → is_damaged a.now.entries e ≡ false → verdict a ≡ repeated e
+  pub repeated : (e : EntryParts) → entry_by_key a.now.entries a.key ≡ Some e → is_other a e ≡ false → is_damaged a.now.entries e ≡ false → verdict a ≡ repeated e
   -- or refused, if the entry or its partner isn't sound
-  pub damaged : (e : EntryParts) → by_key a.now.entries a.key ≡ Some e → is_other a e ≡ false → is_damaged a.now.entries e ≡ true → verdict a ≡ refused refusal.Damaged
+  pub damaged : (e : EntryParts) → entry_by_key a.now.entries a.key ≡ Some e → is_other a e ≡ false → is_damaged a.now.entries e ≡ true → verdict a ≡ refused refusal.Damaged
   -- the entry of this key is of another kind or plate
-  pub reused : (e : EntryParts) → by_key a.now.entries a.key ≡ Some e → is_other a e ≡ true → verdict a ≡ refused refusal.KeyReused
+  pub reused : (e : EntryParts) → entry_by_key a.now.entries a.key ≡ Some e → is_other a e ≡ true → verdict a ≡ refused refusal.KeyReused
   -- it was purged
   pub gone : is_spent a.now.spent a.key ≡ true → verdict a ≡ refused refusal.Gone
   -- there is none: it is judged anew
-  pub anew : by_key a.now.entries a.key ≡ None → is_spent a.now.spent a.key ≡ false → verdict a ≡ on_new a (first_refusal of_new a)
+  pub anew : entry_by_key a.now.entries a.key ≡ None → is_spent a.now.spent a.key ≡ false → verdict a ≡ on_new a (first_refusal of_new a)
 
 abbrev pub KeyDecides : Type 0
 KeyDecides = (a : Asking) → AreLists a.now.entries a.now.spent → IsByKey a
@@ -84,8 +84,8 @@ KeyDecides = (a : Asking) → AreLists a.now.entries a.now.spent → IsByKey a
 -- an entry that is added has the next number, and the one after it is the next then; no other request changes the next number
 pub record IsNumbered (w : Situation) (b : ℕ) (request : Request) : Type 0 where
   pub one : (e : EntryParts) → added w request ≡ Some e
-      → (e.number ≡ next_number w.entries w.spent) × (next_number (entries_left w b request) (spent_left w b request) ≡ e.number + 1)
-  pub none : added w request ≡ None → next_number (entries_left w b request) (spent_left w b request) ≡ next_number w.entries w.spent
+      → (e.number ≡ number_after w.entries w.spent) × (number_after (entries_left w b request) (spent_left w b request) ≡ e.number + 1)
+  pub none : added w request ≡ None → number_after (entries_left w b request) (spent_left w b request) ≡ number_after w.entries w.spent
 
 abbrev pub NumbersRun : Type 0
 NumbersRun = (w : Situation) (b : ℕ) (request : Request) → IsNumbered w b request
@@ -96,12 +96,12 @@ WithinCapacity = (w : Situation) (b : ℕ) (request : Request) → IsRising w.en
 
 -- a Second or Void is refused as journal_full only once the last number was given, never for want of places
 abbrev pub FullAtLastNumber : Type 0
-FullAtLastNumber = (a : Asking) → is_closing a.kind ≡ true → verdict a ≡ refused refusal.JournalFull → 4294967295 < next_number a.now.entries a.now.spent
+FullAtLastNumber = (a : Asking) → is_closing_kind a.kind ≡ true → verdict a ≡ refused refusal.JournalFull → 4294967295 < number_after a.now.entries a.now.spent
 
 -- a purge leaves the partner of every entry that stays
 abbrev pub KeepsPartners : Type 0
 KeepsPartners = (w : Situation) (b : ℕ) → IsRising w.entries → IsBoundAt w.setup w.entries w.spent w.at b
-    → (e : EntryParts) → Contains (entries_left w b Purge) e → partner (entries_left w b Purge) e ≡ partner w.entries e
+    → (e : EntryParts) → Contains (entries_left w b Purge) e → partner_in (entries_left w b Purge) e ≡ partner_in w.entries e
 
 -- ---- loads
 
@@ -109,7 +109,7 @@ KeepsPartners = (w : Situation) (b : ℕ) → IsRising w.entries → IsBoundAt w
 pub record IsWeighed (s : Setup) (ms : List Moment) (e : EntryParts) : Type 0 where
   pub gross : ℤ
   pub net : ℤ
-  pub stored : e.gross_kg ≡ Some (kilograms s gross)
+  pub stored : e.gross_kg ≡ Some (kilograms_of s gross)
   -- it was indicated, in stable equilibrium
   pub stable : indicated s ms ≡ Shown gross net true
   pub not_over : is_over s gross ≡ false
@@ -125,4 +125,4 @@ pub record IsWeighed (s : Setup) (ms : List Moment) (e : EntryParts) : Type 0 wh
 -- every First, Second and Single that is added
 abbrev pub AllWeighed : Type 0
 AllWeighed = (w : Situation) (calls : List Call) → IsSetup w.setup → w.history ≡ moments w.setup calls
-    → (request : Request) (e : EntryParts) → added w request ≡ Some e → is_void e.kind ≡ false → IsWeighed w.setup w.history e
+    → (request : Request) (e : EntryParts) → added w request ≡ Some e → is_void_kind e.kind ≡ false → IsWeighed w.setup w.history e

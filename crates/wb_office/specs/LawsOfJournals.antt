@@ -2,28 +2,28 @@
 use Rattle.std.specs.Prelude.{◌≡◌, ◌⊎◌, ℕ, ◌<◌, true, false, Contains, List, [], ◌∷◌, length, Some, Ok, Err}
 use Rattle.wb_journal.specs.declared.entry.EntryParts.{EntryParts}
 use Rattle.wb_journal.specs.declared.journal_check.Finding.TheVariants.{Sound}
-use Rattle.wb_journal.specs.Check.{check}
-use Rattle.wb_journal.specs.Kind.{is_closing}
+use Rattle.wb_journal.specs.Check.{finding_in}
+use Rattle.wb_journal.specs.Kind.{is_closing_kind}
 use Rattle.wb_journal.specs.Moment.{day_of}
-use Rattle.wb_journal.specs.Pairs.{partner, with_number}
+use Rattle.wb_journal.specs.Pairs.{partner_in, with_number}
 use Rattle.wb_journal.specs.Retention.{IsOfAge}
 use Rattle.wb_store.specs.Lists.{AreLists}
 use Rattle.wb_office.specs.declared.refusal.Refusal.{Refusal}
 use Rattle.wb_office.specs.declared.request.Request.{Request}
 use Rattle.wb_office.specs.declared.request.Request.TheVariants.{Purge}
 use Rattle.wb_store.specs.Purging.{spent_by}
-use Rattle.wb_office.specs.Answer.{IsBoundAt, Told, answer, entries_left, marks, spent_left, ticket_answer}
+use Rattle.wb_office.specs.Answer.{Content, IsBoundAt, answer, entries_left, marks, spent_left, ticket_answer}
 use Rattle.wb_office.specs.Situation.{Situation}
-use Rattle.wb_office.specs.CourseOfRequests.{AreBounds, Journal, Turn, additions, after}
+use Rattle.wb_office.specs.CourseOfRequests.{AreBounds, Journal, RequestTurn, additions, after}
 
 -- the check finds no damage
 abbrev pub AreSound : List EntryParts → Type 0
-AreSound es = check es ≡ Sound (length es)
+AreSound es = finding_in es ≡ Sound (length es)
 
 -- ---- an entry
 
 -- a purge takes the entry out: it was made of a sound journal in which the entry stood, below the bound on that day, and of age
-pub record TakesOut (j : Journal) (t : Turn) (e : EntryParts) : Type 0 where
+pub record TakesOut (j : Journal) (t : RequestTurn) (e : EntryParts) : Type 0 where
   pub is_made : t.is_made ≡ true
   pub asked : t.request ≡ Purge
   pub sound : AreSound j.entries
@@ -33,11 +33,11 @@ pub record TakesOut (j : Journal) (t : Turn) (e : EntryParts) : Type 0 where
   pub of_age : IsOfAge (day_of t.at) t.setup.retention_days e
 
 -- one of these turns takes it out
-abbrev pub IsTakenOut : Journal → List Turn → EntryParts → Type 0
+abbrev pub IsTakenOut : Journal → List RequestTurn → EntryParts → Type 0
 IsTakenOut j [] e = ⊥
 IsTakenOut j (t ∷ ts) e = TakesOut (after j ts) t e ⊎ IsTakenOut j ts e
 
-pub record IsKeptForItsTime (j : Journal) (ts : List Turn) (e : EntryParts) : Type 0 where
+pub record IsKeptForItsTime (j : Journal) (ts : List RequestTurn) (e : EntryParts) : Type 0 where
   -- it stands unchanged, unless one of the turns takes it out
   pub stands : Contains (after j ts).entries e ⊎ IsTakenOut j ts e
   -- and after that turn its key is spent, with its number
@@ -45,11 +45,11 @@ pub record IsKeptForItsTime (j : Journal) (ts : List Turn) (e : EntryParts) : Ty
 
 -- an entry that stood at the opening, or that one of the turns added, is kept for its time
 abbrev pub KeptForItsTime : Type 0
-KeptForItsTime = (j : Journal) (ts : List Turn) (e : EntryParts) → AreBounds j ts → Contains j.entries e ⊎ Contains (additions j ts) e → IsKeptForItsTime j ts e
+KeptForItsTime = (j : Journal) (ts : List RequestTurn) (e : EntryParts) → AreBounds j ts → Contains j.entries e ⊎ Contains (additions j ts) e → IsKeptForItsTime j ts e
 
 -- a ticket that was given is given again with the same text, unless one of the turns takes its entry out
 abbrev pub TicketGivenAgain : Type 0
-TicketGivenAgain = (j : Journal) (ts : List Turn) → AreLists j.entries j.spent → AreBounds j ts → (number : ℕ) (text : Told) → ticket_answer j.entries number ≡ Ok text
+TicketGivenAgain = (j : Journal) (ts : List RequestTurn) → AreLists j.entries j.spent → AreBounds j ts → (number : ℕ) (text : Content) → ticket_answer j.entries number ≡ Ok text
     → (ticket_answer (after j ts).entries number ≡ Ok text) ⊎ ((e : EntryParts) × (with_number number j.entries ≡ Some e) × IsTakenOut j ts e)
 
 -- ---- a refusal
@@ -67,13 +67,13 @@ RefusalsChangeNothing = (w : Situation) (b : ℕ) (request : Request) (why : Ref
 
 -- a First is closed at most once, whoever wrote the entries: two of them whose partner it is have the same number
 abbrev pub FirstsClosedOnce : Type 0
-FirstsClosedOnce = (es : List EntryParts) (f s t : EntryParts) → Contains es s → partner es s ≡ Some f → Contains es t → partner es t ≡ Some f → s.number ≡ t.number
+FirstsClosedOnce = (es : List EntryParts) (f s t : EntryParts) → Contains es s → partner_in es s ≡ Some f → Contains es t → partner_in es t ≡ Some f → s.number ≡ t.number
 
 -- a Second or Void that one of the turns added has its partner as long as it is stored
 abbrev pub ClosingsHavePartners : Type 0
-ClosingsHavePartners = (j : Journal) (ts : List Turn) → AreLists j.entries j.spent → AreBounds j ts → (e : EntryParts)
-    → Contains (additions j ts) e → is_closing e.kind ≡ true → Contains (after j ts).entries e → (f : EntryParts) × (partner (after j ts).entries e ≡ Some f)
+ClosingsHavePartners = (j : Journal) (ts : List RequestTurn) → AreLists j.entries j.spent → AreBounds j ts → (e : EntryParts)
+    → Contains (additions j ts) e → is_closing_kind e.kind ≡ true → Contains (after j ts).entries e → (f : EntryParts) × (partner_in (after j ts).entries e ≡ Some f)
 
 -- a journal in which the check finds no damage stays so
 abbrev pub StaysSound : Type 0
-StaysSound = (j : Journal) (ts : List Turn) → AreLists j.entries j.spent → AreBounds j ts → AreSound j.entries → AreSound (after j ts).entries
+StaysSound = (j : Journal) (ts : List RequestTurn) → AreLists j.entries j.spent → AreBounds j ts → AreSound j.entries → AreSound (after j ts).entries

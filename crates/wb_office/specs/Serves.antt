@@ -4,36 +4,36 @@ use Rattle.sqlite.specs.Store.{Ghosts}
 use Rattle.wb_journal.specs.declared.entry.EntryParts.{EntryParts}
 use Rattle.wb_scale.specs.Call.{Call, stored}
 use Rattle.wb_scale.specs.History.{moments}
-use Rattle.wb_scale.specs.Stands.{Stands as StandsAfter, Takes}
+use Rattle.wb_scale.specs.Stands.{ScaleStands, ScaleTakes}
 use Rattle.wb_scale.specs.State.{State}
 use Rattle.wb_store.specs.declared.fault.StoreFault.{StoreFault}
 use Rattle.wb_store.specs.declared.fault.StoreFault.TheVariants.{Closed, Foreign}
 use Rattle.wb_store.specs.Faults.{is_disk}
-use Rattle.wb_store.specs.Journal.{IsHonest, StoreView, Stands}
+use Rattle.wb_store.specs.Journal.{IsHonest, StoreView, StoreStands}
 use Rattle.wb_store.specs.Keeping.{LeavesEither, LeavesOnly}
 use Rattle.wb_store.specs.Rows.{SpentKey}
 use Rattle.wb_office.specs.declared.answer.Answer.{Answer}
 use Rattle.wb_office.specs.declared.answer.Answer.TheVariants.{Slip, Ticket, Text, Csv, Purged, Sound, Damaged}
 use Rattle.wb_office.specs.declared.refusal.Refusal.{Refusal}
 use Rattle.wb_office.specs.declared.refusal.Refusal.TheVariants.{Store}
-use Rattle.wb_office.specs.Answer.{Told, csv_told, damaged_told, purged_told, slip_told, sound_told, text_told, ticket_told}
+use Rattle.wb_office.specs.Answer.{Content, csv_content, damaged_content, purged_content, slip_content, sound_content, text_content, ticket_content}
 use Rattle.wb_office.specs.Situation.{Situation}
 use Rattle.wb_office.specs.Conditions.{holds_of}
 use Rattle.wb_office.specs.Wanted.{Wanted}
 
 -- what an answer tells
-abbrev pub told : Answer → Told
-told (Slip text) = slip_told text.bytes
-told (Ticket text) = ticket_told text.bytes
-told (Text text) = text_told text.bytes
-told (Csv text) = csv_told text
-told (Purged count) = purged_told count
-told (Sound count) = sound_told count
-told (Damaged number) = damaged_told number
+abbrev pub content_of : Answer → Content
+content_of (Slip text) = slip_content text.bytes
+content_of (Ticket text) = ticket_content text.bytes
+content_of (Text text) = text_content text.bytes
+content_of (Csv text) = csv_content text
+content_of (Purged count) = purged_content count
+content_of (Sound count) = sound_content count
+content_of (Damaged number) = damaged_content number
 
-abbrev pub told_of : Result Answer Refusal → Result Told Refusal
-told_of (Ok answer) = Ok (told answer)
-told_of (Err why) = Err why
+abbrev pub contents_of : Result Answer Refusal → Result Content Refusal
+contents_of (Ok answer) = Ok (content_of answer)
+contents_of (Err why) = Err why
 
 -- the fault of the store for which it is refused
 abbrev pub fault_of_refusal : Refusal → Option StoreFault
@@ -51,49 +51,49 @@ is_store_refusal (Err why) = is_of_store why
 abbrev pub closes_store : Refusal → Bool
 closes_store why = holds_of is_disk (fault_of_refusal why)
 
-abbrev pub closed_by : Bool → Result Answer Refusal → Bool
-closed_by was (Ok answer) = was
-closed_by was (Err why) = was || closes_store why
+abbrev pub is_closed_after : Bool → Result Answer Refusal → Bool
+is_closed_after was (Ok answer) = was
+is_closed_after was (Err why) = was || closes_store why
 
 -- the scale stands after the history of the situation, which has its setup
 pub record IsNow (scale : State) (at : ℕ) (w : Situation) : Type 0 where
   pub setup : w.setup ≡ scale.setup
   pub calls : List Call
-  pub stands : StandsAfter scale calls
+  pub stands : ScaleStands scale calls
   pub history : w.history ≡ moments scale.setup calls
   pub moment : w.at ≡ at
 
 -- a stored weighing is marked on the scale, and nothing else changes it
 abbrev pub Marks : State → State → Bool → Type 0
-Marks before after true = Takes before after stored
+Marks before after true = ScaleTakes before after stored
 Marks before after false = after ≡ before
 
 module _ {D : Type 0} (g : Ghosts D) (old new : StoreView D) (before after : State) (at : ℕ) (result : Result Answer Refusal) where
   -- it is answered as is wanted, and what is wanted is left
-  pub record Leaves (want : Wanted) : Type 0 where
-    pub answered : told_of result ≡ want.answer
-    pub stands : Stands g new want.entries want.spent
+  pub record LeavesWanted (want : Wanted) : Type 0 where
+    pub answered : contents_of result ≡ want.answer
+    pub stands : StoreStands g new want.entries want.spent
     pub only : LeavesOnly g new want.entries want.spent
     pub marked : Marks before after want.marks
 
   -- a request that asks the store
   pub record Serves (IsWanted : Situation → Wanted → Type 0) : Type 0 where
     -- unless the store refuses, it is answered as is wanted
-    pub judged : (w : Situation) → IsNow before at w → Stands g old w.entries w.spent → IsHonest g new → is_store_refusal result ≡ false
-        → (want : Wanted) × IsWanted w want × Leaves want
+    pub judged : (w : Situation) → IsNow before at w → StoreStands g old w.entries w.spent → IsHonest g new → is_store_refusal result ≡ false
+        → (want : Wanted) × IsWanted w want × LeavesWanted want
     -- if the store refuses, the scale is as before, and so are the lists unless the store was closed
     pub unmarked : is_store_refusal result ≡ true → after ≡ before
-    pub kept : (es : List EntryParts) (ks : List SpentKey) → Stands g old es ks → IsHonest g new → is_store_refusal result ≡ true → new.is_closed ≡ false
-        → Stands g new es ks × LeavesOnly g new es ks
+    pub kept : (es : List EntryParts) (ks : List SpentKey) → StoreStands g old es ks → IsHonest g new → is_store_refusal result ≡ true → new.is_closed ≡ false
+        → StoreStands g new es ks × LeavesOnly g new es ks
     -- a crash leaves the lists before, or those that are wanted
-    pub leaves : (w : Situation) → IsNow before at w → Stands g old w.entries w.spent → IsHonest g new → (want : Wanted) → IsWanted w want
+    pub leaves : (w : Situation) → IsNow before at w → StoreStands g old w.entries w.spent → IsHonest g new → (want : Wanted) → IsWanted w want
         → LeavesEither g new w.entries w.spent want.entries want.spent
     -- the rows of a store that stands are never called Foreign
-    pub known : (es : List EntryParts) (ks : List SpentKey) → Stands g old es ks → IsHonest g new → result ≢ Err (Store Foreign)
+    pub known : (es : List EntryParts) (ks : List SpentKey) → StoreStands g old es ks → IsHonest g new → result ≢ Err (Store Foreign)
     -- a closed store is answered Closed, and nothing else is
     pub closed : (result ≡ Err (Store Closed)) ↔ (old.is_closed ≡ true)
     pub still : old.is_closed ≡ true → new ≡ old
-    pub closes : new.is_closed ≡ closed_by old.is_closed result
+    pub closes : new.is_closed ≡ is_closed_after old.is_closed result
     pub honest : IsHonest g new → IsHonest g old
     -- the scale is as before, or takes a stored weighing
     pub scale : (marks : Bool) × Marks before after marks

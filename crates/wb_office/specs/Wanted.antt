@@ -2,7 +2,7 @@
 use Rattle.std.specs.Prelude.{◌≡◌, ℕ, Bool, true, false, ◌==◌, not, List, Result}
 use Rattle.wb_office.specs.declared.request.Request.{Request}
 use Rattle.wb_office.specs.declared.request.Request.TheVariants.{Ticket, Indication, Purge}
-use Rattle.wb_office.specs.Answer.{IsBoundAt, answer, entries_left, marks, spent_left, Told}
+use Rattle.wb_office.specs.Answer.{IsBoundAt, answer, entries_left, marks, spent_left, Content}
 use Rattle.wb_office.specs.Situation.{Situation}
 use Rattle.wb_journal.specs.declared.entry.EntryParts.{EntryParts}
 use Rattle.wb_store.specs.Rows.{SpentKey}
@@ -10,7 +10,7 @@ use Rattle.wb_office.specs.declared.refusal.Refusal.{Refusal}
 
 -- what is wanted in a situation: an answer, the lists that it leaves, and whether the scale is marked
 pub record Wanted : Type 0 where
-  pub answer : Result Told Refusal
+  pub answer : Result Content Refusal
   pub entries : List EntryParts
   pub spent : List SpentKey
   pub marks : Bool

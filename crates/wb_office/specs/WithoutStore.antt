@@ -3,20 +3,20 @@ use Rattle.std.specs.Prelude.{◌≡◌, ℕ, List, Result, Ok, Err}
 use Rattle.wb_scale.specs.Call.{Call}
 use Rattle.wb_scale.specs.History.{moments}
 use Rattle.wb_scale.specs.Indication.{indicated}
-use Rattle.wb_scale.specs.Stands.{Stands}
+use Rattle.wb_scale.specs.Stands.{ScaleStands}
 use Rattle.wb_scale.specs.State.{State}
 use Rattle.wb_office.specs.declared.answer.Answer.{Answer}
 use Rattle.wb_office.specs.declared.refusal.Refusal.{Refusal}
 use Rattle.wb_office.specs.declared.refusal.Refusal.TheVariants.{NoTicket}
 use Rattle.wb_office.specs.declared.request.Request.{Request}
 use Rattle.wb_office.specs.declared.request.Request.TheVariants.{Ticket, Indication}
-use Rattle.wb_office.specs.Answer.{indication_text, text_told}
-use Rattle.wb_office.specs.Serves.{told_of}
+use Rattle.wb_office.specs.Answer.{text_content, text_of_indication}
+use Rattle.wb_office.specs.Serves.{contents_of}
 
 -- an indication is that of the scale, and no ticket has the number 0; the other requests ask the store
 abbrev pub Outright : State → Request → Result Answer Refusal → Type 0
 Outright scale (Ticket number) result = result ≡ Err NoTicket
 Outright scale Indication result =
-    (text : List ℕ) × (told_of result ≡ Ok (text_told text))
-    × ((calls : List Call) → Stands scale calls → text ≡ indication_text scale.setup (indicated scale.setup (moments scale.setup calls)))
+    (text : List ℕ) × (contents_of result ≡ Ok (text_content text))
+    × ((calls : List Call) → ScaleStands scale calls → text ≡ text_of_indication scale.setup (indicated scale.setup (moments scale.setup calls)))
 Outright scale _ result = Unit {0}

@@ -1,8 +1,8 @@
 //! The text of an indication.
 ghost use Rattle.arrayvec.specs.ArrayString.{array_string_len};
 ghost use Rattle.std.specs.Prelude.{◌≡◌, ◌≤◌, length};
-ghost use Rattle.wb_office.specs.Answer.{indication_text as indication_text_of, motion as motion_of, weights_text};
-ghost use Rattle.wb_scale.specs.Indication.{IsInRange};
+ghost use Rattle.wb_office.specs.Answer.{motion_word, text_of_indication, weights_text};
+ghost use Rattle.wb_scale.specs.Indication.{IsIndicationInRange};
 
 use arrayvec::ArrayString;
 use wb_instrument::{Instrument, weight_field};
@@ -10,8 +10,8 @@ use wb_scale::Indicated;
 
 /// Gross and net in kilograms, or why there are none.
 pub(crate) fn indication_text(instrument: &Instrument, indicated: Indicated) -> ArrayString<512>
-    requires { IsInRange instrument.now indicated }
-    ensures { result.bytes ≡ indication_text_of instrument.now indicated }
+    requires { IsIndicationInRange instrument.now indicated }
+    ensures { result.bytes ≡ text_of_indication instrument.now indicated }
 {
     match indicated {
         Indicated::NoLoad => text_of("NO LOAD"),
@@ -47,7 +47,7 @@ fn weights(stable: bool, gross_kg: i32, net_kg: i32) -> ArrayString<512>
 }
 
 fn motion(stable: bool) -> &'static str
-    ensures value { result.now ≡ motion_of stable }
+    ensures value { result.now ≡ motion_word stable }
     ensures fits { length result.now ≤ 6 }
 {
     if stable { "STABLE" } else { "MOVING" }

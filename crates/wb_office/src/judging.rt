@@ -1,17 +1,17 @@
 //! The judgement of a weighing or void: by its key, and if the key is new by the conditions of `conditions.rt`.
 ghost use Rattle.std.specs.Prelude.{◌≡◌, IfOk, None, Some, false, not, true};
 ghost use Rattle.std.specs.Option.{option_copied};
-ghost use Rattle.wb_journal.specs.Digest.{is_sound as is_sound_entry};
+ghost use Rattle.wb_journal.specs.Digest.{is_sound_entry};
 ghost use Rattle.wb_journal.specs.Pairs.{partner_of};
 ghost use Rattle.wb_office.specs.Situation.{Asking, IsOnLists};
-ghost use Rattle.wb_office.specs.Conditions.{gone, holds_of, is_other};
+ghost use Rattle.wb_office.specs.Conditions.{holds_of, is_other, key_gone};
 ghost use Rattle.wb_office.specs.helpers.Partners.{is_damaged_with};
-ghost use Rattle.wb_office.specs.helpers.JudgedByVerdict.{AsksFor, IsJudged, IsOnScale, is_plain};
+ghost use Rattle.wb_office.specs.helpers.JudgedByVerdict.{AsksFor, IsOnScale, MeetsVerdict, is_plain};
 ghost use Rattle.wb_office.specs.helpers.LookUps.{LooksUp};
 ghost use Rattle.wb_office.specs.helpers.EvidenceShown.{Shows, ShowsScale};
-ghost use Rattle.wb_scale.specs.Indication.{IsInRange};
+ghost use Rattle.wb_scale.specs.Indication.{IsIndicationInRange};
 ghost use Rattle.wb_scale.specs.Tare.{IsTare};
-ghost use Rattle.wb_store.specs.Lists.{AreLists, by_key};
+ghost use Rattle.wb_store.specs.Lists.{AreLists, entry_by_key};
 
 use crate::conditions::is_second;
 use crate::evidence::{Evidence, OfScale};
@@ -48,8 +48,8 @@ pub(crate) enum Judgement {
 fn judge_repetition(entry: Entry, partner: Option<Entry>, asked: &Asked) -> Judgement
     ensures plain { is_plain result ≡ true }
     ensures judged { (a : Asking) → AsksFor asked.now a → AreLists a.now.entries a.now.spent
-        → by_key a.now.entries a.key ≡ Some entry
-        → partner ≡ partner_of a.now.entries entry.number → IsJudged result a }
+        → entry_by_key a.now.entries a.key ≡ Some entry
+        → partner ≡ partner_of a.now.entries entry.number → MeetsVerdict result a }
 {
     if !is_same(&entry, asked) {
         return Judgement::Refused(Refusal::KeyReused);
@@ -91,7 +91,7 @@ pub(crate) fn judge<W: Window, D: Alter>(
     asked: Asked,
 ) -> Result<Judgement, StoreFault>
     ensures looks { LooksUp D.Store store.old store.new result (λ es ks judgement. (a : Asking)
-        → AsksFor asked a → IsOnScale scale.now a → IsOnLists es ks a → IsJudged judgement a) }
+        → AsksFor asked a → IsOnScale scale.now a → IsOnLists es ks a → MeetsVerdict judgement a) }
     ensures plain { IfOk result (λ judgement. is_plain judgement ≡ true) }
 {
     match store.by_key(&asked.key)? {
@@ -111,7 +111,7 @@ fn judge_new<W: Window, D: Alter>(
 ) -> Result<Judgement, StoreFault>
     ensures looks { LooksUp D.Store store.old store.new result (λ es ks judgement. (a : Asking)
         → AsksFor asked a → IsOnScale scale.now a → IsOnLists es ks a
-        → by_key a.now.entries a.key ≡ None → IsJudged judgement a) }
+        → entry_by_key a.now.entries a.key ≡ None → MeetsVerdict judgement a) }
     ensures plain { IfOk result (λ judgement. is_plain judgement ≡ true) }
 {
     if store.spent(&asked.key)? {
@@ -132,7 +132,7 @@ fn judge_new<W: Window, D: Alter>(
 /// What the scale shows.
 fn shown<W: Window>(scale: &Scale<W>) -> OfScale
     ensures shows { (a : Asking) → IsOnScale scale.now a → ShowsScale result a.now }
-    ensures load { IsInRange scale.now.setup result.indicated }
+    ensures load { IsIndicationInRange scale.now.setup result.indicated }
     ensures tare { IsTare scale.now.setup result.tare }
 {
     OfScale {
@@ -144,11 +144,11 @@ fn shown<W: Window>(scale: &Scale<W>) -> OfScale
 
 /// Judges what the scale and the journal show.
 fn judge_evidence(instrument: &Instrument, evidence: Evidence, asked: Asked) -> Judgement
-    requires load { IsInRange instrument.now evidence.scale.indicated }
+    requires load { IsIndicationInRange instrument.now evidence.scale.indicated }
     requires tare { IsTare instrument.now evidence.scale.tare }
     ensures plain { is_plain result ≡ true }
     ensures judged { (a : Asking) → AsksFor asked a → a.now.setup ≡ instrument.now → Shows evidence a
-        → by_key a.now.entries a.key ≡ None → gone a ≡ false → IsJudged result a }
+        → entry_by_key a.now.entries a.key ≡ None → key_gone a ≡ false → MeetsVerdict result a }
 {
     if let Some(refusal) = evidence.refusal() {
         return Judgement::Refused(refusal);

@@ -6,7 +6,7 @@ ghost use Rattle.wb_office.specs.Wanted.{IsWanted, asks_store};
 
 use crate::answer::Answer;
 use crate::checking::answer_check;
-use crate::exporting::{answer_journal, answer_tickets};
+use crate::export_answers::{answer_journal, answer_tickets};
 use crate::indication::indication_text;
 use crate::judging::Asked;
 use crate::purging::answer_purge;

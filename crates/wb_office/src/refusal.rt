@@ -1,6 +1,6 @@
 //! Why the office refuses.
 ghost use Rattle.std.specs.Prelude.{◌≡◌};
-ghost use Rattle.wb_office.specs.RefusalText.{number as number_of, name as name_of};
+ghost use Rattle.wb_office.specs.RefusalText.{refusal_number, refusal_name};
 
 use std::error::Error;
 use std::fmt::{self, Display};
@@ -48,7 +48,7 @@ pub enum Refusal {
 impl Refusal {
     /// The number, 1 to 17.
     pub fn number(self) -> u32
-        ensures { result ≡ number_of self }
+        ensures { result ≡ refusal_number self }
     {
         match self {
             Refusal::KeyReused => 1,
@@ -73,7 +73,7 @@ impl Refusal {
 
     /// The name, in small letters.
     pub fn name(self) -> &'static str
-        ensures { result.now ≡ name_of self }
+        ensures { result.now ≡ refusal_name self }
     {
         match self {
             Refusal::KeyReused => "key_reused",

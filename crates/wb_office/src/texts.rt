@@ -1,11 +1,11 @@
 //! The text of an entry.
 ghost use Rattle.std.specs.Option.{option_copied};
 ghost use Rattle.std.specs.Prelude.{◌≡◌, IfOk, IsOk, List, true};
-ghost use Rattle.wb_journal.specs.Kind.{is_second};
-ghost use Rattle.wb_journal.specs.Pairs.{partner as partner_of};
+ghost use Rattle.wb_journal.specs.Kind.{is_second_kind};
+ghost use Rattle.wb_journal.specs.Pairs.{partner_in};
 ghost use Rattle.wb_journal.specs.declared.entry.EntryParts.{EntryParts};
-ghost use Rattle.wb_office.specs.Answer.{text_of as text_told};
-ghost use Rattle.wb_office.specs.Serves.{told};
+ghost use Rattle.wb_office.specs.Answer.{entry_content};
+ghost use Rattle.wb_office.specs.Serves.{content_of};
 
 use crate::answer::Answer;
 use std::alloc::AllocError;
@@ -15,8 +15,8 @@ use wb_journal::{Entry, Kind, slip_text, ticket_text};
 pub(crate) fn text_of(entry: &Entry, partner: Option<&Entry>) -> Result<Answer, AllocError>
     ensures succeeds { IsOk result }
     ensures value { (es : List EntryParts)
-        → (is_second entry.now.kind ≡ true → option_copied partner.entry ≡ partner_of es entry.now)
-        → IfOk result (λ answer. told answer ≡ text_told es entry.now entry.now.kind) }
+        → (is_second_kind entry.now.kind ≡ true → option_copied partner.entry ≡ partner_in es entry.now)
+        → IfOk result (λ answer. content_of answer ≡ entry_content es entry.now entry.now.kind) }
 {
     match entry.kind() {
         Kind::First | Kind::Void => Ok(Answer::Slip(slip_text(entry)?)),

@@ -6,7 +6,7 @@ ghost use Rattle.wb_office.specs.Exports.{of_both, pair_record, preset_record, r
 ghost use Rattle.wb_office.specs.helpers.ExportRecord.{record_text};
 
 use crate::answer::CsvText;
-use crate::export::{Export, Fields};
+use crate::csv_records::{Export, Fields};
 use std::alloc::{AllocError, Global};
 use wb_journal::{Entry, Kind, net, partner_at, text_of_moment};
 

@@ -9,8 +9,8 @@ use Rattle.std.proofs.lemmas.List.Elements.{All-weaker}
 use Rattle.std.proofs.lemmas.List.Splits.{slice_split_at}
 use Rattle.std.proofs.lemmas.List.Sums.{AllPass-from_list_all}
 use Rattle.wb_program.specs.PrintedOutputs.{body_lines, is_empty_line, printed_lines, printed_response, status_of}
-use Rattle.wb_station.specs.Faults.{status}
-use Rattle.wb_station.specs.Response.{Told, allow_line, length_lines, media_type, phrase, response_text, status_line, told, type_lines}
+use Rattle.wb_station.specs.Faults.{fault_status}
+use Rattle.wb_station.specs.Response.{ResponseContent, allow_line_text, length_lines, media_type_text, phrase_of_status, response_content, response_text, status_line, type_lines}
 use Rattle.wb_station.specs.Routes.{method_text}
 use Rattle.wb_station.specs.declared.fault.Method.{Method}
 use Rattle.wb_program.proofs.FirstLine.{line_feed, some_parts}
@@ -46,7 +46,7 @@ body_lines-body body = ap (after_first is_empty_line) (some_parts (codes "\r") b
 body_lines-connection : (body : List ℕ) → body_lines (codes "Connection: close\r\n\r\n" ++ body) ≡ lines body
 body_lines-connection body = body_lines-next (codes "Connection: close") (codes "\r\n" ++ body) (known refl) refl ∙ body_lines-body body
 
-body_lines-allow : (allow : Option Method) (body : List ℕ) → body_lines (allow_line allow ++ (codes "Connection: close\r\n\r\n" ++ body)) ≡ lines body
+body_lines-allow : (allow : Option Method) (body : List ℕ) → body_lines (allow_line_text allow ++ (codes "Connection: close\r\n\r\n" ++ body)) ≡ lines body
 body_lines-allow None body = body_lines-connection body
 body_lines-allow (Some method) body =
     body_lines-next (codes "Allow: " ++ method_text method) (codes "Connection: close\r\n\r\n" ++ body) (joined (known {text = codes "Allow: "} refl) (one_line-method method)) refl ∙ body_lines-connection body
@@ -56,8 +56,8 @@ unfolding length_lines
 body_lines-length size allow body =
     let text = codes "Content-Length: " ++ decimal size in
     let last = codes "Connection: close\r\n\r\n" in
-    ap body_lines (append_assoc (text ++ codes "\r\n" ++ allow_line allow) last body ∙ append_assoc (text ++ codes "\r\n") (allow_line allow) (last ++ body))
-    ∙ body_lines-next text (allow_line allow ++ (last ++ body)) (joined (known {text = codes "Content-Length: "} refl) (one_line-decimal size)) refl
+    ap body_lines (append_assoc (text ++ codes "\r\n" ++ allow_line_text allow) last body ∙ append_assoc (text ++ codes "\r\n") (allow_line_text allow) (last ++ body))
+    ∙ body_lines-next text (allow_line_text allow ++ (last ++ body)) (joined (known {text = codes "Content-Length: "} refl) (one_line-decimal size)) refl
     ∙ body_lines-allow allow body
 
 append-four : (a b c d rest : List ℕ) → a ++ b ++ c ++ d ++ rest ≡ a ++ (b ++ c ++ d ++ rest)
@@ -67,32 +67,32 @@ body_lines-type : (csv : Bool) (date rest : List ℕ) → OneLine date → body_
 unfolding type_lines
 body_lines-type csv date rest h =
     let line = codes "Date: " ++ date in
-    let type = codes "Content-Type: " ++ media_type csv in
-    let parted : line ++ codes "\r\nContent-Type: " ++ media_type csv ++ codes "\r\n" ++ rest ≡ line ++ codes "\r\n" ++ (type ++ codes "\r\n" ++ rest)
-    = append-four line (codes "\r\nContent-Type: ") (media_type csv) (codes "\r\n") rest ∙ sym (append_assoc line (codes "\r\n") (type ++ codes "\r\n" ++ rest)) in
+    let type = codes "Content-Type: " ++ media_type_text csv in
+    let parted : line ++ codes "\r\nContent-Type: " ++ media_type_text csv ++ codes "\r\n" ++ rest ≡ line ++ codes "\r\n" ++ (type ++ codes "\r\n" ++ rest)
+    = append-four line (codes "\r\nContent-Type: ") (media_type_text csv) (codes "\r\n") rest ∙ sym (append_assoc line (codes "\r\n") (type ++ codes "\r\n" ++ rest)) in
     ap body_lines parted
     ∙ body_lines-next line (type ++ codes "\r\n" ++ rest) (joined (known {text = codes "Date: "} refl) h) refl
     ∙ body_lines-next type rest (joined (known {text = codes "Content-Type: "} refl) (one_line-media csv)) refl
 
-body_lines-status : (status : ℕ) (rest : List ℕ) → OneLine (phrase status) → body_lines (status_line status ++ rest) ≡ body_lines rest
+body_lines-status : (status : ℕ) (rest : List ℕ) → OneLine (phrase_of_status status) → body_lines (status_line status ++ rest) ≡ body_lines rest
 unfolding status_line
 body_lines-status status rest h =
-    body_lines-next (codes "HTTP/1.1 " ++ decimal status ++ codes " " ++ phrase status) rest
+    body_lines-next (codes "HTTP/1.1 " ++ decimal status ++ codes " " ++ phrase_of_status status) rest
     (joined (joined (joined (known {text = codes "HTTP/1.1 "} refl) (one_line-decimal status)) (known {text = codes " "} refl)) h) refl
 
 status_of-status : (status : ℕ) (rest : List ℕ) → status_of (status_line status ++ rest) ≡ decimal status
 unfolding status_line
 status_of-status status rest =
-    let parted : status_line status ++ rest ≡ codes "HTTP/1.1 " ++ (decimal status ++ (32 ∷ (phrase status ++ (codes "\r\n" ++ rest)))) = simp append_assoc refl in
-    ap status_of parted ∙ first_word-decimal status (phrase status ++ (codes "\r\n" ++ rest))
+    let parted : status_line status ++ rest ≡ codes "HTTP/1.1 " ++ (decimal status ++ (32 ∷ (phrase_of_status status ++ (codes "\r\n" ++ rest)))) = simp append_assoc refl in
+    ap status_of parted ∙ first_word-decimal status (phrase_of_status status ++ (codes "\r\n" ++ rest))
 
-pub prints : (told : Told) (date : List ℕ) → OneLine (phrase told.status) → OneLine date
-    → printed_response (response_text told date) ≡ codes "o " ++ decimal told.status ++ codes "\n" ++ printed_lines (lines told.body)
+pub prints : (content : ResponseContent) (date : List ℕ) → OneLine (phrase_of_status content.status) → OneLine date
+    → printed_response (response_text content date) ≡ codes "o " ++ decimal content.status ++ codes "\n" ++ printed_lines (lines content.body)
 unfolding response_text
-prints told date h k =
-    let size = length_lines (length told.body) told.allow in
-    let type = type_lines told.csv date in
-    let parted : response_text told date ≡ status_line told.status ++ (type ++ (size ++ told.body)) = append_assoc (status_line told.status ++ type) size told.body ∙ append_assoc (status_line told.status) type (size ++ told.body) in
-    let status = ap status_of parted ∙ status_of-status told.status (type ++ (size ++ told.body)) in
-    let body = ap body_lines parted ∙ body_lines-status told.status (type ++ (size ++ told.body)) h ∙ body_lines-type told.csv date (size ++ told.body) k ∙ body_lines-length (length told.body) told.allow told.body in
+prints content date h k =
+    let size = length_lines (length content.body) content.allow in
+    let type = type_lines content.csv date in
+    let parted : response_text content date ≡ status_line content.status ++ (type ++ (size ++ content.body)) = append_assoc (status_line content.status ++ type) size content.body ∙ append_assoc (status_line content.status) type (size ++ content.body) in
+    let status = ap status_of parted ∙ status_of-status content.status (type ++ (size ++ content.body)) in
+    let body = ap body_lines parted ∙ body_lines-status content.status (type ++ (size ++ content.body)) h ∙ body_lines-type content.csv date (size ++ content.body) k ∙ body_lines-length (length content.body) content.allow content.body in
     rw (status, body) refl

@@ -19,14 +19,14 @@ use Rattle.wb_office.specs.declared.refusal.Refusal.{Refusal}
 use Rattle.wb_office.specs.declared.refusal.Refusal.TheVariants as refusal
 use Rattle.wb_office.specs.declared.request.Request.{Request}
 use Rattle.wb_office.specs.declared.request.Request.TheVariants as request
-use Rattle.wb_office.specs.Answer.{Told as Answered}
-use Rattle.wb_office.specs.Serves.{told_of}
+use Rattle.wb_office.specs.Answer.{Content}
+use Rattle.wb_office.specs.Serves.{contents_of}
 use Rattle.wb_station.specs.declared.fault.HttpFault.{HttpFault}
 use Rattle.wb_station.specs.declared.fault.HttpFault.TheVariants.{BadField, HeadTooLarge, Malformed, Memory, NoLength, NoRoute, TooLarge, WrongMethod}
 use Rattle.wb_station.specs.declared.outcome.Outcome.{Outcome}
 use Rattle.wb_station.specs.declared.outcome.Outcome.TheVariants.{Fault, Office}
-use Rattle.wb_station.specs.Faults.{status}
-use Rattle.wb_station.specs.Response.{media_type, phrase, answer_status, refusal_status, told, told_result}
+use Rattle.wb_station.specs.Faults.{fault_status}
+use Rattle.wb_station.specs.Response.{media_type_text, phrase_of_status, status_of_answer, status_of_refusal, response_content, told_result}
 use Rattle.wb_station.specs.Routes.{method_text}
 use Rattle.wb_station.specs.declared.fault.Method.{Method}
 use Rattle.wb_station.specs.declared.fault.Method.TheVariants.{Get, Post}
@@ -134,7 +134,7 @@ one_line-date date =
     let year = joined (joined month (joined (two (p.year / 100)) (two (p.year % 100)))) (known {text = codes " "} refl) in
     joined (joined year (one_line-time p)) (known refl)
 
-pub one_line-media : (csv : Bool) → OneLine (media_type csv)
+pub one_line-media : (csv : Bool) → OneLine (media_type_text csv)
 one_line-media true = known refl
 one_line-media false = known refl
 
@@ -144,7 +144,7 @@ one_line-method Post = known refl
 
 -- ---- the phrases of the statuses that are told
 
-one_line-answer : (request : Request) → OneLine (phrase (answer_status request))
+one_line-answer : (request : Request) → OneLine (phrase_of_status (status_of_answer request))
 one_line-answer (request.Weigh key kind plate) = known refl
 one_line-answer (request.VoidOpen key plate) = known refl
 one_line-answer (request.Ticket number) = known refl
@@ -154,7 +154,7 @@ one_line-answer request.TicketsCsv = known refl
 one_line-answer request.Purge = known refl
 one_line-answer request.Check = known refl
 
-one_line-refusal : (why : Refusal) → OneLine (phrase (refusal_status why))
+one_line-refusal : (why : Refusal) → OneLine (phrase_of_status (status_of_refusal why))
 one_line-refusal refusal.KeyReused = known refl
 one_line-refusal refusal.Gone = known refl
 one_line-refusal refusal.ClockBack = known refl
@@ -173,7 +173,7 @@ one_line-refusal (refusal.Store fault) = known refl
 one_line-refusal refusal.NoTicket = known refl
 one_line-refusal refusal.Damaged = known refl
 
-one_line-fault : (fault : HttpFault) → OneLine (phrase (status fault))
+one_line-fault : (fault : HttpFault) → OneLine (phrase_of_status (fault_status fault))
 one_line-fault HeadTooLarge = known refl
 one_line-fault Malformed = known refl
 one_line-fault NoRoute = known refl
@@ -183,10 +183,10 @@ one_line-fault TooLarge = known refl
 one_line-fault BadField = known refl
 one_line-fault Memory = known refl
 
-one_line-result : (request : Request) (result : Result Answered Refusal) → OneLine (phrase (told_result request result).status)
+one_line-result : (request : Request) (result : Result Content Refusal) → OneLine (phrase_of_status (told_result request result).status)
 one_line-result request (Ok answer) = one_line-answer request
 one_line-result request (Err why) = one_line-refusal why
 
-pub one_line-phrase : (outcome : Outcome) → OneLine (phrase (told outcome).status)
-one_line-phrase (Office request result) = one_line-result request.now (told_of result.now)
+pub one_line-phrase : (outcome : Outcome) → OneLine (phrase_of_status (response_content outcome).status)
+one_line-phrase (Office request result) = one_line-result request.now (contents_of result.now)
 one_line-phrase (Fault fault) = one_line-fault fault

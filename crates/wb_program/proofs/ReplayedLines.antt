@@ -14,7 +14,7 @@ use Rattle.wb_program.proofs.PerformedHappenings.{Performed-append, Performed-no
 use Rattle.wb_sics.specs.Stands.{TerminalState}
 use Rattle.wb_station.proofs.offered.Runs.{leads}
 use Rattle.wb_station.specs.Happening.{Happening}
-use Rattle.wb_station.specs.Stands.{Hears, Stands}
+use Rattle.wb_station.specs.Stands.{Hears, StationStands}
 use Rattle.wb_store.specs.Journal.{StoreView}
 
 -- a journal in memory
@@ -53,7 +53,7 @@ Progress-next done line evs t j t' j' t'' j'' x y z known so_far next = record {
   performed = Performed-append over_memory so_far.asked (reverse evs) t j t' j' t'' j'' x y z so_far.performed next;
 }
 
-pub Replayed-from : (done : List (List ℕ)) (t : TerminalState) (j : Journal) (t' : TerminalState) (j' : Journal) (x y : Option (List ℕ)) → Stands over_memory at_first t j [] → Hears t [] → Progress done t j t' j' x y
+pub Replayed-from : (done : List (List ℕ)) (t : TerminalState) (j : Journal) (t' : TerminalState) (j' : Journal) (x y : Option (List ℕ)) → StationStands over_memory at_first t j [] → Hears t [] → Progress done t j t' j' x y
     → Replayed t.scale.setup done x y
 Replayed-from done t j t' j' x y stood heard p = let ran = leads over_memory p.performed.happenings t j t' j' p.performed.outs p.performed.ran in record {
   happenings = p.performed.happenings;
@@ -99,7 +99,7 @@ Replaying-next trace rest after line n evs t j t' j' t'' j'' x y z first shorter
     }
 
 module _ (trace rest : List ℕ) (n : ℕ) (t : TerminalState) (j : Journal) (t' : TerminalState) (j' : Journal) (x y : Option (List ℕ)) (r : Replaying trace rest n t j t' j' x y)
-    (stood : Stands over_memory at_first t j []) (heard : Hears t []) where
+    (stood : StationStands over_memory at_first t j []) (heard : Hears t []) where
   replayed : Replayed t.scale.setup r.done x y
   replayed = Replayed-from r.done t j t' j' x y stood heard r.progress
 

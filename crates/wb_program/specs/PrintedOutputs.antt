@@ -6,7 +6,7 @@ use Rattle.wb_program.specs.Words.{after_word, first_word}
 use Rattle.wb_sics.specs.declared.reply.Reply.{Reply}
 use Rattle.wb_sics.specs.ReplyText.{reply_text}
 use Rattle.wb_station.specs.declared.outcome.Outcome.{Outcome}
-use Rattle.wb_station.specs.Response.{IsResponse, told}
+use Rattle.wb_station.specs.Response.{IsResponse, response_content}
 use Rattle.wb_station.specs.Account.{Out, nothing, replied, responded}
 
 -- `t `, the reply without its CR LF, and a line feed
@@ -30,12 +30,12 @@ abbrev pub body_lines : List ℕ → List (List ℕ)
 body_lines response = after_first is_empty_line (lines response)
 
 -- `| `, the line and a line feed
-abbrev pub printed_line : List ℕ → List ℕ
-printed_line line = codes "| " ++ line ++ codes "\n"
+abbrev pub line_printed : List ℕ → List ℕ
+line_printed line = codes "| " ++ line ++ codes "\n"
 
 abbrev pub printed_lines : List (List ℕ) → List ℕ
 printed_lines [] = []
-printed_lines (line ∷ more) = printed_line line ++ printed_lines more
+printed_lines (line ∷ more) = line_printed line ++ printed_lines more
 
 -- `o `, the status and a line feed, then the lines of the body
 abbrev pub printed_response : List ℕ → List ℕ
@@ -44,7 +44,7 @@ printed_response response = codes "o " ++ status_of response ++ codes "\n" ++ pr
 -- of a response, its own status and the lines of its own body
 abbrev pub PrintsTold : Type 0
 PrintsTold = (moment : ℕ) (outcome : Outcome) (response : List ℕ) → IsResponse moment outcome response
-    → printed_response response ≡ codes "o " ++ decimal (told outcome).status ++ codes "\n" ++ printed_lines (lines (told outcome).body)
+    → printed_response response ≡ codes "o " ++ decimal (response_content outcome).status ++ codes "\n" ++ printed_lines (lines (response_content outcome).body)
 
 abbrev pub printed_out : Out → List ℕ
 printed_out (replied rs) = printed_replies rs

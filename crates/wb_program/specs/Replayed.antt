@@ -14,7 +14,7 @@ use Rattle.wb_sics.specs.Stands.{TerminalState}
 use Rattle.wb_station.specs.Account.{Account, Out, opened}
 use Rattle.wb_station.specs.Happening.{Happening, unmarked}
 use Rattle.wb_station.specs.RunOfEvents.{AreOuts, AreReplies, Ran}
-use Rattle.wb_station.specs.Stands.{Hears, Stands}
+use Rattle.wb_station.specs.Stands.{Hears, StationStands}
 use Rattle.wb_station.specs.Unmade.{AllMayBeUnmade}
 use Rattle.wb_store.specs.Journal.{StoreView}
 
@@ -29,7 +29,7 @@ pub record RanAtFirst (s : Setup) (happenings : List Happening) (outs : List Out
   pub terminal_after : TerminalState
   pub store_after : StoreView MemStore
   pub setup : terminal.scale.setup ≡ s
-  pub stands : Stands over_memory at_first terminal store []
+  pub stands : StationStands over_memory at_first terminal store []
   pub hears : Hears terminal []
   pub ran : Ran over_memory happenings terminal store terminal_after store_after outs
 

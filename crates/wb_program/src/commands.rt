@@ -1,12 +1,12 @@
 //! What the check of a store's journal and its exports print.
 ghost use Rattle.std.specs.Io.KnownBytes.{Appends};
 ghost use Rattle.std.specs.Prelude.{◌≡◌, ◌≢◌, ◌++◌, ℕ, IfErr, IfOk, List, MatchResult, None, Ok, Some, codes, decimal, false};
-ghost use Rattle.wb_journal.specs.Check.{check as check_of};
+ghost use Rattle.wb_journal.specs.Check.{finding_in};
 ghost use Rattle.wb_journal.specs.Rising.{IsRising};
 ghost use Rattle.wb_journal.specs.declared.entry.EntryParts.{EntryParts};
-ghost use Rattle.wb_program.specs.CheckAndExports.{export_text, finding_line, is_sound};
+ghost use Rattle.wb_program.specs.CheckAndExports.{export_text, finding_line, is_sound_finding};
 ghost use Rattle.wb_program.specs.declared.commands.PrintFault.TheVariants as fault;
-ghost use Rattle.wb_store.specs.Journal.{IsHonest, Stands};
+ghost use Rattle.wb_store.specs.Journal.{IsHonest, StoreStands};
 ghost use Rattle.wb_store.specs.Rows.{SpentKey};
 
 use crate::printing::write_bytes;
@@ -51,12 +51,12 @@ pub fn print_check<D: Alter, O: Write>(
     writer: &mut O,
 ) -> Result<bool, PrintFault>
     ensures printed { (entries : List EntryParts) (spent : List SpentKey)
-        → Stands D.Store store.old entries spent → IsHonest D.Store store.new
-        → IfOk result (λ sound. (sound ≡ is_sound (check_of entries))
-        × Appends (O.contents writer.old) (O.contents writer.new) (finding_line (check_of entries))) }
+        → StoreStands D.Store store.old entries spent → IsHonest D.Store store.new
+        → IfOk result (λ sound. (sound ≡ is_sound_finding (finding_in entries))
+        × Appends (O.contents writer.old) (O.contents writer.new) (finding_line (finding_in entries))) }
     ensures stands { (entries : List EntryParts) (spent : List SpentKey)
-        → Stands D.Store store.old entries spent → IsHonest D.Store store.new
-        → store.new.is_closed ≡ false → Stands D.Store store.new entries spent }
+        → StoreStands D.Store store.old entries spent → IsHonest D.Store store.new
+        → store.new.is_closed ≡ false → StoreStands D.Store store.new entries spent }
     ensures refused { IfErr result (λ f. f ≢ fault.Write
         → O.contents writer.new ≡ O.contents writer.old) }
     ensures sound { IfErr result (λ f. f ≢ fault.Damaged) }
@@ -74,7 +74,7 @@ pub fn print_check<D: Alter, O: Write>(
 /// Prints the line of what a check finds. Answers whether the journal is sound.
 fn print_finding<O: Write>(finding: Finding, writer: &mut O) -> Result<bool, PrintFault>
     ensures { MatchResult result
-        (λ sound. (sound ≡ is_sound finding)
+        (λ sound. (sound ≡ is_sound_finding finding)
         × Appends (O.contents writer.old) (O.contents writer.new) (finding_line finding))
         (λ f. f ≡ fault.Write) }
 {
@@ -126,15 +126,15 @@ pub fn print_export<D: Alter, O: Write>(
     writer: &mut O,
 ) -> Result<(), PrintFault>
     ensures printed { (entries : List EntryParts) (spent : List SpentKey)
-        → Stands D.Store store.old entries spent → IsHonest D.Store store.new
+        → StoreStands D.Store store.old entries spent → IsHonest D.Store store.new
         → IfOk result (λ _. (text : List ℕ) × (export_text what entries ≡ Some text)
         × Appends (O.contents writer.old) (O.contents writer.new) text) }
     ensures damaged { (entries : List EntryParts) (spent : List SpentKey)
-        → Stands D.Store store.old entries spent → IsHonest D.Store store.new
+        → StoreStands D.Store store.old entries spent → IsHonest D.Store store.new
         → IfErr result (λ f. f ≡ fault.Damaged → export_text what entries ≡ None) }
     ensures stands { (entries : List EntryParts) (spent : List SpentKey)
-        → Stands D.Store store.old entries spent → IsHonest D.Store store.new
-        → store.new.is_closed ≡ false → Stands D.Store store.new entries spent }
+        → StoreStands D.Store store.old entries spent → IsHonest D.Store store.new
+        → store.new.is_closed ≡ false → StoreStands D.Store store.new entries spent }
     ensures refused { IfErr result (λ f. f ≢ fault.Write
         → O.contents writer.new ≡ O.contents writer.old) }
 {

@@ -1,7 +1,7 @@
 //! Numbers in a trace.
 ghost use Rattle.std.specs.Prelude.{◌≡◌, ◌≤◌, ◌+◌, ◌*◌, IfSome, length, option_map, take};
-ghost use Rattle.wb_program.specs.Numerals.{count as count_of, hexadecimal as hexadecimal_of};
-ghost use Rattle.wb_program.specs.RequestLines.{moment as moment_of};
+ghost use Rattle.wb_program.specs.Numerals.{bytes_of_hexadecimal, count_in};
+ghost use Rattle.wb_program.specs.RequestLines.{moment_in};
 
 use wb_journal::Moment;
 use wb_text::digits;
@@ -14,7 +14,7 @@ const MOST_TIMES: u64 = 10_000;
 
 /// 1 to 10,000, with no leading zero.
 pub(crate) fn count(text: &[u8]) -> Option<u32>
-    ensures { result ≡ count_of text.now }
+    ensures { result ≡ count_in text.now }
 {
     match text {
         [] => None,
@@ -34,7 +34,7 @@ pub(crate) fn count(text: &[u8]) -> Option<u32>
 
 /// The seconds of a moment, with no leading zero.
 pub(crate) fn moment(text: &[u8]) -> Option<Moment>
-    ensures { result ≡ moment_of text.now }
+    ensures { result ≡ moment_in text.now }
 {
     match text {
         [] => None,
@@ -51,7 +51,7 @@ pub(crate) fn moment(text: &[u8]) -> Option<Moment>
 /// At least one byte in hexadecimal, decoded into the room: how many bytes they are.
 pub(crate) fn hexadecimal(digits: &[u8], room: &mut [u8]) -> Option<usize>
     requires { length digits.now ≤ 2 * length room.old + 1 }
-    ensures bytes { option_map (λ n. take n room.new) result ≡ hexadecimal_of digits.now }
+    ensures bytes { option_map (λ n. take n room.new) result ≡ bytes_of_hexadecimal digits.now }
     ensures within { IfSome result (λ n. n ≤ length room.new) }
     ensures room { length room.new ≡ length room.old }
 {

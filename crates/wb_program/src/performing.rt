@@ -1,6 +1,6 @@
 //! What the lines of a trace do to a station.
 ghost use Rattle.std.specs.Prelude.{◌∷◌, [], false, OnOk, map, replicate, reverse};
-ghost use Rattle.wb_program.specs.helpers.LineEvents.{IsRead, events_of};
+ghost use Rattle.wb_program.specs.helpers.LineEvents.{IsReadLine, events_of};
 ghost use Rattle.wb_program.specs.helpers.Performed.{Performed};
 ghost use Rattle.wb_program.specs.TraceLines.{typed};
 ghost use Rattle.wb_station.specs.Happening.{IsTaken, byte as byte_happening, happening, reading as reading_happening};
@@ -20,7 +20,7 @@ pub(crate) fn perform<W: Window, D: Alter, O: Write>(
     room: &[u8],
     writer: &mut O,
 ) -> Result<(), WriteFault>
-    requires { IsRead room.now line }
+    requires { IsReadLine room.now line }
     ensures { OnOk result (Performed D.Store (reverse (events_of room.now line.entry))
         station.old.terminal station.old.office station.new.terminal station.new.office
         (O.contents writer.old) (O.contents writer.new)) }

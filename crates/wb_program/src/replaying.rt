@@ -4,8 +4,8 @@ ghost use Rattle.std.specs.Prelude.{◌≡◌, ◌≤◌, ◌+◌, [], IfOk, IfS
 ghost use Rattle.std.specs.Str.Lines.{lines};
 ghost use Rattle.wb_program.specs.Replayed.{Ends, IsUntouched, ReplaysLines, at_first};
 ghost use Rattle.wb_program.specs.helpers.RunEnds.{WasRun};
-ghost use Rattle.wb_station.specs.Stands.{Hears, Stands};
-ghost use Rattle.wb_store.specs.Journal.{Stands as StoreStands};
+ghost use Rattle.wb_station.specs.Stands.{Hears, StationStands};
+ghost use Rattle.wb_store.specs.Journal.{StoreStands};
 
 use crate::lines::first_line;
 use crate::performing::perform;
@@ -93,7 +93,7 @@ fn station_in_memory(
     instrument: Instrument,
 ) -> Option<Station<DequeWindow, MemStore>>
     ensures setup { IfSome result (λ s. s.terminal.scale.setup ≡ instrument) }
-    ensures stands { IfSome result (λ s. Stands over_memory at_first s.terminal s.office []) }
+    ensures stands { IfSome result (λ s. StationStands over_memory at_first s.terminal s.office []) }
     ensures hears { IfSome result (λ s. Hears s.terminal []) }
 {
     let store = store_in_memory(alloc)?;
@@ -135,7 +135,7 @@ fn replay_lines<O: Write>(
 ) -> ReplayEnd
     requires short { length trace.now ≤ 1_048_576 }
     requires room { length trace.now + 64 ≤ length room.old }
-    ensures lines { Stands over_memory at_first station.old.terminal station.old.office []
+    ensures lines { StationStands over_memory at_first station.old.terminal station.old.office []
         → Hears station.old.terminal []
         → ReplaysLines result station.old.terminal.scale.setup (lines trace.now)
         (O.contents writer.old) (O.contents writer.new) }

@@ -1,7 +1,7 @@
 //! The lines of a trace that hand in requests to the office.
 ghost use Rattle.std.specs.Prelude.{◌≡◌, ◌+◌, ◌≤◌, ◌++◌, IfSome, length, option_map, take};
-ghost use Rattle.wb_program.specs.helpers.LineEvents.{IsRead, events_of};
-ghost use Rattle.wb_program.specs.RequestLines.{get as get_of, get_bytes, post as post_of, post_bytes, request_bytes, request_bytes_line as bytes_line_of, request_line as line_of};
+ghost use Rattle.wb_program.specs.helpers.LineEvents.{IsReadLine, events_of};
+ghost use Rattle.wb_program.specs.RequestLines.{asked_by_bytes, asked_by_line, get_bytes, get_if_target, post_bytes, post_if_target, request_bytes};
 
 use crate::lines::split_word;
 use crate::numerals::{hexadecimal, moment};
@@ -15,8 +15,8 @@ pub(crate) const HEAD_ROOM: usize = 64;
 /// A moment, a method and what follows it: the bytes of the request, in the room.
 pub(crate) fn request_line(text: &[u8], room: &mut [u8]) -> Option<TraceLine<'static>>
     requires { length text.now + 64 ≤ length room.old }
-    ensures events { option_map (events_of room.new) result ≡ line_of text.now }
-    ensures read { IfSome result (IsRead room.new) }
+    ensures events { option_map (events_of room.new) result ≡ asked_by_line text.now }
+    ensures read { IfSome result (IsReadLine room.new) }
     ensures room { length room.new ≡ length room.old }
 {
     let (word, rest) = split_word(text);
@@ -29,8 +29,8 @@ pub(crate) fn request_line(text: &[u8], room: &mut [u8]) -> Option<TraceLine<'st
 /// A moment, and the bytes of a request in hexadecimal, decoded into the room.
 pub(crate) fn request_bytes_line(text: &[u8], room: &mut [u8]) -> Option<TraceLine<'static>>
     requires { length text.now ≤ length room.old }
-    ensures events { option_map (events_of room.new) result ≡ bytes_line_of text.now }
-    ensures read { IfSome result (IsRead room.new) }
+    ensures events { option_map (events_of room.new) result ≡ asked_by_bytes text.now }
+    ensures read { IfSome result (IsReadLine room.new) }
     ensures room { length room.new ≡ length room.old }
 {
     let (word, digits) = split_word(text);
@@ -58,7 +58,7 @@ fn request(method: &[u8], rest: &[u8], room: &mut [u8]) -> Option<usize>
 
 fn get(target: &[u8], room: &mut [u8]) -> Option<usize>
     requires { length target.now + 64 ≤ length room.old }
-    ensures bytes { option_map (λ n. take n room.new) result ≡ get_of target.now }
+    ensures bytes { option_map (λ n. take n room.new) result ≡ get_if_target target.now }
     ensures within { IfSome result (λ n. n ≤ length room.new) }
     ensures room { length room.new ≡ length room.old }
 {
@@ -81,7 +81,7 @@ fn put_get(target: &[u8], room: &mut [u8]) -> usize
 
 fn post(target: &[u8], body: &[u8], room: &mut [u8]) -> Option<usize>
     requires { length target.now + length body.now + 64 ≤ length room.old }
-    ensures bytes { option_map (λ n. take n room.new) result ≡ post_of target.now body.now }
+    ensures bytes { option_map (λ n. take n room.new) result ≡ post_if_target target.now body.now }
     ensures within { IfSome result (λ n. n ≤ length room.new) }
     ensures room { length room.new ≡ length room.old }
 {

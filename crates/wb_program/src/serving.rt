@@ -5,7 +5,7 @@ ghost use Rattle.wb_program.specs.helpers.TurnParts.{ExchangeServed, StretchServ
 ghost use Rattle.wb_sources.specs.SourceAnswers.{Tells};
 ghost use Rattle.wb_program.specs.Turns.{handed_on};
 ghost use Rattle.wb_station.specs.Happening.{IsTaken, byte as byte_happening, happening};
-ghost use Rattle.wb_station.specs.OutputShows.{shown};
+ghost use Rattle.wb_station.specs.OutputShows.{out_shown};
 
 use sqlite::Alter;
 use thiserror::Error;
@@ -160,7 +160,7 @@ fn handle<W: Window, D: Alter, S: Sources>(
 
 /// Hands on what a station put out; no replies are nothing to hand on.
 fn hand_on<S: Sources>(output: Output<'_>, sources: &mut S)
-    ensures { Tells [] (handed_on (shown output.entry)) (S.told sources.old) (S.told sources.new) }
+    ensures { Tells [] (handed_on (out_shown output.entry)) (S.told sources.old) (S.told sources.new) }
 {
     match output {
         Output::Replies(replies) => {

@@ -1,8 +1,8 @@
 //! A line of a trace, read.
 ghost use Rattle.std.specs.Option.{option_copied};
 ghost use Rattle.std.specs.Prelude.{◌≡◌, ◌+◌, ◌*◌, ◌≤◌, ℕ, List, IfSome, length, option_map};
-ghost use Rattle.wb_program.specs.helpers.LineEvents.{IsRead, events_of};
-ghost use Rattle.wb_program.specs.TraceLines.{bytes_line, hang_up_line, line_events, of_text, reading_line, reading_word as reading_of_word, typed, typed_text as typed_text_of, without_blank};
+ghost use Rattle.wb_program.specs.helpers.LineEvents.{IsReadLine, events_of};
+ghost use Rattle.wb_program.specs.TraceLines.{bytes_line, hang_up_line, line_events, of_text, reading_line, reading_of_word, text_typed, typed, without_blank};
 ghost use Rattle.wb_window.specs.Reading.{IsReading};
 
 use crate::numerals::{count, hexadecimal};
@@ -33,7 +33,7 @@ pub(crate) enum TraceLine<'a> {
 pub(crate) fn read_line<'a>(line: &'a [u8], room: &mut [u8]) -> Option<TraceLine<'a>>
     requires { length line.now + 64 ≤ length room.old }
     ensures events { option_map (events_of room.new) result ≡ line_events line.now }
-    ensures read { IfSome result (IsRead room.new) }
+    ensures read { IfSome result (IsReadLine room.new) }
     ensures room { length room.new ≡ length room.old }
 {
     match line {
@@ -72,7 +72,7 @@ fn after_blank(rest: &[u8]) -> Option<&[u8]>
 
 /// Nothing, or what stands after one blank.
 fn typed_text(rest: &[u8]) -> Option<&[u8]>
-    ensures { option_copied result ≡ typed_text_of rest.now }
+    ensures { option_copied result ≡ text_typed rest.now }
 {
     match rest {
         [] => Some(rest),
@@ -84,7 +84,7 @@ fn typed_text(rest: &[u8]) -> Option<&[u8]>
 fn readings(rest: &[u8]) -> Option<TraceLine<'static>>
     ensures events { (room : List ℕ)
         → option_map (events_of room) result ≡ of_text reading_line (without_blank rest.now) }
-    ensures read { (room : List ℕ) → IfSome result (IsRead room) }
+    ensures read { (room : List ℕ) → IfSome result (IsReadLine room) }
 {
     let text = after_blank(rest)?;
     match split_at_first(text, b' ') {
@@ -115,7 +115,7 @@ fn reading_word(word: &[u8]) -> Option<Reading>
 fn bytes(digits: &[u8], room: &mut [u8]) -> Option<TraceLine<'static>>
     requires { length digits.now ≤ 2 * length room.old + 1 }
     ensures events { option_map (events_of room.new) result ≡ bytes_line digits.now }
-    ensures read { IfSome result (IsRead room.new) }
+    ensures read { IfSome result (IsReadLine room.new) }
     ensures room { length room.new ≡ length room.old }
 {
     Some(TraceLine::Bytes(hexadecimal(digits, room)?))
@@ -123,7 +123,7 @@ fn bytes(digits: &[u8], room: &mut [u8]) -> Option<TraceLine<'static>>
 
 fn hang_up(rest: &[u8]) -> Option<TraceLine<'static>>
     ensures events { (room : List ℕ) → option_map (events_of room) result ≡ hang_up_line rest.now }
-    ensures read { (room : List ℕ) → IfSome result (IsRead room) }
+    ensures read { (room : List ℕ) → IfSome result (IsReadLine room) }
 {
     if rest.is_empty() {
         Some(TraceLine::HangUp)

@@ -15,22 +15,22 @@ use Rattle.wb_scale.specs.declared.answers.TareNow.TheVariants.{Empty, Weighed, 
 use Rattle.wb_scale.specs.helpers.After.{above, balance_answer}
 use Rattle.wb_scale.specs.Call.{Call}
 use Rattle.wb_scale.specs.History.{moments}
-use Rattle.wb_scale.specs.Indication.{IsInRange, indicated, indicated_at, shown}
-use Rattle.wb_scale.specs.Stands.{Stands}
+use Rattle.wb_scale.specs.Indication.{IsIndicationInRange, indicated, indicated_at, weights_unless_outside}
+use Rattle.wb_scale.specs.Stands.{ScaleStands}
 use Rattle.wb_scale.specs.State.{IsScale, State}
 use Rattle.wb_scale.specs.Tare.{IsTare, given, is_tared, is_weighed, tare_answer, tare_now, tare_tenths, weighed}
 use Rattle.wb_scale.specs.Zero.{last_load}
 use Rattle.wb_scale.proofs.Standing.{above-held, stable-held}
 
 -- the answer of a scale is that of all its moments
-pub balance_answer-held : (s : State) (h : List Call) → IsScale s → Stands s h → balance_answer s ≡ tare_answer s.setup (moments s.setup h)
+pub balance_answer-held : (s : State) (h : List Call) → IsScale s → ScaleStands s h → balance_answer s ≡ tare_answer s.setup (moments s.setup h)
 balance_answer-held s h is from = rw (stable-held s h is from, above-held s h is from, from.now.tare) refl
 
 -- what the tare becomes
-pub weighed-held : (s : State) (h : List Call) (tenths kg : ℤ) → IsScale s → Stands s h → above (last_load s.held.readings) s.zero ≡ Some tenths → balance_answer s ≡ Done kg → weighed s.setup (moments s.setup h) ≡ Some (Weighed tenths)
+pub weighed-held : (s : State) (h : List Call) (tenths kg : ℤ) → IsScale s → ScaleStands s h → above (last_load s.held.readings) s.zero ≡ Some tenths → balance_answer s ≡ Done kg → weighed s.setup (moments s.setup h) ≡ Some (Weighed tenths)
 weighed-held s h tenths kg is from a b = rw (sym (balance_answer-held s h is from) ∙ b, sym (above-held s h is from) ∙ a) refl
 
-pub weighed-refused : (s : State) (h : List Call) (answer : TareAnswer) → IsScale s → Stands s h → balance_answer s ≡ answer → is_tared answer ≡ false → weighed s.setup (moments s.setup h) ≡ None
+pub weighed-refused : (s : State) (h : List Call) (answer : TareAnswer) → IsScale s → ScaleStands s h → balance_answer s ≡ answer → is_tared answer ≡ false → weighed s.setup (moments s.setup h) ≡ None
 weighed-refused s h answer is from b n = rw (sym (balance_answer-held s h is from) ∙ b, n) refl
 
 -- a preset tare is 1 to n intervals
@@ -48,7 +48,7 @@ preset-range s grams o whole e is w = go (preset s grams) refl
         (omega (arith, ints), omega (arith, ints))
 
 -- what the tare becomes by it
-pub given-held : (s : State) (h : List Call) (grams : ℕ) (o : Option ℤ) (whole : ℤ) → Stands s h → o ≡ option_map pos (preset s.setup grams) → o ≡ Some whole → is_weighed s.tare ≡ false → given s.setup (moments s.setup h) grams ≡ Some (Preset whole)
+pub given-held : (s : State) (h : List Call) (grams : ℕ) (o : Option ℤ) (whole : ℤ) → ScaleStands s h → o ≡ option_map pos (preset s.setup grams) → o ≡ Some whole → is_weighed s.tare ≡ false → given s.setup (moments s.setup h) grams ≡ Some (Preset whole)
 given-held s h grams o whole from e w n =
     let not : is_weighed (tare_now (moments s.setup h)) ≡ false = ap is_weighed (sym from.now.tare) ∙ n in
     rw not (go (preset s.setup grams) refl)
@@ -60,7 +60,7 @@ given-held s h grams o whole from e w n =
         let same : pos m ≡ whole = cc in
         ap (λ x. Some (Preset x)) same
 
-pub given-refused : (s : State) (h : List Call) (grams : ℕ) (o : Option ℤ) → Stands s h → o ≡ option_map pos (preset s.setup grams) → cond (is_weighed s.tare) None o ≡ None → given s.setup (moments s.setup h) grams ≡ None
+pub given-refused : (s : State) (h : List Call) (grams : ℕ) (o : Option ℤ) → ScaleStands s h → o ≡ option_map pos (preset s.setup grams) → cond (is_weighed s.tare) None o ≡ None → given s.setup (moments s.setup h) grams ≡ None
 given-refused s h grams o from e n = rw (← from.now.tare) (go (is_weighed s.tare) (preset s.setup grams) (rw e at n))
   where
     go : (b : Bool) (p : Option ℕ) → cond b None (option_map pos p) ≡ None → cond b None (option_map (λ m. Preset (pos m)) p) ≡ None
@@ -69,7 +69,7 @@ given-refused s h grams o from e n = rw (← from.now.tare) (go (is_weighed s.ta
     go false (Some m) e = absurd (cc)
 
 -- what the window, the zero and the tare show is what is indicated after the history
-pub indicated-held : (s : State) (h : List Call) → IsScale s → Stands s h → indicated_at s.setup (is_stable s.held.size s.held.band s.held.readings) s.tare (above (last_load s.held.readings) s.zero) ≡ indicated s.setup (moments s.setup h)
+pub indicated-held : (s : State) (h : List Call) → IsScale s → ScaleStands s h → indicated_at s.setup (is_stable s.held.size s.held.band s.held.readings) s.tare (above (last_load s.held.readings) s.zero) ≡ indicated s.setup (moments s.setup h)
 unfolding indicated
 indicated-held s h is from = rw (stable-held s h is from, above-held s h is from, from.now.tare) refl
 
@@ -81,11 +81,11 @@ tare_range s Empty is = (omega (arith, ints), omega (arith, ints))
 tare_range s (Weighed tenths) is = (omega (arith, ints, is.0), omega (arith, ints, is.1))
 tare_range s (Preset whole) is = (omega (arith, ints, is.0), omega (arith, ints, is.1))
 
-shown_range : (s : Setup) (stable : Bool) (gross net : ℤ) → neg_ℤ (pos (intervals s)) ≤ℤ (net -ℤ gross) → net ≤ℤ gross → IsInRange s (shown s stable gross net)
+shown_range : (s : Setup) (stable : Bool) (gross net : ℤ) → neg_ℤ (pos (intervals s)) ≤ℤ (net -ℤ gross) → net ≤ℤ gross → IsIndicationInRange s (weights_unless_outside s stable gross net)
 shown_range s stable gross net low high = go (int_lt (pos (intervals s + 9)) gross) (int_lt gross (neg_ℤ (pos 20))) refl refl
   where
     go : (a b : Bool) → int_lt (pos (intervals s + 9)) gross ≡ a → int_lt gross (neg_ℤ (pos 20)) ≡ b
-        → IsInRange s (cond a Over (cond b Under (Shown gross net stable)))
+        → IsIndicationInRange s (cond a Over (cond b Under (Shown gross net stable)))
     go true b p q = tt
     go false true p q = tt
     go false false p q =
@@ -94,7 +94,7 @@ shown_range s stable gross net low high = go (int_lt (pos (intervals s + 9)) gro
         (least, most, omega (arith, ints), omega (arith, ints))
 
 -- what is shown is in range
-pub IsInRange-indicated_at : (s : Setup) (stable : Bool) (tare : TareNow) (tenths : Option ℤ) → IsTare s tare → IsInRange s (indicated_at s stable tare tenths)
+pub IsInRange-indicated_at : (s : Setup) (stable : Bool) (tare : TareNow) (tenths : Option ℤ) → IsTare s tare → IsIndicationInRange s (indicated_at s stable tare tenths)
 IsInRange-indicated_at s stable tare None is = tt
 IsInRange-indicated_at s stable tare (Some tenths) is =
     let t = tare_range s tare is in

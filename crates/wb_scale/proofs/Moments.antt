@@ -6,7 +6,7 @@ use Rattle.std.proofs.lemmas.Int.{ints}
 use Rattle.wb_window.specs.declared.reading.Reading.{Reading}
 use Rattle.wb_scale.specs.declared.answers.TareNow.{TareNow}
 use Rattle.wb_scale.specs.helpers.After.{above}
-use Rattle.wb_scale.specs.Cleared.{clears, has_below_min, is_cleared, places, stores}
+use Rattle.wb_scale.specs.Cleared.{clears, has_below_min, is_cleared, moments_at_calls, stores}
 use Rattle.wb_scale.specs.Indication.{gross}
 use Rattle.wb_scale.specs.Moment.{Moment, readings}
 use Rattle.wb_scale.specs.Tare.{tare_now}
@@ -64,9 +64,9 @@ above_zero-taken m ms r e = rw (readings-taken m ms r e) refl
 
 is_cleared-cons : (m : Moment) (ms : List Moment) → is_cleared (m ∷ ms) ≡ cond m.stored false (clears (m ∷ ms) || is_cleared ms)
 unfolding is_cleared
-is_cleared-cons m ms = ap (list_any clears) (before_first-cons stores (m ∷ ms) (places ms)) ∙ either m.stored
+is_cleared-cons m ms = ap (list_any clears) (before_first-cons stores (m ∷ ms) (moments_at_calls ms)) ∙ either m.stored
   where
-    either : (b : Bool) → list_any clears (cond b [] ((m ∷ ms) ∷ before_first stores (places ms))) ≡ cond b false (clears (m ∷ ms) || list_any clears (before_first stores (places ms)))
+    either : (b : Bool) → list_any clears (cond b [] ((m ∷ ms) ∷ before_first stores (moments_at_calls ms))) ≡ cond b false (clears (m ∷ ms) || list_any clears (before_first stores (moments_at_calls ms)))
     either true = refl
     either false = refl
 

@@ -12,9 +12,9 @@ use Rattle.wb_scale.specs.declared.answers.TareNow.TheVariants.{Empty}
 use Rattle.wb_scale.specs.helpers.After.{above, cleared_from, moved, pause_from, seen, step_of, tracked}
 use Rattle.wb_scale.specs.Call.{Call, read, stored}
 use Rattle.wb_scale.specs.Cleared.{is_cleared}
-use Rattle.wb_scale.specs.History.{moment, moments, taken}
+use Rattle.wb_scale.specs.History.{moment_of_call, moment_of_reading, moments}
 use Rattle.wb_scale.specs.Moment.{Moment, nothing, readings}
-use Rattle.wb_scale.specs.Stands.{Stands, StandsAt, Takes}
+use Rattle.wb_scale.specs.Stands.{ScaleStands, ScaleStandsAt, ScaleTakes}
 use Rattle.wb_scale.specs.State.{IsScale, State}
 use Rattle.wb_scale.specs.Tare.{tare_now}
 use Rattle.wb_scale.specs.Tracking.{is_quiet, step_at, step_to}
@@ -24,26 +24,26 @@ use Rattle.wb_scale.proofs.Pauses.{Pauses-fresh, Pauses-taken, pause_from-le}
 use Rattle.wb_scale.proofs.Windows.{AreReadings-take, is_stable-take, last_load-take, take_kept}
 
 -- a scale takes a call where the state behind what it shows does
-pub Takes-behind : (s old new : State) (call : Call) → s ≡ old → new.setup ≡ s.setup → ((h : List Call) → Stands s h → Stands new (call ∷ h)) → Takes old new call
-Takes-behind s old new call same setup stands = subst (λ t. Takes t new call) same (record { setup = setup; stands = stands })
+pub Takes-behind : (s old new : State) (call : Call) → s ≡ old → new.setup ≡ s.setup → ((h : List Call) → ScaleStands s h → ScaleStands new (call ∷ h)) → ScaleTakes old new call
+Takes-behind s old new call same setup stands = subst (λ t. ScaleTakes t new call) same (record { setup = setup; stands = stands })
 
 -- a window holds a reading at least
 pub one_reading : (s : State) → IsScale s → 1 ≤ s.setup.window
 one_reading s is = let b = is.setup.window in omega arith
 
 -- what the window and the zero show is what all the moments say
-pub stable-held : (s : State) (h : List Call) → IsScale s → Stands s h → is_stable s.held.size s.held.band s.held.readings ≡ is_stable s.setup.window s.setup.band (readings (moments s.setup h))
+pub stable-held : (s : State) (h : List Call) → IsScale s → ScaleStands s h → is_stable s.held.size s.held.band s.held.readings ≡ is_stable s.setup.window s.setup.band (readings (moments s.setup h))
 stable-held s h is from = rw (is.size, is.band, from.now.held) (is_stable-take s.setup.window s.setup.band (readings (moments s.setup h)))
 
-pub load-held : (s : State) (h : List Call) → IsScale s → Stands s h → last_load s.held.readings ≡ last_load (readings (moments s.setup h))
+pub load-held : (s : State) (h : List Call) → IsScale s → ScaleStands s h → last_load s.held.readings ≡ last_load (readings (moments s.setup h))
 load-held s h is from = rw from.now.held (last_load-take s.setup.window (readings (moments s.setup h)) (one_reading s is))
 
-pub above-held : (s : State) (h : List Call) → IsScale s → Stands s h → above (last_load s.held.readings) s.zero ≡ above_zero (moments s.setup h)
+pub above-held : (s : State) (h : List Call) → IsScale s → ScaleStands s h → above (last_load s.held.readings) s.zero ≡ above_zero (moments s.setup h)
 unfolding above_zero
 above-held s h is from = rw (load-held s h is from, from.now.zero) refl
 
 -- and the same where the window has taken one more reading
-pub stable-seen : (s : State) (r : Reading) (h : List Call) → IsScale s → Stands s h → is_stable s.held.size s.held.band (seen s r).held.readings ≡ is_stable s.setup.window s.setup.band (r ∷ readings (moments s.setup h))
+pub stable-seen : (s : State) (r : Reading) (h : List Call) → IsScale s → ScaleStands s h → is_stable s.held.size s.held.band (seen s r).held.readings ≡ is_stable s.setup.window s.setup.band (r ∷ readings (moments s.setup h))
 stable-seen s r h is from =
     let n = s.setup.window in
     let rs = readings (moments s.setup h) in
@@ -82,7 +82,7 @@ swap_tests false true x y = refl
 swap_tests false false x y = refl
 
 -- the step that a scale makes is the one that all the moments say
-pub step-seen : (s : State) (r : Reading) (h : List Call) → IsScale s → Stands s h
+pub step-seen : (s : State) (r : Reading) (h : List Call) → IsScale s → ScaleStands s h
     → step_of (is_stable s.held.size s.held.band (seen s r).held.readings) s.pause (pos (zero_limit s.setup)) s.zero (last_load (seen s r).held.readings) ≡ step_at s.setup r (moments s.setup h)
 step-seen s r h is from =
     let i = s.setup in
@@ -98,11 +98,11 @@ pub cleared-taken : (m : Moment) (ms : List Moment) (r : Reading) (cleared : Boo
 cleared-taken m ms r cleared e f c = rw (is_cleared-taken m ms r e f, above_zero-taken m ms r e, c) refl
 
 -- after a reading the scale stands after one more call
-pub Stands-read : (s : State) (r : Reading) (h : List Call) → IsScale s → Stands s h → Stands (tracked (seen s r)) (read r ∷ h)
+pub Stands-read : (s : State) (r : Reading) (h : List Call) → IsScale s → ScaleStands s h → ScaleStands (tracked (seen s r)) (read r ∷ h)
 Stands-read s r h is from =
     let i = s.setup in
     let ms = moments i h in
-    let m = taken i r ms in
+    let m = moment_of_reading i r ms in
     let st = from.now in
     let same = step-seen s r h is from in
     let zero : s.zero +ℤ step_at i r ms ≡ zero_now (m ∷ ms) = rw st.zero (sym (zero_now-step m ms refl)) in
@@ -118,7 +118,7 @@ Stands-read s r h is from =
 
 -- a call that takes no reading and leaves the zero
 StandsAt-other : (i : Setup) (s : State) (m : Moment) (ms : List Moment) (tare : TareNow) (cleared : Bool) → m.reading ≡ None → m.zeroed ≡ None → m.step ≡ pos 0
-    → tare ≡ tare_now (m ∷ ms) → cleared ≡ is_cleared (m ∷ ms) → StandsAt i s ms → StandsAt i (record s { tare = tare; cleared = cleared }) (m ∷ ms)
+    → tare ≡ tare_now (m ∷ ms) → cleared ≡ is_cleared (m ∷ ms) → ScaleStandsAt i s ms → ScaleStandsAt i (record s { tare = tare; cleared = cleared }) (m ∷ ms)
 StandsAt-other i s m ms tare cleared r z d t c st = record {
   held = st.held ∙ ap (take i.window) (sym (readings-none m ms r));
   zero = st.zero ∙ (let e = zero_now-step m ms z in omega (arith, ints));
@@ -128,33 +128,33 @@ StandsAt-other i s m ms tare cleared r z d t c st = record {
 }
 
 -- a call of which nothing comes
-pub Stands-kept : (s : State) (c : Call) (h : List Call) → moment s.setup c (moments s.setup h) ≡ nothing → Stands s h → Stands s (c ∷ h)
+pub Stands-kept : (s : State) (c : Call) (h : List Call) → moment_of_call s.setup c (moments s.setup h) ≡ nothing → ScaleStands s h → ScaleStands s (c ∷ h)
 Stands-kept s c h e from =
     let ms = moments s.setup h in
     record {
-      now = subst (λ (m : Moment). StandsAt s.setup s (m ∷ ms)) (sym e)
+      now = subst (λ (m : Moment). ScaleStandsAt s.setup s (m ∷ ms)) (sym e)
           (StandsAt-other s.setup s nothing ms s.tare s.cleared refl refl refl (from.now.tare ∙ sym (tare_now-same nothing ms refl)) (from.now.cleared ∙ sym (is_cleared-none nothing ms refl refl)) from.now);
     }
 
 -- a call by which the tare becomes another
-pub Stands-tare : (s : State) (c : Call) (h : List Call) (t : TareNow) → moment s.setup c (moments s.setup h) ≡ record nothing { tare = Some t } → Stands s h → Stands (record s { tare = t }) (c ∷ h)
+pub Stands-tare : (s : State) (c : Call) (h : List Call) (t : TareNow) → moment_of_call s.setup c (moments s.setup h) ≡ record nothing { tare = Some t } → ScaleStands s h → ScaleStands (record s { tare = t }) (c ∷ h)
 Stands-tare s c h t e from =
     let ms = moments s.setup h in
     let m : Moment = record nothing { tare = Some t } in
     record {
-      now = subst (λ (m : Moment). StandsAt s.setup (record s { tare = t }) (m ∷ ms)) (sym e)
+      now = subst (λ (m : Moment). ScaleStandsAt s.setup (record s { tare = t }) (m ∷ ms)) (sym e)
           (StandsAt-other s.setup s m ms t s.cleared refl refl refl (sym (tare_now-new m ms t refl)) (from.now.cleared ∙ sym (is_cleared-none m ms refl refl)) from.now);
     }
 
 -- a weighing is stored
-pub Stands-stored : (s : State) (h : List Call) → Stands s h → Stands (record s { cleared = false }) (stored ∷ h)
+pub Stands-stored : (s : State) (h : List Call) → ScaleStands s h → ScaleStands (record s { cleared = false }) (stored ∷ h)
 Stands-stored s h from =
     let ms = moments s.setup h in
     let m : Moment = record nothing { stored = true } in
     record { now = StandsAt-other s.setup s m ms s.tare false refl refl refl (from.now.tare ∙ sym (tare_now-same m ms refl)) (sym (is_cleared-stored m ms refl)) from.now }
 
 -- a fresh scale stands after no call
-pub Stands-fresh : (s : State) → s.held.readings ≡ [] → s.zero ≡ pos 0 → s.pause ≡ 0 → s.tare ≡ Empty → s.cleared ≡ false → Stands s []
+pub Stands-fresh : (s : State) → s.held.readings ≡ [] → s.zero ≡ pos 0 → s.pause ≡ 0 → s.tare ≡ Empty → s.cleared ≡ false → ScaleStands s []
 unfolding readings zero_now tare_now is_cleared
 Stands-fresh s r z p t c = record { now = record { held = r ∙ none s.setup.window; zero = z; pause = λ k. rw p (Pauses-fresh (tracking_gap s.setup - 1) k); tare = t; cleared = c } }
   where

@@ -9,7 +9,7 @@ use Rattle.std.proofs.lemmas.List.Folds.{list_all_at}
 use Rattle.wb_instrument.proofs.offered.Rounding.{IsRounded-round}
 use Rattle.wb_instrument.specs.Rounding.{round}
 use Rattle.wb_instrument.specs.Setup.{Setup, intervals}
-use Rattle.wb_window.specs.Stability.{agree, is_stable, near}
+use Rattle.wb_window.specs.Stability.{are_near, is_stable, near}
 use Rattle.wb_window.specs.declared.reading.Reading.{Reading}
 use Rattle.wb_window.specs.declared.reading.Reading.TheVariants.{Load, Lost}
 use Rattle.wb_scale.specs.declared.answers.Indicated.TheVariants.{Over, Shown, Under}
@@ -55,7 +55,7 @@ steady nought band zero gross rs l b s e = absurd (omega arith)
 steady (suc n) band zero gross [] l b s e = absurd (cc)
 steady (suc n) band zero gross (Lost ∷ rs) l b s e = absurd (cc)
 steady (suc n) band zero gross (Load load ∷ rs) l b s e =
-    let all : agree band (Load load ∷ take n rs) ≡ true = and-right (nat_le (suc n) (length (Load load ∷ rs))) _ s in
+    let all : are_near band (Load load ∷ take n rs) ≡ true = and-right (nat_le (suc n) (length (Load load ∷ rs))) _ s in
     let first : list_all (near band (Load load)) (Load load ∷ take n rs) ≡ true = and-left _ _ all in
     let same : round (load -ℤ zero) ≡ gross = cc in
     all_near band load zero gross (Load load ∷ take n rs) b same first

@@ -5,7 +5,7 @@ use Rattle.std.specs.Ordering.{int_eq}
 use Rattle.std.proofs.lemmas.Bool.Decides.{Decides-int_eq}
 use Rattle.std.proofs.lemmas.Int.{ints}
 use Rattle.wb_instrument.specs.Rounding.{round}
-use Rattle.wb_scale.specs.Tracking.{is_within, step_to, towards}
+use Rattle.wb_scale.specs.Tracking.{is_within_limit, step_to, towards}
 
 pub int_eq-nought : (x : ℤ) → x ≡ pos 0 → int_eq x (pos 0) ≡ true
 int_eq-nought x e = (Decides-int_eq x (pos 0)).1 e
@@ -23,10 +23,10 @@ step_to-gross limit zero load n = rw (int_eq-other (round (load -ℤ zero)) n) r
 
 -- a gross of 0
 pub step_to-nought : (limit zero load : ℤ) → round (load -ℤ zero) ≡ pos 0
-    → step_to limit zero (Some load) ≡ (if is_within limit (zero +ℤ towards zero load) then towards zero load else pos 0)
+    → step_to limit zero (Some load) ≡ (if is_within_limit limit (zero +ℤ towards zero load) then towards zero load else pos 0)
 step_to-nought limit zero load e = rw (int_eq-nought (round (load -ℤ zero)) e) refl
 
-pub within-true : (limit zero : ℤ) → is_within limit zero ≡ true → (neg_ℤ limit ≤ℤ zero) × (zero ≤ℤ limit)
+pub within-true : (limit zero : ℤ) → is_within_limit limit zero ≡ true → (neg_ℤ limit ≤ℤ zero) × (zero ≤ℤ limit)
 within-true limit zero e = go (int_le (neg_ℤ limit) zero) (int_le zero limit) refl refl e
   where
     go : (a b : Bool) → int_le (neg_ℤ limit) zero ≡ a → int_le zero limit ≡ b → (a && b) ≡ true → (neg_ℤ limit ≤ℤ zero) × (zero ≤ℤ limit)

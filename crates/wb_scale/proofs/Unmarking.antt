@@ -5,12 +5,12 @@ use Rattle.wb_instrument.specs.Setup.{Setup}
 use Rattle.wb_window.specs.declared.reading.Reading.{Reading}
 use Rattle.wb_scale.specs.declared.answers.TareNow.{TareNow}
 use Rattle.wb_scale.specs.Call.{Call, read, read_for_zero, set_zero, tare, preset, clear_tare, stored}
-use Rattle.wb_scale.specs.History.{moment, moments}
+use Rattle.wb_scale.specs.History.{moment_of_call, moments}
 use Rattle.wb_scale.specs.Indication.{indicated}
 use Rattle.wb_scale.specs.Moment.{Moment, nothing, readings}
 use Rattle.wb_scale.specs.Tare.{tare_answer, tare_now}
 use Rattle.wb_scale.specs.Tracking.{steps}
-use Rattle.wb_scale.specs.Unmarked.{AllSameUnmarked, unmarked}
+use Rattle.wb_scale.specs.Unmarked.{AllSameUnmarked, unmarked_calls}
 use Rattle.wb_scale.specs.Zero.{above_zero, zero_now}
 use Rattle.wb_scale.proofs.Moments.{steps-none, steps-taken, tare_now-new, tare_now-same, zero_now-set, zero_now-step, readings-none, readings-taken}
 
@@ -59,7 +59,7 @@ Alike-stored ms ns a =
     }
 
 -- the same comes of a call after both
-moment-alike : (s : Setup) (c : Call) (ms ns : List Moment) → Alike ms ns → moment s c ms ≡ moment s c ns
+moment-alike : (s : Setup) (c : Call) (ms ns : List Moment) → Alike ms ns → moment_of_call s c ms ≡ moment_of_call s c ns
 unfolding above_zero
 moment-alike s (read r) ms ns a = rw (a.readings, a.zero, a.steps) refl
 moment-alike s (read_for_zero r) ms ns a = rw (a.readings, a.zero, a.steps) refl
@@ -69,10 +69,10 @@ moment-alike s (preset grams) ms ns a = rw a.tare refl
 moment-alike s clear_tare ms ns a = refl
 moment-alike s stored ms ns a = refl
 
-Alike-call : (s : Setup) (c : Call) (ms ns : List Moment) → Alike ms ns → Alike (moment s c ms ∷ ms) (moment s c ns ∷ ns)
-Alike-call s c ms ns a = subst (λ m. Alike (moment s c ms ∷ ms) (m ∷ ns)) (moment-alike s c ms ns a) (Alike-both (moment s c ms) ms ns a)
+Alike-call : (s : Setup) (c : Call) (ms ns : List Moment) → Alike ms ns → Alike (moment_of_call s c ms ∷ ms) (moment_of_call s c ns ∷ ns)
+Alike-call s c ms ns a = subst (λ m. Alike (moment_of_call s c ms ∷ ms) (m ∷ ns)) (moment-alike s c ms ns a) (Alike-both (moment_of_call s c ms) ms ns a)
 
-alike : (s : Setup) (h : List Call) → Alike (moments s h) (moments s (unmarked h))
+alike : (s : Setup) (h : List Call) → Alike (moments s h) (moments s (unmarked_calls h))
 alike s [] = record { readings = refl; zero = refl; tare = refl; steps = refl }
 alike s (read r ∷ h) = Alike-call s (read r) _ _ (alike s h)
 alike s (read_for_zero r ∷ h) = Alike-call s (read_for_zero r) _ _ (alike s h)
@@ -94,7 +94,7 @@ pub all_same : AllSameUnmarked
 all_same s h =
     let a = alike s h in
     let ms = moments s h in
-    let ns = moments s (unmarked h) in
+    let ns = moments s (unmarked_calls h) in
     record {
       readings = sym a.readings;
       indicated = indicated-alike s ms ns a;

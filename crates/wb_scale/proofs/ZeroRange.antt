@@ -12,9 +12,9 @@ use Rattle.wb_scale.specs.declared.answers.TareNow.TheVariants.{Empty}
 use Rattle.wb_scale.specs.declared.answers.ZeroAnswer.TheVariants.{Above, Below, Done}
 use Rattle.wb_scale.specs.Call.{read, read_for_zero, set_zero, tare, preset, clear_tare, stored}
 use Rattle.wb_scale.specs.Drift.{ZeroInRange}
-use Rattle.wb_scale.specs.History.{moment, moments, taken}
+use Rattle.wb_scale.specs.History.{moment_of_call, moment_of_reading, moments}
 use Rattle.wb_scale.specs.Moment.{Moment, nothing, readings}
-use Rattle.wb_scale.specs.Tracking.{is_quiet, is_within, step_at, step_to, towards}
+use Rattle.wb_scale.specs.Tracking.{is_quiet, is_within_limit, step_at, step_to, towards}
 use Rattle.wb_scale.specs.Zero.{is_done, last_load, load_of, zero_answer_at, zero_answer_of, zero_now}
 use Rattle.wb_scale.proofs.Moments.{zero_now-set, zero_now-step}
 use Rattle.wb_scale.proofs.Tracks.{within-true}
@@ -27,9 +27,9 @@ kept limit zero w = (omega (arith, ints, w.0), omega (arith, ints, w.1))
 
 step_to-within : (limit zero : ℤ) (load : Option ℤ) → Within limit zero → Within limit (zero +ℤ step_to limit zero load)
 step_to-within limit zero None w = kept limit zero w
-step_to-within limit zero (Some load) w = go (int_eq (round (load -ℤ zero)) (pos 0)) (is_within limit (zero +ℤ towards zero load)) refl
+step_to-within limit zero (Some load) w = go (int_eq (round (load -ℤ zero)) (pos 0)) (is_within_limit limit (zero +ℤ towards zero load)) refl
   where
-    go : (a b : Bool) → is_within limit (zero +ℤ towards zero load) ≡ b → Within limit (zero +ℤ cond (a && b) (towards zero load) (pos 0))
+    go : (a b : Bool) → is_within_limit limit (zero +ℤ towards zero load) ≡ b → Within limit (zero +ℤ cond (a && b) (towards zero load) (pos 0))
     go true true e = within-true limit (zero +ℤ towards zero load) e
     go true false e = kept limit zero w
     go false b e = kept limit zero w
@@ -73,8 +73,8 @@ at_first : (s : Setup) → Within (pos (zero_limit s)) (zero_now [])
 unfolding zero_now
 at_first s = (omega (arith, ints), omega (arith, ints))
 
-after-read : (s : Setup) (r : Reading) (ms : List Moment) → Within (pos (zero_limit s)) (zero_now ms) → Within (pos (zero_limit s)) (zero_now (taken s r ms ∷ ms))
-after-read s r ms w = after-step (pos (zero_limit s)) (taken s r ms) ms refl (step_at-within s r ms w)
+after-read : (s : Setup) (r : Reading) (ms : List Moment) → Within (pos (zero_limit s)) (zero_now ms) → Within (pos (zero_limit s)) (zero_now (moment_of_reading s r ms ∷ ms))
+after-read s r ms w = after-step (pos (zero_limit s)) (moment_of_reading s r ms) ms refl (step_at-within s r ms w)
 
 -- a moment that sets the zero where the answer is so, or another
 after-either : (limit : ℤ) (stable : Bool) (m n : Moment) (ms : List Moment) → Within limit (zero_now (n ∷ ms)) → Within limit (zero_now (cond (is_done (zero_answer_of stable limit m.zeroed)) m n ∷ ms))
@@ -89,11 +89,11 @@ zero_in_range s [] = at_first s
 zero_in_range s (read r ∷ h) = after-read s r (moments s h) (zero_in_range s h)
 zero_in_range s (read_for_zero r ∷ h) =
     let ms = moments s h in
-    after-either (pos (zero_limit s)) (is_stable s.window s.band (r ∷ readings ms)) (record nothing { reading = Some r; zeroed = load_of r; tare = Some Empty }) (taken s r ms) ms (after-read s r ms (zero_in_range s h))
+    after-either (pos (zero_limit s)) (is_stable s.window s.band (r ∷ readings ms)) (record nothing { reading = Some r; zeroed = load_of r; tare = Some Empty }) (moment_of_reading s r ms) ms (after-read s r ms (zero_in_range s h))
 zero_in_range s (set_zero ∷ h) =
     let ms = moments s h in
     after-either (pos (zero_limit s)) (is_stable s.window s.band (readings ms)) (record nothing { zeroed = last_load (readings ms); tare = Some Empty }) nothing ms (after-none (pos (zero_limit s)) nothing ms refl refl (zero_in_range s h))
-zero_in_range s (tare ∷ h) = after-none (pos (zero_limit s)) (moment s tare (moments s h)) (moments s h) refl refl (zero_in_range s h)
-zero_in_range s (preset grams ∷ h) = after-none (pos (zero_limit s)) (moment s (preset grams) (moments s h)) (moments s h) refl refl (zero_in_range s h)
-zero_in_range s (clear_tare ∷ h) = after-none (pos (zero_limit s)) (moment s clear_tare (moments s h)) (moments s h) refl refl (zero_in_range s h)
-zero_in_range s (stored ∷ h) = after-none (pos (zero_limit s)) (moment s stored (moments s h)) (moments s h) refl refl (zero_in_range s h)
+zero_in_range s (tare ∷ h) = after-none (pos (zero_limit s)) (moment_of_call s tare (moments s h)) (moments s h) refl refl (zero_in_range s h)
+zero_in_range s (preset grams ∷ h) = after-none (pos (zero_limit s)) (moment_of_call s (preset grams) (moments s h)) (moments s h) refl refl (zero_in_range s h)
+zero_in_range s (clear_tare ∷ h) = after-none (pos (zero_limit s)) (moment_of_call s clear_tare (moments s h)) (moments s h) refl refl (zero_in_range s h)
+zero_in_range s (stored ∷ h) = after-none (pos (zero_limit s)) (moment_of_call s stored (moments s h)) (moments s h) refl refl (zero_in_range s h)

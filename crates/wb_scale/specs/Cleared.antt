@@ -11,9 +11,9 @@ has_below_min None = false
 has_below_min (Some gross) = is_below_min gross
 
 -- the moments up to each call, the newest call first
-abbrev pub places : List Moment → List (List Moment)
-places [] = []
-places (m ∷ ms) = (m ∷ ms) ∷ places ms
+abbrev pub moments_at_calls : List Moment → List (List Moment)
+moments_at_calls [] = []
+moments_at_calls (m ∷ ms) = (m ∷ ms) ∷ moments_at_calls ms
 
 -- the newest call took a reading, whose gross is below Min; the gross is that after the reading's effect on the zero
 abbrev pub clears : List Moment → Bool
@@ -27,4 +27,4 @@ stores (m ∷ ms) = m.stored
 
 -- the bridge is cleared: since the last stored weighing, or the opening, some reading's gross was below Min
 unfoldable pub is_cleared : List Moment → Bool
-is_cleared ms = list_any clears (before_first stores (places ms))
+is_cleared ms = list_any clears (before_first stores (moments_at_calls ms))

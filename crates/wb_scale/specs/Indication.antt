@@ -16,30 +16,30 @@ abbrev pub gross : List Moment → Option ℤ
 gross ms = option_map round (above_zero ms)
 
 -- net, in whole e: the load above the zero less the tare, rounded; a weighed tare stands in it in tenths, not rounded
-abbrev pub net : List Moment → Option ℤ
-net ms = option_map (λ tenths. round (tenths -ℤ tare_tenths (tare_now ms))) (above_zero ms)
+abbrev pub net_now : List Moment → Option ℤ
+net_now ms = option_map (λ tenths. round (tenths -ℤ tare_tenths (tare_now ms))) (above_zero ms)
 
 -- gross and net are indicated, unless gross is over or under
-abbrev pub shown : Setup → Bool → ℤ → ℤ → Indicated
-shown s stable gross net =
+abbrev pub weights_unless_outside : Setup → Bool → ℤ → ℤ → Indicated
+weights_unless_outside s stable gross net_now =
     if is_over s gross then Over
     else if is_under gross then Under
-    else Shown gross net stable
+    else Shown gross net_now stable
 
 -- so many tenths above the zero are indicated, with a tare
 abbrev pub indicated_at : Setup → Bool → TareNow → Option ℤ → Indicated
 indicated_at s stable tare None = NoLoad
-indicated_at s stable tare (Some tenths) = shown s stable (round tenths) (round (tenths -ℤ tare_tenths tare))
+indicated_at s stable tare (Some tenths) = weights_unless_outside s stable (round tenths) (round (tenths -ℤ tare_tenths tare))
 
 -- what is indicated after these moments
 unfoldable pub indicated : Setup → List Moment → Indicated
 indicated s ms = indicated_at s (is_stable s.window s.band (readings ms)) (tare_now ms) (above_zero ms)
 
 -- what is shown is in range
-abbrev pub IsInRange : Setup → Indicated → Type 0
-IsInRange s NoLoad = Unit {0}
-IsInRange s Over = Unit {0}
-IsInRange s Under = Unit {0}
-IsInRange s (Shown gross net stable) =
+abbrev pub IsIndicationInRange : Setup → Indicated → Type 0
+IsIndicationInRange s NoLoad = Unit {0}
+IsIndicationInRange s Over = Unit {0}
+IsIndicationInRange s Under = Unit {0}
+IsIndicationInRange s (Shown gross net_now stable) =
     (neg_ℤ (pos 20) ≤ℤ gross) × (gross ≤ℤ pos (intervals s + 9))
-    × (neg_ℤ (pos (intervals s + 20)) ≤ℤ net) × (net ≤ℤ pos (intervals s + 9))
+    × (neg_ℤ (pos (intervals s + 20)) ≤ℤ net_now) × (net_now ≤ℤ pos (intervals s + 9))

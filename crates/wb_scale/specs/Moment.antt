@@ -27,8 +27,8 @@ unfoldable pub readings : List Moment → List Reading
 readings ms = filter_map (λ m. m.reading) ms
 
 -- what the newest moment that has such a thing has
-abbrev pub newest : {X : Type 0} → (Moment → Option X) → List Moment → Option X
-newest thing ms = slice_get (filter_map thing ms) 0
+abbrev pub newest_having : {X : Type 0} → (Moment → Option X) → List Moment → Option X
+newest_having thing ms = slice_get (filter_map thing ms) 0
 
 abbrev pub total : List ℤ → ℤ
 total [] = pos 0

@@ -12,7 +12,7 @@ use Rattle.wb_scale.specs.Tracking.{is_quiet}
 use Rattle.wb_scale.specs.Zero.{zero_now}
 
 -- what a scale keeps is what the definitions say of these moments
-pub record StandsAt (i : Setup) (s : State) (ms : List Moment) : Type 0 where
+pub record ScaleStandsAt (i : Setup) (s : State) (ms : List Moment) : Type 0 where
   pub held : s.held.readings ≡ take i.window (readings ms)
   pub zero : s.zero ≡ zero_now ms
   -- after k more readings the pause is over exactly if none of the readings so far that still count by then made a step
@@ -21,14 +21,14 @@ pub record StandsAt (i : Setup) (s : State) (ms : List Moment) : Type 0 where
   pub cleared : s.cleared ≡ is_cleared ms
 
 -- the scale stands after the history
-pub record Stands (s : State) (h : List Call) : Type 0 where
-  pub now : StandsAt s.setup s (moments s.setup h)
+pub record ScaleStands (s : State) (h : List Call) : Type 0 where
+  pub now : ScaleStandsAt s.setup s (moments s.setup h)
 
 -- the scale takes calls, the newest first: after whatever history it stood, it stands after that history with the calls
-pub record TakesAll (old new : State) (calls : List Call) : Type 0 where
+pub record ScaleTakesAll (old new : State) (calls : List Call) : Type 0 where
   pub setup : new.setup ≡ old.setup
-  pub stands : (h : List Call) → Stands old h → Stands new (calls ++ h)
+  pub stands : (h : List Call) → ScaleStands old h → ScaleStands new (calls ++ h)
 
 -- the scale takes a call
-abbrev pub Takes : State → State → Call → Type 0
-Takes old new call = TakesAll old new (call ∷ [])
+abbrev pub ScaleTakes : State → State → Call → Type 0
+ScaleTakes old new call = ScaleTakesAll old new (call ∷ [])

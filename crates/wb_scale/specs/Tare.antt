@@ -10,12 +10,12 @@ use Rattle.wb_scale.specs.declared.answers.TareAnswer.{TareAnswer}
 use Rattle.wb_scale.specs.declared.answers.TareAnswer.TheVariants.{Done, NotStable, PresetInUse, Above, Below}
 use Rattle.wb_scale.specs.declared.answers.TareNow.{TareNow}
 use Rattle.wb_scale.specs.declared.answers.TareNow.TheVariants.{Empty, Weighed, Preset}
-use Rattle.wb_scale.specs.Moment.{Moment, newest, readings}
+use Rattle.wb_scale.specs.Moment.{Moment, newest_having, readings}
 use Rattle.wb_scale.specs.Zero.{above_zero}
 
 -- the tare in force: what it last became, if ever
 unfoldable pub tare_now : List Moment → TareNow
-tare_now ms = unwrap_or (newest (λ m. m.tare) ms) Empty
+tare_now ms = unwrap_or (newest_having (λ m. m.tare) ms) Empty
 
 -- its tenths of e: a weighed tare is kept in them, a preset tare in whole e
 abbrev pub tare_tenths : TareNow → ℤ

@@ -23,14 +23,14 @@ abbrev pub towards : ℤ → ℤ → ℤ
 towards zero load = if int_lt zero load then pos 1 else if int_lt load zero then neg_ℤ (pos 1) else pos 0
 
 -- a zero is within the limit on either side of the calibration zero
-abbrev pub is_within : ℤ → ℤ → Bool
-is_within limit zero = int_le (neg_ℤ limit) zero && int_le zero limit
+abbrev pub is_within_limit : ℤ → ℤ → Bool
+is_within_limit limit zero = int_le (neg_ℤ limit) zero && int_le zero limit
 
 -- the step at a load: a tenth towards it, where the gross is 0 and the moved zero is within the limit
 abbrev pub step_to : ℤ → ℤ → Option ℤ → ℤ
 step_to limit zero None = pos 0
 step_to limit zero (Some load) =
-    if int_eq (round (load -ℤ zero)) (pos 0) && is_within limit (zero +ℤ towards zero load) then towards zero load
+    if int_eq (round (load -ℤ zero)) (pos 0) && is_within_limit limit (zero +ℤ towards zero load) then towards zero load
     else pos 0
 
 -- the step that zero tracking makes at a reading after these moments: only where the scale is stable with it, and none of

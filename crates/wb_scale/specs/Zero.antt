@@ -8,12 +8,12 @@ use Rattle.wb_window.specs.declared.reading.Reading.TheVariants.{Load, Lost}
 use Rattle.wb_window.specs.Stability.{is_stable}
 use Rattle.wb_scale.specs.declared.answers.ZeroAnswer.{ZeroAnswer}
 use Rattle.wb_scale.specs.declared.answers.ZeroAnswer.TheVariants.{Done, NotStable, Above, Below}
-use Rattle.wb_scale.specs.Moment.{Moment, newest, readings, total}
+use Rattle.wb_scale.specs.Moment.{Moment, newest_having, readings, total}
 
 -- the zero, in tenths of e from the calibration zero: the load that it was last set to, if ever, and all steps of zero
 -- tracking since
 unfoldable pub zero_now : List Moment → ℤ
-zero_now ms = unwrap_or (newest (λ m. m.zeroed) ms) (pos 0) +ℤ total (map (λ m. m.step) (before_first (λ m. is_some m.zeroed) ms))
+zero_now ms = unwrap_or (newest_having (λ m. m.zeroed) ms) (pos 0) +ℤ total (map (λ m. m.step) (before_first (λ m. is_some m.zeroed) ms))
 
 abbrev pub load_of : Reading → Option ℤ
 load_of (Load load) = Some load
@@ -50,5 +50,5 @@ is_done Above = false
 is_done Below = false
 
 -- a zero is in its range: within n/5 on either side of the calibration zero
-abbrev pub IsInRange : Setup → ℤ → Type 0
-IsInRange s zero = (neg_ℤ (pos (zero_limit s)) ≤ℤ zero) × (zero ≤ℤ pos (zero_limit s))
+abbrev pub IsZeroInRange : Setup → ℤ → Type 0
+IsZeroInRange s zero = (neg_ℤ (pos (zero_limit s)) ≤ℤ zero) × (zero ≤ℤ pos (zero_limit s))

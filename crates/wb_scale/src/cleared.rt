@@ -5,7 +5,7 @@ ghost use Rattle.wb_scale.specs.Call.{Call, stored};
 ghost use Rattle.wb_scale.specs.Cleared.{is_cleared};
 ghost use Rattle.wb_scale.specs.History.{moments};
 ghost use Rattle.wb_scale.specs.helpers.Load.{IsAbove};
-ghost use Rattle.wb_scale.specs.Stands.{Stands, Takes};
+ghost use Rattle.wb_scale.specs.Stands.{ScaleStands, ScaleTakes};
 
 use crate::Scale;
 use wb_instrument::{MIN_INTERVALS, round_tenths};
@@ -14,7 +14,7 @@ use wb_window::Window;
 impl<W: Window> Scale<W> {
     /// Whether the bridge was cleared since the last stored weighing, or since the opening.
     pub fn is_cleared(&self) -> bool
-        ensures { (h : List Call) → Stands self.now h
+        ensures { (h : List Call) → ScaleStands self.now h
             → result ≡ is_cleared (moments self.now.setup h) }
     {
         self.cleared
@@ -22,7 +22,7 @@ impl<W: Window> Scale<W> {
 
     /// A weighing was stored: the bridge is not cleared.
     pub fn mark_stored(&mut self)
-        ensures takes { Takes self.old self.new stored }
+        ensures takes { ScaleTakes self.old self.new stored }
     {
         self.cleared = false;
     }

@@ -3,10 +3,10 @@ ghost use Rattle.std.specs.Prelude.{◌≡◌, IfSome, List};
 ghost use Rattle.wb_window.specs.Stability.{is_stable};
 ghost use Rattle.wb_scale.specs.Call.{Call};
 ghost use Rattle.wb_scale.specs.History.{moments};
-ghost use Rattle.wb_scale.specs.Indication.{IsInRange, indicated, indicated_at, shown};
+ghost use Rattle.wb_scale.specs.Indication.{IsIndicationInRange, indicated, indicated_at, weights_unless_outside};
 ghost use Rattle.wb_scale.specs.helpers.Load.{IsAbove};
 ghost use Rattle.wb_scale.specs.Moment.{readings};
-ghost use Rattle.wb_scale.specs.Stands.{Stands};
+ghost use Rattle.wb_scale.specs.Stands.{ScaleStands};
 ghost use Rattle.wb_scale.specs.Tare.{IsTare, tare_now};
 
 use crate::Scale;
@@ -18,9 +18,9 @@ use wb_window::Window;
 impl<W: Window> Scale<W> {
     /// What is indicated of the last reading.
     pub fn indicated(&self) -> Indicated
-        ensures value { (h : List Call) → Stands self.now h
+        ensures value { (h : List Call) → ScaleStands self.now h
             → result ≡ indicated self.now.setup (moments self.now.setup h) }
-        ensures in_range { IsInRange self.now.setup result }
+        ensures in_range { IsIndicationInRange self.now.setup result }
     {
         let stable = self.window.stable();
         indicated_of(&self.instrument, stable, self.tare, self.above_zero())
@@ -28,7 +28,7 @@ impl<W: Window> Scale<W> {
 
     /// Whether the scale is stable.
     pub fn is_stable(&self) -> bool
-        ensures { (h : List Call) → Stands self.now h
+        ensures { (h : List Call) → ScaleStands self.now h
             → result ≡ is_stable self.now.setup.window self.now.setup.band
             (readings (moments self.now.setup h)) }
     {
@@ -37,7 +37,7 @@ impl<W: Window> Scale<W> {
 
     /// The tare in force.
     pub fn tare_in_force(&self) -> TareNow
-        ensures value { (h : List Call) → Stands self.now h
+        ensures value { (h : List Call) → ScaleStands self.now h
             → result ≡ tare_now (moments self.now.setup h) }
         ensures in_range { IsTare self.now.setup result }
     {
@@ -68,7 +68,7 @@ fn indicated_of(
 
 /// Gross and net, where gross is within the limits of indication.
 fn shown_of(instrument: &Instrument, stable: bool, gross: i32, net: i32) -> Indicated
-    ensures { result ≡ shown instrument.now stable gross net }
+    ensures { result ≡ weights_unless_outside instrument.now stable gross net }
 {
     if instrument.is_over(gross) {
         Indicated::Over

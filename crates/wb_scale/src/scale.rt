@@ -36,7 +36,7 @@ impl<W: Window> Scale<W> {
     ghost use Rattle.wb_scale.specs.helpers.After.{above};
     ghost use Rattle.wb_scale.specs.Call.{Call, read};
     ghost use Rattle.wb_scale.specs.helpers.Load.{IsAbove, IsLoad};
-    ghost use Rattle.wb_scale.specs.Stands.{Stands, Takes};
+    ghost use Rattle.wb_scale.specs.Stands.{ScaleStands, ScaleTakes};
     ghost use Rattle.wb_scale.specs.Zero.{last_load};
 
     /// A scale over a fresh window, with the zero at the calibration zero, no tare, and the bridge not cleared.
@@ -44,7 +44,7 @@ impl<W: Window> Scale<W> {
         requires fresh { W.held window
             ≡ record { size = instrument.window; band = instrument.band; readings = [] } }
         ensures setup { result.setup ≡ instrument }
-        ensures stands { Stands result [] }
+        ensures stands { ScaleStands result [] }
     {
         // what holds of every setup holds of this one
         let _window = instrument.window();
@@ -70,7 +70,7 @@ impl<W: Window> Scale<W> {
     /// Takes a reading; zero tracking may move the zero.
     pub fn read(&mut self, reading: Reading)
         requires { IsReading reading }
-        ensures takes { Takes self.old self.new (read reading) }
+        ensures takes { ScaleTakes self.old self.new (read reading) }
     {
         self.window.read(reading);
         self.track();

@@ -3,7 +3,7 @@ ghost use Rattle.std.specs.Prelude.{◌≡◌, ◌≤ℤ◌, false, IfErr, IfOk,
 ghost use Rattle.wb_scale.specs.Call.{Call, clear_tare, preset, tare};
 ghost use Rattle.wb_scale.specs.History.{moments};
 ghost use Rattle.wb_scale.specs.helpers.Load.{IsAbove};
-ghost use Rattle.wb_scale.specs.Stands.{Stands, Takes};
+ghost use Rattle.wb_scale.specs.Stands.{ScaleStands, ScaleTakes};
 ghost use Rattle.wb_scale.specs.Tare.{IsTare, is_preset, is_preset_done, is_tared, is_weighed, preset_answer, tare_answer, tare_answer_of, tare_kg, tare_now, tare_tenths};
 
 use crate::Scale;
@@ -17,9 +17,9 @@ const TENTHS: i32 = 10;
 impl<W: Window> Scale<W> {
     /// Tares the last load, in stable equilibrium; the tare takes the place of an older weighed one.
     pub fn tare(&mut self) -> TareAnswer
-        ensures answer { (h : List Call) → Stands self.old h
+        ensures answer { (h : List Call) → ScaleStands self.old h
             → result ≡ tare_answer self.old.setup (moments self.old.setup h) }
-        ensures takes { Takes self.old self.new tare }
+        ensures takes { ScaleTakes self.old self.new tare }
         ensures refused { is_tared result ≡ false → self.new ≡ self.old }
     {
         let stable = self.window.stable();
@@ -34,9 +34,9 @@ impl<W: Window> Scale<W> {
 
     /// Sets a preset tare of so many grams, rounded to e; it takes the place of an older preset tare.
     pub fn preset(&mut self, grams: u64) -> PresetAnswer
-        ensures answer { (h : List Call) → Stands self.old h
+        ensures answer { (h : List Call) → ScaleStands self.old h
             → result ≡ preset_answer self.old.setup (moments self.old.setup h) grams }
-        ensures takes { Takes self.old self.new (preset grams) }
+        ensures takes { ScaleTakes self.old self.new (preset grams) }
         ensures refused { is_preset_done result ≡ false → self.new ≡ self.old }
     {
         match preset_target(self.tare, self.instrument.preset_of_grams(grams)) {
@@ -50,7 +50,7 @@ impl<W: Window> Scale<W> {
 
     /// The tare in force in kilograms, a weighed one rounded to e; 0 with no tare.
     pub fn tare_kg(&self) -> i32
-        ensures { (h : List Call) → Stands self.now h
+        ensures { (h : List Call) → ScaleStands self.now h
             → result ≡ tare_kg self.now.setup (tare_now (moments self.now.setup h)) }
     {
         tare_kilograms(&self.instrument, self.tare)
@@ -58,7 +58,7 @@ impl<W: Window> Scale<W> {
 
     /// Clears the tare.
     pub fn clear_tare(&mut self)
-        ensures takes { Takes self.old self.new clear_tare }
+        ensures takes { ScaleTakes self.old self.new clear_tare }
     {
         self.tare = TareNow::Empty;
     }

@@ -4,8 +4,8 @@ ghost use Rattle.wb_instrument.specs.Limits.{zero_limit};
 ghost use Rattle.wb_window.specs.Stability.{is_stable};
 ghost use Rattle.wb_scale.specs.helpers.After.{pause_from, step_of, tracked};
 ghost use Rattle.wb_scale.specs.helpers.Load.{IsLoad};
-ghost use Rattle.wb_scale.specs.Tracking.{is_within as is_within_limit, step_to, towards};
-ghost use Rattle.wb_scale.specs.Zero.{IsInRange};
+ghost use Rattle.wb_scale.specs.Tracking.{is_within_limit, step_to, towards};
+ghost use Rattle.wb_scale.specs.Zero.{IsZeroInRange};
 
 use crate::Scale;
 use crate::cleared::cleared_by;
@@ -37,12 +37,12 @@ fn tracking_step<W: Window>(
     zero: i32,
 ) -> i32
     requires load { IfSome load IsLoad }
-    requires zero { IsInRange instrument.now zero }
+    requires zero { IsZeroInRange instrument.now zero }
     requires limit { zero_limit instrument.now ≤ 2_000 }
     ensures value { let held = W.held window.now in
         result ≡ step_of (is_stable held.size held.band held.readings) pause
         (pos (zero_limit instrument.now)) zero load }
-    ensures within { IsInRange instrument.now (zero +ℤ result) }
+    ensures within { IsZeroInRange instrument.now (zero +ℤ result) }
 {
     let due = step_due(instrument, pause, load, zero);
     if due != 0 && !window.stable() { 0 } else { due }
@@ -51,10 +51,10 @@ fn tracking_step<W: Window>(
 /// The step of zero tracking at a load, in tenths of e, if the scale is stable: none in a pause.
 fn step_due(instrument: &Instrument, pause: u32, load: Option<i32>, zero: i32) -> i32
     requires load { IfSome load IsLoad }
-    requires zero { IsInRange instrument.now zero }
+    requires zero { IsZeroInRange instrument.now zero }
     requires limit { zero_limit instrument.now ≤ 2_000 }
     ensures value { result ≡ step_of true pause (pos (zero_limit instrument.now)) zero load }
-    ensures within { IsInRange instrument.now (zero +ℤ result) }
+    ensures within { IsZeroInRange instrument.now (zero +ℤ result) }
 {
     if pause > 0 {
         return 0;
@@ -69,10 +69,10 @@ fn step_due(instrument: &Instrument, pause: u32, load: Option<i32>, zero: i32) -
 /// so it is asked for only where gross is 0.
 fn step_to_load(instrument: &Instrument, load: i32, zero: i32) -> i32
     requires load { IsLoad load }
-    requires zero { IsInRange instrument.now zero }
+    requires zero { IsZeroInRange instrument.now zero }
     requires limit { zero_limit instrument.now ≤ 2_000 }
     ensures value { result ≡ step_to (pos (zero_limit instrument.now)) zero (Some load) }
-    ensures within { IsInRange instrument.now (zero +ℤ result) }
+    ensures within { IsZeroInRange instrument.now (zero +ℤ result) }
 {
     let gross = round_tenths(load - zero);
     if gross != 0 {

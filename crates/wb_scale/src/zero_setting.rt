@@ -5,7 +5,7 @@ ghost use Rattle.wb_scale.specs.helpers.After.{IsRefused, IsTarget};
 ghost use Rattle.wb_scale.specs.Call.{Call, read, read_for_zero, set_zero};
 ghost use Rattle.wb_scale.specs.History.{moments};
 ghost use Rattle.wb_scale.specs.Moment.{readings};
-ghost use Rattle.wb_scale.specs.Stands.{Stands, Takes};
+ghost use Rattle.wb_scale.specs.Stands.{ScaleStands, ScaleTakes};
 ghost use Rattle.wb_scale.specs.Zero.{is_done, zero_answer, zero_answer_of};
 
 use crate::Scale;
@@ -17,10 +17,10 @@ impl<W: Window> Scale<W> {
     /// Takes a reading, and sets the zero to it where that may be; where it may not, all is as after `read`.
     pub fn read_for_zero(&mut self, reading: Reading) -> ZeroAnswer
         requires { IsReading reading }
-        ensures answer { (h : List Call) → Stands self.old h
+        ensures answer { (h : List Call) → ScaleStands self.old h
             → result ≡ zero_answer self.old.setup (reading ∷ readings (moments self.old.setup h)) }
-        ensures takes { Takes self.old self.new (read_for_zero reading) }
-        ensures refused { is_done result ≡ false → Takes self.old self.new (read reading) }
+        ensures takes { ScaleTakes self.old self.new (read_for_zero reading) }
+        ensures refused { is_done result ≡ false → ScaleTakes self.old self.new (read reading) }
     {
         self.window.read(reading);
         match self.zero_target() {
@@ -41,9 +41,9 @@ impl<W: Window> Scale<W> {
 
     /// Sets the zero to the last load, in stable equilibrium and within 2 % of Max; the tare is cleared.
     pub fn zero(&mut self) -> ZeroAnswer
-        ensures answer { (h : List Call) → Stands self.old h
+        ensures answer { (h : List Call) → ScaleStands self.old h
             → result ≡ zero_answer self.old.setup (readings (moments self.old.setup h)) }
-        ensures takes { Takes self.old self.new set_zero }
+        ensures takes { ScaleTakes self.old self.new set_zero }
         ensures refused { is_done result ≡ false → self.new ≡ self.old }
     {
         match self.zero_target() {

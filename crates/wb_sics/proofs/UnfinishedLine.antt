@@ -9,7 +9,7 @@ use Rattle.wb_sics.specs.Lines.{without_carriage_return, line_command, stream, u
 use Rattle.std.specs.List.{before_first, prefix_len}
 use Rattle.std.proofs.lemmas.Grind.{reverse_onto}
 use Rattle.wb_sics.specs.declared.command.Command.{Command}
-use Rattle.wb_sics.specs.Event.{Event, byte}
+use Rattle.wb_sics.specs.Event.{TerminalEvent, byte}
 
 shorter : (n : ℕ) (text : List ℕ) → length (take n text) < n → length text < n
 shorter n text h = let l = length-take n text in omega arith
@@ -90,13 +90,13 @@ before_first-cons p x xs =
       | false ↦ rw one-add refl
     ]
 
-pub unfinished-byte : (b : ℕ) (h : List Event) → (b == 10) ≡ false → reverse (unfinished (byte b ∷ h)) ≡ reverse (unfinished h) ++ b ∷ []
+pub unfinished-byte : (b : ℕ) (h : List TerminalEvent) → (b == 10) ≡ false → reverse (unfinished (byte b ∷ h)) ≡ reverse (unfinished h) ++ b ∷ []
 unfinished-byte b h e = rw (before_first-cons (λ x. x == 10) b (stream h), e) (reverse_onto (unfinished h) b [])
 
-pub unfinished-line : (b : ℕ) (h : List Event) → (b == 10) ≡ true → unfinished (byte b ∷ h) ≡ []
+pub unfinished-line : (b : ℕ) (h : List TerminalEvent) → (b == 10) ≡ true → unfinished (byte b ∷ h) ≡ []
 unfinished-line b h e = rw (before_first-cons (λ x. x == 10) b (stream h), e) refl
 
-pub line_command-kept : (line : List ℕ) (h : List Event) (c : Command) → line ≡ take 42 (reverse (unfinished h))
+pub line_command-kept : (line : List ℕ) (h : List TerminalEvent) (c : Command) → line ≡ take 42 (reverse (unfinished h))
     → ((bytes : List ℕ) → line ≡ take 42 (reverse bytes) → c ≡ command_of (reverse (without_carriage_return bytes))) → c ≡ line_command h
 unfolding line_command
 line_command-kept line h c e k = k (unfinished h) e

@@ -12,8 +12,8 @@ use Rattle.wb_sics.specs.declared.reply.Reply.{Reply}
 use Rattle.wb_sics.specs.declared.waiting.Awaited.{Awaited}
 use Rattle.wb_sics.specs.declared.waiting.Awaited.TheVariants.{Weight as AwaitedWeight, Zero as AwaitedZero, Tare as AwaitedTare}
 use Rattle.wb_sics.specs.declared.waiting.Waiting.{Waiting}
-use Rattle.wb_sics.specs.Calls.{asked, asked_at, calls}
-use Rattle.wb_sics.specs.Event.{Event, reading, byte}
+use Rattle.wb_sics.specs.Calls.{asked_at, calls, calls_of_command}
+use Rattle.wb_sics.specs.Event.{TerminalEvent, reading, byte}
 use Rattle.wb_sics.specs.helpers.Kept.{asked_waiting, still, unless_decided, waiting_from, waiting_read}
 use Rattle.wb_sics.specs.Lines.{commanded, line_command}
 use Rattle.wb_sics.specs.Replies.{decided, one_of, waiting_after, weight_at, weight_waits}
@@ -31,7 +31,7 @@ record Alone (a b c : Bool) : Type 0 where
   zero : b ≡ true → c ≡ false
 
 -- of the three conditions at most one holds, since one command is the last
-alone : (i : Setup) (h : List Event) → Alone (weight_waits i h) (zero_waits i h) (tare_waits i h)
+alone : (i : Setup) (h : List TerminalEvent) → Alone (weight_waits i h) (zero_waits i h) (tare_waits i h)
 unfolding waits
 alone i h =
     go (option_and_then awaited_by (commanded h)) (held_since (weight_at i) h) (held_since (stable_at i) h) (nat_lt (readings_since h) i.wait)
@@ -51,7 +51,7 @@ asked-one false false true n r x = refl
 asked-one false false false n r x = refl
 
 -- a reading asks the same of the scale, whether the conditions say it or what waits
-pub asked-waits : (i : Setup) (r : Reading) (h : List Event) → asked_waiting (waiting_after i h) r ++ calls i h ≡ calls i (reading r ∷ h)
+pub asked-waits : (i : Setup) (r : Reading) (h : List TerminalEvent) → asked_waiting (waiting_after i h) r ++ calls i h ≡ calls i (reading r ∷ h)
 asked-waits i r h =
     ap (λ asks. asks ++ calls i h) (asked-one (weight_waits i h) (zero_waits i h) (tare_waits i h) (i.wait - readings_since h) r (alone i h))
 
@@ -69,7 +69,7 @@ read-one i k r false true c w z t m n x e p q s = rw (x.zero refl) (still-one Aw
 read-one i k r false false true w z t m n x e p q s = still-one AwaitedTare n _ t m e s
 read-one i k r false false false w z t m n x e p q s = refl
 
-pub waiting-reading : (i : Setup) (r : Reading) (h : List Event) → 1 ≤ i.window → waiting_read i (calls i h) r (waiting_after i h) ≡ waiting_after i (reading r ∷ h)
+pub waiting-reading : (i : Setup) (r : Reading) (h : List TerminalEvent) → 1 ≤ i.window → waiting_read i (calls i h) r (waiting_after i h) ≡ waiting_after i (reading r ∷ h)
 waiting-reading i r h window =
     let more : nat_lt 1 (i.wait - readings_since h) ≡ nat_lt (readings_since h + 1) i.wait = grind (arith, nat_tests) in
     let left : (i.wait - readings_since h) - 1 ≡ i.wait - (readings_since h + 1) = omega arith in
@@ -92,7 +92,7 @@ from-one kind i None t l e =
     rw (sym e, some, whole) refl
 
 line-one : (i : Setup) (k : List Call) (c : Command) (z t : Bool) → 1 ≤ i.wait → is_some (decided i (moments i k) AwaitedZero) ≡ z → is_some (decided i (moments i k) AwaitedTare) ≡ t
-    → waiting_from i (moments i k) c ≡ one_of (may_be AwaitedWeight (awaited_by c) && not (is_some (decided i (moments i (asked c ++ k)) AwaitedWeight)) && nat_lt 0 i.wait)
+    → waiting_from i (moments i k) c ≡ one_of (may_be AwaitedWeight (awaited_by c) && not (is_some (decided i (moments i (calls_of_command c ++ k)) AwaitedWeight)) && nat_lt 0 i.wait)
     (may_be AwaitedZero (awaited_by c) && not z && nat_lt 0 i.wait) (may_be AwaitedTare (awaited_by c) && not t && nat_lt 0 i.wait) (i.wait - 0)
 line-one i k Weight z t l e f = from-one AwaitedWeight i _ _ l refl
 line-one i k WeightNow z t l e f = refl
@@ -108,7 +108,7 @@ line-one i k Commands z t l e f = refl
 line-one i k SerialNumber z t l e f = refl
 line-one i k Unknown z t l e f = refl
 
-pub waiting-line : (i : Setup) (b : ℕ) (h : List Event) → (b == 10) ≡ true → 1 ≤ i.wait → 1 ≤ i.window
+pub waiting-line : (i : Setup) (b : ℕ) (h : List TerminalEvent) → (b == 10) ≡ true → 1 ≤ i.wait → 1 ≤ i.window
     → waiting_from i (moments i (calls i h)) (line_command h) ≡ waiting_after i (byte b ∷ h)
 waiting-line i b h e wait window =
     line-one i (calls i h) (line_command h) (stable_at i h) (stable_at i h) wait (zero-line i h window) (tare-line i h window)

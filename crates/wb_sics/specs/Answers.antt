@@ -20,46 +20,46 @@ weight_shown true kg = WeightStable kg
 weight_shown false kg = WeightMoving kg
 
 -- the reply to `SI`: the indicated net in kilograms; the net is rounded, the weighed tare in it is not (wb_scale, Indication)
-abbrev pub weight_now : Setup → Indicated → Reply
-weight_now s NoLoad = WeightRefused
-weight_now s Over = WeightOver
-weight_now s Under = WeightUnder
-weight_now s (Shown gross net stable) = weight_shown stable (pos s.interval_kg *ℤ net)
+abbrev pub reply_to_weight_now : Setup → Indicated → Reply
+reply_to_weight_now s NoLoad = WeightRefused
+reply_to_weight_now s Over = WeightOver
+reply_to_weight_now s Under = WeightUnder
+reply_to_weight_now s (Shown gross net stable) = weight_shown stable (pos s.interval_kg *ℤ net)
 
 abbrev pub stable_weight : Bool → ℤ → Option Reply
 stable_weight true kg = Some (WeightStable kg)
 stable_weight false kg = None
 
 -- the decided reply to `S`: where over, under or stable
-abbrev pub weight_reply : Setup → Indicated → Option Reply
-weight_reply s NoLoad = None
-weight_reply s Over = Some WeightOver
-weight_reply s Under = Some WeightUnder
-weight_reply s (Shown gross net stable) = stable_weight stable (pos s.interval_kg *ℤ net)
+abbrev pub reply_to_weight : Setup → Indicated → Option Reply
+reply_to_weight s NoLoad = None
+reply_to_weight s Over = Some WeightOver
+reply_to_weight s Under = Some WeightUnder
+reply_to_weight s (Shown gross net stable) = stable_weight stable (pos s.interval_kg *ℤ net)
 
 -- the decided reply to `Z`: where stable
-abbrev pub zero_reply : ZeroAnswer → Option Reply
-zero_reply Done = Some ZeroDone
-zero_reply NotStable = None
-zero_reply Above = Some ZeroAbove
-zero_reply Below = Some ZeroBelow
+abbrev pub reply_to_zero : ZeroAnswer → Option Reply
+reply_to_zero Done = Some ZeroDone
+reply_to_zero NotStable = None
+reply_to_zero Above = Some ZeroAbove
+reply_to_zero Below = Some ZeroBelow
 
 -- the decided reply to `T`: where stable
-abbrev pub tare_reply : TareAnswer → Option Reply
-tare_reply (TareDone kg) = Some (TareReply kg)
-tare_reply TareNotStable = None
-tare_reply PresetInUse = Some TareRefused
-tare_reply TareAboveMax = Some TareAbove
-tare_reply TareBelowZero = Some TareBelow
+abbrev pub reply_to_tare : TareAnswer → Option Reply
+reply_to_tare (TareDone kg) = Some (TareReply kg)
+reply_to_tare TareNotStable = None
+reply_to_tare PresetInUse = Some TareRefused
+reply_to_tare TareAboveMax = Some TareAbove
+reply_to_tare TareBelowZero = Some TareBelow
 
 -- the reply to a preset tare
-abbrev pub preset_reply : PresetAnswer → Reply
-preset_reply (PresetDone kg) = TareValue kg
-preset_reply WeighedInUse = PresetRefused
-preset_reply OutOfRange = PresetBad
+abbrev pub reply_to_preset : PresetAnswer → Reply
+reply_to_preset (PresetDone kg) = TareValue kg
+reply_to_preset WeighedInUse = PresetRefused
+reply_to_preset OutOfRange = PresetBad
 
 -- the reply to a command that is no longer waited for
-abbrev pub refusal : Awaited → Reply
-refusal AwaitedWeight = WeightRefused
-refusal AwaitedZero = ZeroRefused
-refusal AwaitedTare = TareRefused
+abbrev pub reply_given_up : Awaited → Reply
+reply_given_up AwaitedWeight = WeightRefused
+reply_given_up AwaitedZero = ZeroRefused
+reply_given_up AwaitedTare = TareRefused

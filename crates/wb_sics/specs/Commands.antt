@@ -2,7 +2,7 @@
 use Rattle.std.specs.Prelude.{ℕ, ◌+◌, ◌*◌, ◌-◌, ◌^◌, ◌==◌, ◌&&◌, Bool, nat_lt, List, length, take, drop, codes, nat_eq, is_some, if◌then◌else◌, Option, Some, None, option_map}
 use Rattle.std.specs.Cmp.Lexicographic.{pointwise}
 use Rattle.std.specs.List.{position, before_first, after_first}
-use Rattle.wb_text.specs.Digits.{digits}
+use Rattle.wb_text.specs.Digits.{numeral_value}
 use Rattle.wb_sics.specs.declared.command.Command.{Command}
 use Rattle.wb_sics.specs.declared.command.Command.TheVariants.{Weight, WeightNow, Repeat, Zero, Tare, TareValue, PresetTare, BadTare, ClearTare, Cancel, Commands, SerialNumber, Unknown}
 
@@ -11,7 +11,7 @@ is text word = pointwise nat_eq text word
 
 -- the grams of a fraction of a kilogram of 1 to 3 digits
 abbrev pub scaled : List ℕ → Option ℕ
-scaled fraction = option_map (λ n. n * 10 ^ (3 - length fraction)) (digits 3 fraction)
+scaled fraction = option_map (λ n. n * 10 ^ (3 - length fraction)) (numeral_value 3 fraction)
 
 -- both together, where both are there
 abbrev pub with_fraction : Option ℕ → Option ℕ → Option ℕ
@@ -23,18 +23,18 @@ with_fraction (Some whole) (Some fraction) = Some (whole * 1000 + fraction)
 abbrev pub grams : List ℕ → Option ℕ
 grams value =
     if is_some (position (λ b. b == 46) value)
-    then with_fraction (digits 7 (before_first (λ b. b == 46) value)) (scaled (after_first (λ b. b == 46) value))
-    else option_map (λ kg. kg * 1000) (digits 7 value)
+    then with_fraction (numeral_value 7 (before_first (λ b. b == 46) value)) (scaled (after_first (λ b. b == 46) value))
+    else option_map (λ kg. kg * 1000) (numeral_value 7 value)
 
-abbrev pub preset_or_bad : Option ℕ → Command
-preset_or_bad None = BadTare
-preset_or_bad (Some g) = PresetTare g
+abbrev pub preset_command : Option ℕ → Command
+preset_command None = BadTare
+preset_command (Some g) = PresetTare g
 
 -- a value, one blank, and `kg`
 abbrev pub tare_command : List ℕ → Command
 tare_command text =
     if is_some (position (λ b. b == 32) text) && is (after_first (λ b. b == 32) text) (codes "kg")
-    then preset_or_bad (grams (before_first (λ b. b == 32) text))
+    then preset_command (grams (before_first (λ b. b == 32) text))
     else BadTare
 
 -- the whole text

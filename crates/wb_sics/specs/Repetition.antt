@@ -3,7 +3,7 @@ use Rattle.std.specs.Prelude.{Bool, true, false, List, [], ◌∷◌, Option, So
 use Rattle.std.specs.List.{filter_map}
 use Rattle.wb_sics.specs.declared.command.Command.{Command}
 use Rattle.wb_sics.specs.declared.command.Command.TheVariants.{Weight, WeightNow, Repeat, Zero, Tare, TareValue, PresetTare, BadTare, ClearTare, Cancel, Commands, SerialNumber, Unknown}
-use Rattle.wb_sics.specs.Event.{Event}
+use Rattle.wb_sics.specs.Event.{TerminalEvent}
 use Rattle.wb_sics.specs.Lines.{commands}
 
 -- `SIR` turns the repetition on, `S`, `SI` and `@` turn it off; any other line leaves it
@@ -28,5 +28,5 @@ newest_or_off [] = false
 newest_or_off (on ∷ older) = on
 
 -- the value is repeated at each reading: of the lines `S`, `SI`, `SIR` and `@` since the last hang-up the newest is `SIR`
-abbrev pub is_repeating : List Event → Bool
+abbrev pub is_repeating : List TerminalEvent → Bool
 is_repeating h = newest_or_off (filter_map turned_by (commands h))

@@ -16,29 +16,29 @@ use Rattle.wb_sics.specs.declared.reply.Reply.TheVariants.{PresetBad, TareCleare
 use Rattle.wb_sics.specs.declared.waiting.Awaited.{Awaited}
 use Rattle.wb_sics.specs.declared.waiting.Awaited.TheVariants.{Weight as AwaitedWeight, Zero as AwaitedZero, Tare as AwaitedTare}
 use Rattle.wb_sics.specs.declared.waiting.Waiting.{Waiting}
-use Rattle.wb_sics.specs.Answers.{weight_now, weight_reply, zero_reply, tare_reply, preset_reply, refusal}
+use Rattle.wb_sics.specs.Answers.{reply_to_weight_now, reply_to_weight, reply_to_zero, reply_to_tare, reply_to_preset, reply_given_up}
 use Rattle.wb_sics.specs.Calls.{calls}
-use Rattle.wb_sics.specs.Event.{Event, reading, byte, hang_up, stored}
+use Rattle.wb_sics.specs.Event.{TerminalEvent, reading, byte, hang_up, stored}
 use Rattle.wb_sics.specs.Lines.{line_command}
 use Rattle.wb_sics.specs.Repetition.{is_repeating}
 use Rattle.wb_sics.specs.Waiting.{waits, zero_waits, tare_waits, readings_since}
 
 -- what came of the scale's calls
-abbrev pub moments_of : Setup → List Event → List Moment
+abbrev pub moments_of : Setup → List TerminalEvent → List Moment
 moments_of s h = moments s (calls s h)
 
 -- the reply to what is awaited, decided by these moments: none where the weight can't be given yet, or the scale isn't stable
 abbrev pub decided : Setup → List Moment → Awaited → Option Reply
-decided s ms AwaitedWeight = weight_reply s (indicated s ms)
-decided s ms AwaitedZero = zero_reply (zero_answer s (readings ms))
-decided s ms AwaitedTare = tare_reply (tare_answer s ms)
+decided s ms AwaitedWeight = reply_to_weight s (indicated s ms)
+decided s ms AwaitedZero = reply_to_zero (zero_answer s (readings ms))
+decided s ms AwaitedTare = reply_to_tare (tare_answer s ms)
 
 -- the weight can be given: over, under or stable
-abbrev pub weight_at : Setup → List Event → Bool
+abbrev pub weight_at : Setup → List TerminalEvent → Bool
 weight_at s h = is_some (decided s (moments_of s h) AwaitedWeight)
 
 -- a command for the weight waits until it can be given
-abbrev pub weight_waits : Setup → List Event → Bool
+abbrev pub weight_waits : Setup → List TerminalEvent → Bool
 weight_waits s h = waits AwaitedWeight (weight_at s) s.wait h
 
 -- the one that waits, if any does, for so many readings more
@@ -50,28 +50,28 @@ one_of weight zero tare left =
     else None
 
 -- what waits after a history, and for how many readings more; nothing waits after a hang-up
-abbrev pub waiting_after : Setup → List Event → Option Waiting
+abbrev pub waiting_after : Setup → List TerminalEvent → Option Waiting
 waiting_after s h = one_of (weight_waits s h) (zero_waits s h) (tare_waits s h) (s.wait - readings_since h)
 
 -- the commands, in their order
-abbrev pub listed : List Reply
-listed =
+abbrev pub listed_commands : List Reply
+listed_commands =
     Listed CancelName ∷ Listed CommandsName ∷ Listed SerialNumberName ∷ Listed WeightName ∷ Listed WeightNowName ∷ Listed RepeatName ∷ Listed ZeroName
     ∷ Listed TareName ∷ Listed TareValueName ∷ Listed ClearTareName ∷ []
 
 -- a command's own reply at its LF, after these moments of the scale; none where it waits, and none to `SIR`
 abbrev pub own_reply : Setup → List Moment → Command → List Reply
 own_reply s ms Weight = option_to_list (decided s ms AwaitedWeight)
-own_reply s ms WeightNow = weight_now s (indicated s ms) ∷ []
+own_reply s ms WeightNow = reply_to_weight_now s (indicated s ms) ∷ []
 own_reply s ms Repeat = []
 own_reply s ms Zero = option_to_list (decided s ms AwaitedZero)
 own_reply s ms Tare = option_to_list (decided s ms AwaitedTare)
 own_reply s ms TareValue = TareReply (tare_kg s (tare_now ms)) ∷ []
-own_reply s ms (PresetTare grams) = preset_reply (preset_answer s ms grams) ∷ []
+own_reply s ms (PresetTare grams) = reply_to_preset (preset_answer s ms grams) ∷ []
 own_reply s ms BadTare = PresetBad ∷ []
 own_reply s ms ClearTare = TareCleared ∷ []
 own_reply s ms Cancel = SerialReply s.serial ∷ []
-own_reply s ms Commands = listed
+own_reply s ms Commands = listed_commands
 own_reply s ms SerialNumber = SerialReply s.serial ∷ []
 own_reply s ms Unknown = Error ∷ []
 
@@ -93,12 +93,12 @@ is_cancel Unknown = false
 -- the refusal of what waits, before another line's reply; `@` alone drops it unanswered
 abbrev pub refused_by : Command → Option Waiting → List Reply
 refused_by next None = []
-refused_by next (Some w) = if is_cancel next then [] else (refusal w.awaited ∷ [])
+refused_by next (Some w) = if is_cancel next then [] else (reply_given_up w.awaited ∷ [])
 
 -- the reply to what waits at a reading: the decided one, else none before the last reading that it waits, and there a refusal
 abbrev pub reply_at : Option Reply → Waiting → List Reply
 reply_at (Some reply) w = reply ∷ []
-reply_at None w = if nat_lt 1 w.left then [] else (refusal w.awaited ∷ [])
+reply_at None w = if nat_lt 1 w.left then [] else (reply_given_up w.awaited ∷ [])
 
 -- the replies to what waits at a reading, after these calls of the scale
 abbrev pub replies_read : Setup → List Call → Reading → Option Waiting → List Reply
@@ -106,14 +106,14 @@ replies_read s k r None = []
 replies_read s k r (Some w) = reply_at (decided s (moments s (read r ∷ k)) w.awaited) w
 
 -- the reply to `SI` once more, after these moments of the scale, if the value is repeated
-abbrev pub repeated : Setup → List Moment → Bool → List Reply
-repeated s ms true = weight_now s (indicated s ms) ∷ []
-repeated s ms false = []
+abbrev pub repeated_reply : Setup → List Moment → Bool → List Reply
+repeated_reply s ms true = reply_to_weight_now s (indicated s ms) ∷ []
+repeated_reply s ms false = []
 
 -- the replies at the newest event: at a reading that to what waited, and then the repeated value; a hang-up has none, whatever waits
-unfoldable pub replies : Setup → List Event → List Reply
+unfoldable pub replies : Setup → List TerminalEvent → List Reply
 replies s [] = []
-replies s (reading r ∷ h) = replies_read s (calls s h) r (waiting_after s h) ++ repeated s (moments_of s (reading r ∷ h)) (is_repeating h)
+replies s (reading r ∷ h) = replies_read s (calls s h) r (waiting_after s h) ++ repeated_reply s (moments_of s (reading r ∷ h)) (is_repeating h)
 replies s (byte b ∷ h) =
     if b == 10
     then refused_by (line_command h) (waiting_after s h) ++ own_reply s (moments_of s h) (line_command h)

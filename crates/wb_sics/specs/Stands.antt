@@ -2,11 +2,11 @@
 use Rattle.std.specs.Prelude.{◌≡◌, ℕ, Bool, false, List, [], ◌∷◌, ◌++◌, take, reverse, Option, None}
 use Rattle.wb_instrument.specs.Setup.{Setup}
 use Rattle.wb_scale.specs.Call.{stored as stored_call}
-use Rattle.wb_scale.specs.Stands.{Stands as ScaleStands, Takes as ScaleTakes}
+use Rattle.wb_scale.specs.Stands.{ScaleStands, ScaleTakes}
 use Rattle.wb_scale.specs.State.{State}
 use Rattle.wb_sics.specs.declared.waiting.Waiting.{Waiting}
 use Rattle.wb_sics.specs.Calls.{calls}
-use Rattle.wb_sics.specs.Event.{Event, stored}
+use Rattle.wb_sics.specs.Event.{TerminalEvent, stored}
 use Rattle.wb_sics.specs.Lines.{unfinished}
 use Rattle.wb_sics.specs.Repetition.{is_repeating}
 use Rattle.wb_sics.specs.Replies.{waiting_after}
@@ -28,25 +28,25 @@ pub record IsIdle (s : TerminalState) : Type 0 where
   pub line : s.line ≡ []
 
 -- what a terminal keeps is what the definitions say of the history
-pub record StandsAt (i : Setup) (s : TerminalState) (h : List Event) : Type 0 where
+pub record TerminalStandsAt (i : Setup) (s : TerminalState) (h : List TerminalEvent) : Type 0 where
   pub scale : ScaleStands s.scale (calls i h)
   pub waiting : s.waiting ≡ waiting_after i h
   pub repeating : s.repeating ≡ is_repeating h
   pub line : s.line ≡ take 42 (reverse (unfinished h))
 
 -- the terminal stands after the history
-pub record Stands (s : TerminalState) (h : List Event) : Type 0 where
-  pub now : StandsAt s.scale.setup s h
+pub record TerminalStands (s : TerminalState) (h : List TerminalEvent) : Type 0 where
+  pub now : TerminalStandsAt s.scale.setup s h
 
 -- the terminal takes events, the newest first: after whatever history it stood, it stands after that history with the events
-pub record TakesAll (old new : TerminalState) (events : List Event) : Type 0 where
+pub record TerminalTakesAll (old new : TerminalState) (events : List TerminalEvent) : Type 0 where
   pub setup : new.scale.setup ≡ old.scale.setup
-  pub stands : (h : List Event) → Stands old h → Stands new (events ++ h)
+  pub stands : (h : List TerminalEvent) → TerminalStands old h → TerminalStands new (events ++ h)
 
 -- the terminal takes an event
-abbrev pub Takes : TerminalState → TerminalState → Event → Type 0
-Takes old new event = TakesAll old new (event ∷ [])
+abbrev pub TerminalTakes : TerminalState → TerminalState → TerminalEvent → Type 0
+TerminalTakes old new event = TerminalTakesAll old new (event ∷ [])
 
 -- the terminal takes a stored weighing as soon as its scale does
 abbrev pub TakesStored : Type 0
-TakesStored = (s : TerminalState) (scale : State) → ScaleTakes s.scale scale stored_call → Takes s (record s { scale = scale }) stored
+TakesStored = (s : TerminalState) (scale : State) → ScaleTakes s.scale scale stored_call → TerminalTakes s (record s { scale = scale }) stored

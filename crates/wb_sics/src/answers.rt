@@ -1,7 +1,7 @@
 //! The replies that the scale's answers give.
 ghost use Rattle.std.specs.Prelude.{◌≡◌};
-ghost use Rattle.wb_scale.specs.Indication.{IsInRange};
-ghost use Rattle.wb_sics.specs.Answers.{preset_reply as preset_reply_of, tare_reply as tare_reply_of, weight_now as weight_now_of, weight_reply as weight_reply_of, weight_shown, zero_reply as zero_reply_of};
+ghost use Rattle.wb_scale.specs.Indication.{IsIndicationInRange};
+ghost use Rattle.wb_sics.specs.Answers.{reply_to_preset, reply_to_tare, reply_to_weight, reply_to_weight_now, reply_to_zero, weight_shown};
 
 use crate::reply::Reply;
 use wb_instrument::Instrument;
@@ -9,8 +9,8 @@ use wb_scale::{Indicated, PresetAnswer, TareAnswer, ZeroAnswer};
 
 /// The reply to `SI`.
 pub(crate) fn weight_now(instrument: &Instrument, indicated: Indicated) -> Reply
-    requires { IsInRange instrument.now indicated }
-    ensures { result ≡ weight_now_of instrument.now indicated }
+    requires { IsIndicationInRange instrument.now indicated }
+    ensures { result ≡ reply_to_weight_now instrument.now indicated }
 {
     match indicated {
         Indicated::NoLoad => Reply::WeightRefused,
@@ -36,8 +36,8 @@ fn weight(stable: bool, kg: i32) -> Reply
 
 /// The decided reply to `S`: where over, under or stable.
 pub(crate) fn weight_reply(instrument: &Instrument, indicated: Indicated) -> Option<Reply>
-    requires { IsInRange instrument.now indicated }
-    ensures { result ≡ weight_reply_of instrument.now indicated }
+    requires { IsIndicationInRange instrument.now indicated }
+    ensures { result ≡ reply_to_weight instrument.now indicated }
 {
     match indicated {
         Indicated::NoLoad => None,
@@ -59,7 +59,7 @@ pub(crate) fn weight_reply(instrument: &Instrument, indicated: Indicated) -> Opt
 
 /// The decided reply to `Z`: where stable.
 pub(crate) fn zero_reply(answer: ZeroAnswer) -> Option<Reply>
-    ensures { result ≡ zero_reply_of answer }
+    ensures { result ≡ reply_to_zero answer }
 {
     match answer {
         ZeroAnswer::Done => Some(Reply::ZeroDone),
@@ -71,7 +71,7 @@ pub(crate) fn zero_reply(answer: ZeroAnswer) -> Option<Reply>
 
 /// The decided reply to `T`: where stable.
 pub(crate) fn tare_reply(answer: TareAnswer) -> Option<Reply>
-    ensures { result ≡ tare_reply_of answer }
+    ensures { result ≡ reply_to_tare answer }
 {
     match answer {
         TareAnswer::Done(kg) => Some(Reply::TareDone(kg)),
@@ -84,7 +84,7 @@ pub(crate) fn tare_reply(answer: TareAnswer) -> Option<Reply>
 
 /// The reply to a preset tare.
 pub(crate) fn preset_reply(answer: PresetAnswer) -> Reply
-    ensures { result ≡ preset_reply_of answer }
+    ensures { result ≡ reply_to_preset answer }
 {
     match answer {
         PresetAnswer::Done(kg) => Reply::TareValue(kg),

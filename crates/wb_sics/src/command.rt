@@ -1,6 +1,6 @@
 //! The command of a line (MT-SICS levels 0 and 1).
 ghost use Rattle.std.specs.Prelude.{◌≡◌};
-ghost use Rattle.wb_sics.specs.Commands.{command_of, preset_or_bad as preset_or_bad_of, tare_command, word_command};
+ghost use Rattle.wb_sics.specs.Commands.{command_of, preset_command, tare_command, word_command};
 
 use crate::grams::grams_of;
 use wb_text::split_at_first;
@@ -98,7 +98,7 @@ fn preset_tare(text: &[u8]) -> Command
 }
 
 fn preset_or_bad(grams: Option<u64>) -> Command
-    ensures { result ≡ preset_or_bad_of grams }
+    ensures { result ≡ preset_command grams }
 {
     match grams {
         Some(grams) => Command::PresetTare(grams),

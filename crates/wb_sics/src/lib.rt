@@ -10,7 +10,7 @@
 mod answers;
 mod command;
 mod grams;
-mod line;
+mod unfinished_line;
 mod repetition;
 mod reply;
 mod terminal;

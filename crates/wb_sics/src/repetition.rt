@@ -3,9 +3,9 @@ ghost use Rattle.arrayvec.specs.ArrayVec.{array_vec_len};
 ghost use Rattle.std.specs.Prelude.{◌≡◌, ◌≤◌, ◌++◌, List};
 ghost use Rattle.wb_scale.specs.Call.{Call};
 ghost use Rattle.wb_scale.specs.History.{moments};
-ghost use Rattle.wb_scale.specs.Stands.{Stands as ScaleStands};
-ghost use Rattle.wb_sics.specs.Replies.{repeated};
-ghost use Rattle.wb_sics.specs.helpers.Kept.{repeating_from as repeating_from_of};
+ghost use Rattle.wb_scale.specs.Stands.{ScaleStands};
+ghost use Rattle.wb_sics.specs.Replies.{repeated_reply};
+ghost use Rattle.wb_sics.specs.helpers.Kept.{repeats_from};
 
 use crate::answers::weight_now;
 use crate::command::Command;
@@ -15,7 +15,7 @@ use wb_window::Window;
 
 /// Whether the value is repeated from a line on.
 pub(crate) fn repeating_from(command: Command, repeating: bool) -> bool
-    ensures { result ≡ repeating_from_of command repeating }
+    ensures { result ≡ repeats_from command repeating }
 {
     match command {
         Command::Repeat => true,
@@ -29,7 +29,7 @@ pub(crate) fn repeat<W: Window>(scale: &Scale<W>, repeating: bool, replies: &mut
     requires few { array_vec_len replies.old ≤ 1 }
     ensures { (h : List Call) → ScaleStands scale.now h
         → replies.new.items
-        ≡ replies.old.items ++ repeated scale.now.setup (moments scale.now.setup h) repeating }
+        ≡ replies.old.items ++ repeated_reply scale.now.setup (moments scale.now.setup h) repeating }
 {
     if repeating {
         replies.push(weight_now(scale.instrument(), scale.indicated()));

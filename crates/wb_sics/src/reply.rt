@@ -1,7 +1,7 @@
 //! Replies, and their texts (MT-SICS levels 0 and 1).
 ghost use Rattle.std.specs.Prelude.{◌≡◌, ◌≤◌, ◌+◌, ◌++◌, codes, length};
 ghost use Rattle.arrayvec.specs.ArrayString.{array_string_len};
-ghost use Rattle.wb_sics.specs.ReplyText.{listed_text, reply_bytes, reply_text, weight_reply as weight_reply_of};
+ghost use Rattle.wb_sics.specs.ReplyText.{listed_text, reply_bytes, reply_text, weight_text};
 
 use arrayvec::{ArrayString, ArrayVec};
 use wb_instrument::{Serial, weight_field};
@@ -144,7 +144,7 @@ fn serial_reply(serial: &Serial) -> ReplyText
 /// A text, and a weight.
 fn weight_reply(words: &str, kg: i32) -> ReplyText
     requires { length words.now ≤ 5 }
-    ensures value { result.bytes ≡ weight_reply_of words.now kg }
+    ensures value { result.bytes ≡ weight_text words.now kg }
     ensures fits { array_string_len result ≤ 30 }
 {
     let mut text = text_of(words);

@@ -3,17 +3,17 @@ ghost use Rattle.arrayvec.specs.ArrayVec.{array_vec_len};
 ghost use Rattle.std.specs.Prelude.{◌≡◌, ◌≤◌, ◌∷◌, ◌++◌, [], List, None};
 ghost use Rattle.wb_scale.specs.Call.{Call, read};
 ghost use Rattle.wb_scale.specs.History.{moments};
-ghost use Rattle.wb_scale.specs.Stands.{Stands as ScaleStands, TakesAll as ScaleTakesAll};
-ghost use Rattle.wb_sics.specs.Calls.{asked, asked_at};
+ghost use Rattle.wb_scale.specs.Stands.{ScaleStands, ScaleTakesAll};
+ghost use Rattle.wb_sics.specs.Calls.{asked_at, calls_of_command};
 ghost use Rattle.wb_sics.specs.helpers.Kept.{asked_waiting, waiting_from, waiting_read};
-ghost use Rattle.wb_sics.specs.Replies.{decided, listed as listed_of, own_reply, replies_read};
+ghost use Rattle.wb_sics.specs.Replies.{decided, listed_commands, own_reply, replies_read};
 ghost use Rattle.wb_sics.specs.Waiting.{same};
 ghost use Rattle.wb_sics.specs.declared.waiting.Awaited.TheVariants.{Tare as AwaitedTare, Zero as AwaitedZero};
 ghost use Rattle.wb_window.specs.Reading.{IsReading};
 
 use crate::answers::{preset_reply, tare_reply, weight_now, weight_reply, zero_reply};
 use crate::command::Command;
-use crate::line::{Line, keep, kept_command};
+use crate::unfinished_line::{Line, keep, kept_command};
 use crate::repetition::{repeat, repeating_from};
 use crate::reply::{CommandName, Replies, Reply};
 use crate::waiting::{Awaited, Waiting, after_reading, at_line_end, give_up};
@@ -44,16 +44,16 @@ impl<W: Window> Model for Terminal<W> {
 impl<W: Window> Terminal<W> {
     ghost use Rattle.std.specs.Borrow.{Lends, sem};
     ghost use Rattle.wb_scale.specs.contracts.scale.Scale.{the_row as scale_row};
-    ghost use Rattle.wb_sics.specs.Event.{Event, byte as byte_event, hang_up, reading as reading_event};
+    ghost use Rattle.wb_sics.specs.Event.{TerminalEvent, byte as byte_event, hang_up, reading as reading_event};
     ghost use Rattle.wb_sics.specs.Replies.{replies};
-    ghost use Rattle.wb_sics.specs.Stands.{IsIdle, Stands, Takes};
+    ghost use Rattle.wb_sics.specs.Stands.{IsIdle, TerminalStands, TerminalTakes};
     ghost use Rattle.wb_sics.specs.contracts.terminal.Terminal.{the_row};
 
     /// A terminal over a scale, with nothing waiting or repeated and no line begun.
     pub fn new(scale: Scale<W>) -> Self
         ensures scale { result.scale ≡ scale }
         ensures idle { IsIdle result }
-        ensures stands { ScaleStands scale [] → Stands result [] }
+        ensures stands { ScaleStands scale [] → TerminalStands result [] }
     {
         Terminal {
             scale,
@@ -82,8 +82,8 @@ impl<W: Window> Terminal<W> {
     /// Takes a reading, and gives the replies at it.
     pub fn reading(&mut self, reading: Reading) -> Replies
         requires { IsReading reading }
-        ensures takes { Takes self.old self.new (reading_event reading) }
-        ensures replies { (h : List Event) → Stands self.old h
+        ensures takes { TerminalTakes self.old self.new (reading_event reading) }
+        ensures replies { (h : List TerminalEvent) → TerminalStands self.old h
             → result.items ≡ replies self.old.scale.setup (reading_event reading ∷ h) }
     {
         let mut replies = Replies::new();
@@ -95,8 +95,8 @@ impl<W: Window> Terminal<W> {
     /// repeated no list is made.
     pub fn reading_into(&mut self, reading: Reading, room: &mut Replies)
         requires { IsReading reading }
-        ensures takes { Takes self.old self.new (reading_event reading) }
-        ensures replies { (h : List Event) → Stands self.old h
+        ensures takes { TerminalTakes self.old self.new (reading_event reading) }
+        ensures replies { (h : List TerminalEvent) → TerminalStands self.old h
             → room.new.items ≡ replies self.old.scale.setup (reading_event reading ∷ h) }
     {
         room.clear();
@@ -107,8 +107,8 @@ impl<W: Window> Terminal<W> {
 
     /// Takes a byte of the stream, and gives the replies at it.
     pub fn byte(&mut self, byte: u8) -> Replies
-        ensures takes { Takes self.old self.new (byte_event byte) }
-        ensures replies { (h : List Event) → Stands self.old h
+        ensures takes { TerminalTakes self.old self.new (byte_event byte) }
+        ensures replies { (h : List TerminalEvent) → TerminalStands self.old h
             → result.items ≡ replies self.old.scale.setup (byte_event byte ∷ h) }
     {
         let mut replies = Replies::new();
@@ -118,8 +118,8 @@ impl<W: Window> Terminal<W> {
 
     /// Takes a byte of the stream, and leaves the replies at it in the room, in place of what was there.
     pub fn byte_into(&mut self, byte: u8, room: &mut Replies)
-        ensures takes { Takes self.old self.new (byte_event byte) }
-        ensures replies { (h : List Event) → Stands self.old h
+        ensures takes { TerminalTakes self.old self.new (byte_event byte) }
+        ensures replies { (h : List TerminalEvent) → TerminalStands self.old h
             → room.new.items ≡ replies self.old.scale.setup (byte_event byte ∷ h) }
     {
         room.clear();
@@ -138,7 +138,7 @@ impl<W: Window> Terminal<W> {
 
     /// The connection ended: the unfinished line, a waiting command and the repetition are dropped without a reply.
     pub fn hangup(&mut self)
-        ensures takes { Takes self.old self.new hang_up }
+        ensures takes { TerminalTakes self.old self.new hang_up }
         ensures idle { IsIdle self.new }
         ensures scale { self.new.scale ≡ self.old.scale }
     {
@@ -208,7 +208,7 @@ fn perform<W: Window>(
     requires few { array_vec_len replies.old ≤ 1 }
     ensures wait { 1 ≤ scale.old.setup.wait }
     ensures window { 1 ≤ scale.old.setup.window }
-    ensures takes { ScaleTakesAll scale.old scale.new (asked command) }
+    ensures takes { ScaleTakesAll scale.old scale.new (calls_of_command command) }
     ensures waiting { (h : List Call) → ScaleStands scale.old h
         → result ≡ waiting_from scale.old.setup (moments scale.old.setup h) command }
     ensures replies { (h : List Call) → ScaleStands scale.old h
@@ -258,7 +258,7 @@ fn serial<W: Window>(scale: &Scale<W>) -> Reply
 /// Appends the list of the commands.
 fn list_commands(replies: &mut Replies)
     requires few { array_vec_len replies.old ≤ 1 }
-    ensures { replies.new.items ≡ replies.old.items ++ listed_of }
+    ensures { replies.new.items ≡ replies.old.items ++ listed_commands }
 {
     replies.push(Reply::Listed(CommandName::Cancel));
     replies.push(Reply::Listed(CommandName::Commands));

@@ -1,6 +1,6 @@
 -- A line of a load converter, without its end.
 use Rattle.std.specs.Prelude.{ℕ, List, Option, Some, None, ℤ}
-use Rattle.wb_sources.specs.Number.{number}
+use Rattle.wb_sources.specs.Number.{signed_number}
 use Rattle.wb_window.specs.Reading.{reading_of}
 use Rattle.wb_window.specs.declared.reading.Reading.{Reading}
 use Rattle.wb_window.specs.declared.reading.Reading.TheVariants.{Lost}
@@ -12,4 +12,4 @@ reading_of_number None = Lost
 
 -- an optional minus sign and 1 to 18 digits are a number of tenths; any other line is a lost reading
 abbrev pub converter_reading : List ℕ → Reading
-converter_reading line = reading_of_number (number line)
+converter_reading line = reading_of_number (signed_number line)

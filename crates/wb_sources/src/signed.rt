@@ -1,6 +1,6 @@
 //! A number as it is written on a line.
 ghost use Rattle.std.specs.Prelude.{◌≡◌};
-ghost use Rattle.wb_sources.specs.Number.{number as number_of};
+ghost use Rattle.wb_sources.specs.Number.{signed_number};
 
 use wb_text::digits;
 
@@ -9,7 +9,7 @@ const MOST_DIGITS: usize = 18;
 
 /// An optional minus sign, and 1 to 18 digits; none of any other text.
 pub fn number(text: &[u8]) -> Option<i64>
-    ensures { result ≡ number_of text.now }
+    ensures { result ≡ signed_number text.now }
 {
     match text {
         [] => None,

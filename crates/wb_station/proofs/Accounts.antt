@@ -5,21 +5,21 @@ use Rattle.sqlite.specs.Store.{Ghosts}
 use Rattle.sqlite.specs.Tree.{Trees}
 use Rattle.wb_instrument.specs.Setup.{Setup}
 use Rattle.wb_sics.specs.declared.reply.Reply.{Reply}
-use Rattle.wb_sics.specs.Event.{Event as AtTerminal}
+use Rattle.wb_sics.specs.Event.{TerminalEvent}
 use Rattle.wb_sics.specs.Event as terminal
 use Rattle.wb_sics.specs.Heard.{heard}
 use Rattle.wb_sics.specs.Replies.{replies}
-use Rattle.wb_sics.specs.Stands.{TakesAll, TerminalState, Stands as TerminalStands}
+use Rattle.wb_sics.specs.Stands.{TerminalTakesAll, TerminalState, TerminalStands}
 use Rattle.wb_journal.specs.declared.entry.EntryParts.{EntryParts}
-use Rattle.wb_store.specs.Journal.{IsHonest, Reopens, StoreView, Stands as StoreStands}
+use Rattle.wb_store.specs.Journal.{IsHonest, Reopens, StoreView, StoreStands}
 use Rattle.wb_store.specs.Keeping.{LeavesOnly}
 use Rattle.wb_store.specs.Rows.{SpentKey}
 use Rattle.wb_store.specs.Lists.{AreLists}
 use Rattle.wb_sics.proofs.Theorems.{law_of_replies}
-use Rattle.wb_station.specs.Account.{Account, Comes, IsAccount, IsOut, IsResponse, Out, hears, nothing, opened, replied, responded}
-use Rattle.wb_station.specs.Response.{IsDateOf, Told, response_text}
+use Rattle.wb_station.specs.Account.{Account, Comes, IsAccount, IsOut, IsResponseOut, Out, hears, nothing, opened, replied, responded}
+use Rattle.wb_station.specs.Response.{IsDateOf, ResponseContent, response_text}
 use Rattle.wb_station.specs.Happening.{Happening, heard_of, reading, byte, hang_up, office, unmarked}
-use Rattle.wb_station.specs.Stands.{Hears, IsAnsweredOutright, IsButForOne, IsKept, IsOfHistory, IsReplied, LeavesSoon, MustBeUnmade, Stands, Took}
+use Rattle.wb_station.specs.Stands.{Hears, IsAnsweredOutright, IsButForOne, IsOfHistory, IsReplied, KeepsLists, LeavesSoon, MustBeUnmade, StationStands, Took}
 use Rattle.wb_station.specs.Unmade.{MayBeUnmade}
 use Rattle.wb_window.specs.declared.reading.Reading.{Reading as Load}
 
@@ -45,13 +45,13 @@ module _ (s : Setup) (opening : Account) (h : List Happening) (db : Trees) where
   pub of_account : (a : Account) → IsAccount s opening h a → Reopens db a.entries a.spent → IsOfHistory s opening h db
   of_account a is reopens = record { history = h; same = inl refl; account = a; is_account = is; reopens = reopens }
 
-module _ {D : Type 0} (g : Ghosts D) (p : Happening) (e : AtTerminal) (out : Out) (t t' : TerminalState) (j : StoreView D) where
+module _ {D : Type 0} (g : Ghosts D) (p : Happening) (e : TerminalEvent) (out : Out) (t t' : TerminalState) (j : StoreView D) where
   -- something comes to the terminal, and the store is as it was
-  pub heard_took : TakesAll t t' (e ∷ []) → MayBeUnmade p → MustBeUnmade p
+  pub heard_took : TerminalTakesAll t t' (e ∷ []) → MayBeUnmade p → MustBeUnmade p
       → ((a : Account) → TerminalStands t a.terminal → Comes t.scale.setup p a (hears e a) out)
       → ((a : Account) → (other : Out) × Comes t.scale.setup p a (hears e a) other)
       → ((h : List Happening) → Hears t h → heard (e ∷ []) ++ heard_of h ≡ heard_of (p ∷ h))
-      → ((events : List AtTerminal) → heard (e ∷ events) ≡ heard (e ∷ []) ++ heard events)
+      → ((events : List TerminalEvent) → heard (e ∷ events) ≡ heard (e ∷ []) ++ heard events)
       → ((h : List Happening) → Hears t h → IsReplied t.scale.setup p h out) → ((h : List Happening) → Hears t h → IsAnsweredOutright t.scale.setup p h out) → Took g p out t j t' j
   heard_took takes may must comes' any ears one replies' outright' = record {
     setup = takes.setup;
@@ -80,28 +80,28 @@ module _ {D : Type 0} (g : Ghosts D) (p : Happening) (e : AtTerminal) (out : Out
   }
 
 -- the replies to what was heard
-pub replies_heard : (e : AtTerminal) (t : TerminalState) (h : List Happening) (rs : List Reply) → ((events : List AtTerminal) → TerminalStands t events → rs ≡ replies t.scale.setup (e ∷ events))
+pub replies_heard : (e : TerminalEvent) (t : TerminalState) (h : List Happening) (rs : List Reply) → ((events : List TerminalEvent) → TerminalStands t events → rs ≡ replies t.scale.setup (e ∷ events))
     → Hears t h → rs ≡ replies t.scale.setup (e ∷ heard_of h)
 replies_heard e t h rs is ears =
     is ears.events ears.stands ∙ sym (law_of_replies t.scale.setup e ears.events) ∙ ap (λ l. replies t.scale.setup (e ∷ l)) ears.of_history
 
 module _ {D : Type 0} (g : Ghosts D) (j : StoreView D) where
   -- a reading
-  pub reading_took : (r : Load) (rs : List Reply) (t t' : TerminalState) → TakesAll t t' (terminal.reading r ∷ [])
-      → ((events : List AtTerminal) → TerminalStands t events → rs ≡ replies t.scale.setup (terminal.reading r ∷ events)) → Took g (reading r) (replied rs) t j t' j
+  pub reading_took : (r : Load) (rs : List Reply) (t t' : TerminalState) → TerminalTakesAll t t' (terminal.reading r ∷ [])
+      → ((events : List TerminalEvent) → TerminalStands t events → rs ≡ replies t.scale.setup (terminal.reading r ∷ events)) → Took g (reading r) (replied rs) t j t' j
   reading_took r rs t t' takes is = heard_took g (reading r) (terminal.reading r) (replied rs) t t' j takes tt tt (λ a st. (refl, ap replied (is a.terminal st)))
       (λ a. (replied (replies t.scale.setup (terminal.reading r ∷ a.terminal)), (refl, refl))) (λ h ears. refl) (λ events. refl)
       (λ h ears. ap replied (replies_heard (terminal.reading r) t h rs is ears)) (λ h ears. tt)
 
   -- a byte
-  pub byte_took : (b : ℕ) (rs : List Reply) (t t' : TerminalState) → TakesAll t t' (terminal.byte b ∷ [])
-      → ((events : List AtTerminal) → TerminalStands t events → rs ≡ replies t.scale.setup (terminal.byte b ∷ events)) → Took g (byte b) (replied rs) t j t' j
+  pub byte_took : (b : ℕ) (rs : List Reply) (t t' : TerminalState) → TerminalTakesAll t t' (terminal.byte b ∷ [])
+      → ((events : List TerminalEvent) → TerminalStands t events → rs ≡ replies t.scale.setup (terminal.byte b ∷ events)) → Took g (byte b) (replied rs) t j t' j
   byte_took b rs t t' takes is = heard_took g (byte b) (terminal.byte b) (replied rs) t t' j takes tt tt (λ a st. (refl, ap replied (is a.terminal st)))
       (λ a. (replied (replies t.scale.setup (terminal.byte b ∷ a.terminal)), (refl, refl))) (λ h ears. refl) (λ events. refl)
       (λ h ears. ap replied (replies_heard (terminal.byte b) t h rs is ears)) (λ h ears. tt)
 
   -- a hang-up
-  pub hang_up_took : (t t' : TerminalState) → TakesAll t t' (terminal.hang_up ∷ []) → Took g hang_up nothing t j t' j
+  pub hang_up_took : (t t' : TerminalState) → TerminalTakesAll t t' (terminal.hang_up ∷ []) → Took g hang_up nothing t j t' j
   hang_up_took t t' takes = heard_took g hang_up terminal.hang_up nothing t t' j takes tt tt (λ a st. (refl, refl)) (λ a. (nothing, (refl, refl))) (λ h ears. refl) (λ events. refl)
       (λ h ears. refl) (λ h ears. tt)
 
@@ -147,13 +147,13 @@ when_err false (Ok x) fits failed = absurd (cc failed)
 when_err false (Err e) fits failed = absurd (cc (fits refl))
 
 -- a response, with its moment and what it tells by other names
-pub response_is : (at at' : ℕ) (told told' : Told) (bytes : List ℕ) → at' ≡ at → told' ≡ told → (date : List ℕ) × IsDateOf at' date × (bytes ≡ response_text told' date) → IsResponse at told (responded bytes)
+pub response_is : (at at' : ℕ) (told told' : ResponseContent) (bytes : List ℕ) → at' ≡ at → told' ≡ told → (date : List ℕ) × IsDateOf at' date × (bytes ≡ response_text told' date) → IsResponseOut at told (responded bytes)
 response_is at at' told told' bytes moment tells is = (is.0, subst (λ x. IsDateOf x is.0) moment is.1, ap responded (is.2 ∙ ap (λ x. response_text x is.0) tells))
 
 -- at the opening it stands after the empty history
 pub opens : {D : Type 0} (g : Ghosts D) (t : TerminalState) (j j' : StoreView D) → j' ≡ j → TerminalStands t [] → (entries : List EntryParts) (spent : List SpentKey) → StoreStands g j entries spent
-    → LeavesOnly g j entries spent → Stands g (opened entries spent) t j' []
-opens g t j j' same st entries spent stood only = subst (λ i. Stands g (opened entries spent) t i []) (sym same) (record {
+    → LeavesOnly g j entries spent → StationStands g (opened entries spent) t j' []
+opens g t j j' same st entries spent stood only = subst (λ i. StationStands g (opened entries spent) t i []) (sym same) (record {
   account = opened entries spent;
   is_account = refl;
   at = record {

@@ -4,24 +4,24 @@ use Rattle.wb_instrument.specs.Setup.{Setup}
 use Rattle.wb_journal.specs.declared.entry.EntryParts.{EntryParts}
 use Rattle.wb_office.specs.declared.refusal.Refusal.{Refusal}
 use Rattle.wb_office.specs.declared.refusal.Refusal.TheVariants.{Gone}
-use Rattle.wb_office.specs.Answer.{Told}
+use Rattle.wb_office.specs.Answer.{Content}
 use Rattle.wb_office.specs.declared.request.Request.{Request}
 use Rattle.wb_office.specs.CourseOfRequests as course
-use Rattle.wb_office.specs.CourseOfRequests.{AreBounds, Journal, Turn, after, answer_in, left}
-use Rattle.wb_office.specs.Laws.{IsGone, IsKept}
+use Rattle.wb_office.specs.CourseOfRequests.{AreBounds, Journal, RequestTurn, after, answer_in, left}
+use Rattle.wb_office.specs.Laws.{IsGone, IsKeptEntry}
 use Rattle.wb_office.specs.Wanted.{Wanted, HasBound, IsWanted, wanted}
-use Rattle.wb_store.specs.Lists.{by_key, is_spent}
+use Rattle.wb_store.specs.Lists.{entry_by_key, is_spent}
 use Rattle.wb_office.proofs.Theorems.{law_of_repeated_requests}
 use Rattle.wb_station.specs.declared.fault.HttpFault.{HttpFault}
-use Rattle.wb_station.specs.Account.{Account, ComesOf, IsAccount, Out, leaves, situation}
+use Rattle.wb_station.specs.Account.{Account, ComesOf, IsAccount, Out, account_left, situation_at}
 use Rattle.wb_station.specs.CourseOfHistory.{Adds, AreTurns, HasCourse, IsCourse, KeptForGood, SameAgain, journal_of, turn}
 use Rattle.wb_station.specs.Happening.{Happening, reading, byte, hang_up, office}
-use Rattle.wb_station.specs.Judgement.{IsJudged}
+use Rattle.wb_station.specs.HttpJudgement.{IsJudged}
 
 -- what a request leaves is what its turn leaves
-left_by : (s : Setup) (at : ℕ) (request : Request) (before : Account) (want : Wanted) (is : IsWanted request (situation s at before) want)
-    → journal_of (leaves want before) ≡ left (journal_of before) (turn s at request is.bound before)
-left_by s at request before want is = ap (λ x. journal_of (leaves x before)) is.is
+left_by : (s : Setup) (at : ℕ) (request : Request) (before : Account) (want : Wanted) (is : IsWanted request (situation_at s at before) want)
+    → journal_of (account_left want before) ≡ left (journal_of before) (turn s at request is.bound before)
+left_by s at request before want is = ap (λ x. journal_of (account_left x before)) is.is
 
 same_course : (s : Setup) (opening : Account) (p : Happening) (h : List Happening) (before a : Account) → journal_of a ≡ journal_of before → (c : IsCourse s opening h before)
     → AreTurns s opening (p ∷ h) c.turns → IsCourse s opening (p ∷ h) a
@@ -36,11 +36,11 @@ one_turn s opening at bytes h (Err fault) before a out judged is comes c = recor
   leads = ap journal_of comes.0 ∙ c.leads;
 }
 one_turn s opening at bytes h (Ok request) before a out judged is comes c =
-    let t : Turn = turn s at request comes.1.bound before in
+    let t : RequestTurn = turn s at request comes.1.bound before in
     record {
       turns = t ∷ c.turns;
       of_history = (before, Ok request, t ∷ [], c.turns, is, judged, (comes.1.bound, refl), c.of_history, refl);
-      bounds = (subst (λ j. HasBound request (course.situation j t) comes.1.bound) c.leads comes.1.is_bound, c.bounds);
+      bounds = (subst (λ j. HasBound request (course.situation_of_turn j t) comes.1.bound) c.leads comes.1.is_bound, c.bounds);
       leads = ap journal_of comes.2 ∙ left_by s at request before comes.0 comes.1 ∙ ap (λ j. left j t) c.leads;
     }
 
@@ -54,15 +54,15 @@ has_course s opening (office at bytes false ∷ h) a is =
     one_turn s opening at bytes h is.2.1.0 is.0 a is.2.0 is.2.1.1 is.1 is.2.1.2 (has_course s opening h is.0 is.1)
 
 module _ (s : Setup) (before : Account) (request : Request) (want : Wanted) (e : EntryParts) (adds : Adds s before request want e) (later : List Happening) (c : Account)
-    (account : IsAccount s (leaves want before) later c) where
-  abbrev first_turn : Turn
+    (account : IsAccount s (account_left want before) later c) where
+  abbrev first_turn : RequestTurn
   first_turn = turn s adds.at request adds.is.bound before
 
-  start : journal_of (leaves want before) ≡ left (journal_of before) first_turn
+  start : journal_of (account_left want before) ≡ left (journal_of before) first_turn
   start = left_by s adds.at request before want adds.is
 
-  course_of : IsCourse s (leaves want before) later c
-  course_of = has_course s (leaves want before) later c account
+  course_of : IsCourse s (account_left want before) later c
+  course_of = has_course s (account_left want before) later c account
 
   bounds : AreBounds (left (journal_of before) first_turn) course_of.turns
   bounds = subst (λ j. AreBounds j course_of.turns) start course_of.bounds
@@ -70,19 +70,19 @@ module _ (s : Setup) (before : Account) (request : Request) (want : Wanted) (e :
   ends : journal_of c ≡ after (left (journal_of before) first_turn) course_of.turns
   ends = course_of.leads ∙ ap (λ j. after j course_of.turns) start
 
-  either : (u : Turn) → u.request ≡ request → IsKept (journal_of c) e (answer_in (journal_of before) first_turn) (answer_in (journal_of c) u) ⊎ IsGone (journal_of c) e (answer_in (journal_of c) u)
-  either u same = subst (λ j. IsKept j e (answer_in (journal_of before) first_turn) (answer_in j u) ⊎ IsGone j e (answer_in j u)) (sym ends)
+  either : (u : RequestTurn) → u.request ≡ request → IsKeptEntry (journal_of c) e (answer_in (journal_of before) first_turn) (answer_in (journal_of c) u) ⊎ IsGone (journal_of c) e (answer_in (journal_of c) u)
+  either u same = subst (λ j. IsKeptEntry j e (answer_in (journal_of before) first_turn) (answer_in j u) ⊎ IsGone j e (answer_in j u)) (sym ends)
       (law_of_repeated_requests (journal_of before) adds.lists first_turn e adds.adds course_of.turns bounds u same)
 
-  pub again : (at : ℕ) (want' : Wanted) → IsWanted request (situation s at c) want' → IsKept (journal_of c) e want.answer want'.answer ⊎ IsGone (journal_of c) e want'.answer
-  again at want' is' = subst₂ (λ x y. IsKept (journal_of c) e x y ⊎ IsGone (journal_of c) e y) (sym (ap (λ x. x.answer) adds.is.is)) (sym (ap (λ x. x.answer) is'.is))
+  pub again : (at : ℕ) (want' : Wanted) → IsWanted request (situation_at s at c) want' → IsKeptEntry (journal_of c) e want.answer want'.answer ⊎ IsGone (journal_of c) e want'.answer
+  again at want' is' = subst₂ (λ x y. IsKeptEntry (journal_of c) e x y ⊎ IsGone (journal_of c) e y) (sym (ap (λ x. x.answer) adds.is.is)) (sym (ap (λ x. x.answer) is'.is))
       (either (turn s at request is'.bound c) refl)
 
-  pub stays : (by_key c.entries e.key ≡ Some e) ⊎ (is_spent c.spent e.key ≡ true)
+  pub stays : (entry_by_key c.entries e.key ≡ Some e) ⊎ (is_spent c.spent e.key ≡ true)
   stays = one (either first_turn refl)
     where
-      one : IsKept (journal_of c) e (answer_in (journal_of before) first_turn) (answer_in (journal_of c) first_turn) ⊎ IsGone (journal_of c) e (answer_in (journal_of c) first_turn)
-          → (by_key c.entries e.key ≡ Some e) ⊎ (is_spent c.spent e.key ≡ true)
+      one : IsKeptEntry (journal_of c) e (answer_in (journal_of before) first_turn) (answer_in (journal_of c) first_turn) ⊎ IsGone (journal_of c) e (answer_in (journal_of c) first_turn)
+          → (entry_by_key c.entries e.key ≡ Some e) ⊎ (is_spent c.spent e.key ≡ true)
       one (inl kept) = inl kept.stored
       one (inr gone) = inr gone.spent
 

@@ -11,7 +11,7 @@ use Rattle.wb_journal.specs.declared.journal_check.Finding.{Finding}
 use Rattle.wb_journal.specs.declared.journal_check.Finding.TheVariants as finding
 use Rattle.wb_journal.specs.declared.kind.Kind.{Kind}
 use Rattle.wb_journal.specs.declared.kind.Kind.TheVariants.{First, Second, Single, Void}
-use Rattle.wb_journal.specs.Check.{check}
+use Rattle.wb_journal.specs.Check.{finding_in}
 use Rattle.wb_journal.specs.Moment.{day_of}
 use Rattle.wb_journal.specs.Pairs.{with_number}
 use Rattle.wb_journal.specs.Rising.{IsRising}
@@ -20,47 +20,47 @@ use Rattle.wb_office.specs.declared.refusal.Refusal.{Refusal}
 use Rattle.wb_office.specs.declared.refusal.Refusal.TheVariants.{KeyReused, Gone, ClockBack, NoLoad, Overload, Underload, Unstable, BelowMin, TareActive, NoPreset, NotCleared, AlreadyOpen, NoOpen, JournalFull, Store, NoTicket, Damaged}
 use Rattle.wb_office.specs.declared.request.Request.{Request}
 use Rattle.wb_office.specs.declared.request.Request.TheVariants.{Weigh, VoidOpen, Ticket, Indication, JournalCsv, TicketsCsv, Purge, Check}
-use Rattle.wb_office.specs.Answer.{Told as Answered, indication_text, text_told, answer_of, asking, has_ticket, if_sound, text_of, ticket_of, tickets_answer}
+use Rattle.wb_office.specs.Answer.{Content, text_of_indication, text_content, answer_by_verdict, asking, has_ticket, if_sound, entry_content, ticket_of, tickets_answer}
 use Rattle.wb_office.specs.Situation.{Situation}
 use Rattle.wb_office.specs.WithoutStore.{Outright}
 use Rattle.wb_office.specs.Conditions.{is_damaged}
-use Rattle.wb_office.specs.Serves.{IsNow, Leaves, Marks, Serves, is_store_refusal, told_of}
+use Rattle.wb_office.specs.Serves.{IsNow, LeavesWanted, Marks, Serves, contents_of, is_store_refusal}
 use Rattle.wb_office.specs.Wanted.{Wanted, IsWanted, asks_store, wanted}
 use Rattle.wb_office.specs.Verdict.{Verdict, accepted, refused, repeated, verdict}
 use Rattle.wb_scale.specs.History.{moments}
 use Rattle.wb_scale.specs.Indication.{indicated}
 use Rattle.wb_scale.specs.State.{State}
 use Rattle.wb_sics.specs.Calls.{calls}
-use Rattle.wb_sics.specs.Event.{Event as AtTerminal, stored}
+use Rattle.wb_sics.specs.Event.{TerminalEvent, stored}
 use Rattle.wb_sics.specs.Heard.{heard}
-use Rattle.wb_sics.specs.Stands.{TerminalState, Stands as TerminalStands}
+use Rattle.wb_sics.specs.Stands.{TerminalState, TerminalStands}
 use Rattle.wb_store.specs.declared.fault.StoreFault.TheVariants.{Closed}
-use Rattle.wb_store.specs.Journal.{IsHonest, Reopens, StoreView, Stands as StoreStands}
+use Rattle.wb_store.specs.Journal.{IsHonest, Reopens, StoreView, StoreStands}
 use Rattle.wb_store.specs.Keeping.{LeavesOnly}
 use Rattle.wb_store.specs.Rows.{IsStorable}
-use Rattle.wb_store.specs.Lists.{AreLists, next_number}
+use Rattle.wb_store.specs.Lists.{AreLists, number_after}
 use Rattle.wb_journal.proofs.Theorems.{law_of_one_bound}
 use Rattle.wb_sics.proofs.Theorems.{law_of_stored_weighings}
 use Rattle.wb_station.specs.declared.fault.HttpFault.{HttpFault}
 use Rattle.wb_station.specs.declared.fault.HttpFault.TheVariants.{BadField, HeadTooLarge, Malformed, Memory, NoLength, NoRoute, TooLarge, WrongMethod}
-use Rattle.wb_station.specs.Account.{Account, Comes, IsAccount, IsResponse, Out, leaves, responded, situation}
+use Rattle.wb_station.specs.Account.{Account, Comes, IsAccount, IsResponseOut, Out, account_left, responded, situation_at}
 use Rattle.wb_station.specs.Happening.{Happening, heard_of, office}
-use Rattle.wb_station.specs.Judgement.{IsJudged, MayWantMemory}
+use Rattle.wb_station.specs.HttpJudgement.{IsJudged, MayWantMemory}
 use Rattle.wb_station.specs.UnlessMemoryRefused.{IsOf}
-use Rattle.wb_station.specs.Response.{Told, is_export, response_text, told_fault, told_result}
-use Rattle.wb_station.specs.Stands.{Hears, IsKept, IsLedTo, IsOfHistory, IsOutright, LeavesSoon, MustBeUnmade, Stands, StandsAt, Took}
+use Rattle.wb_station.specs.Response.{ResponseContent, is_export, response_text, told_fault, told_result}
+use Rattle.wb_station.specs.Stands.{Hears, IsLedTo, IsOfHistory, IsOutright, KeepsLists, LeavesSoon, MustBeUnmade, StationStands, StationStandsAt, Took}
 use Rattle.wb_station.proofs.Accounts.{of_account, one_later, quiet_took}
 use Rattle.wb_station.proofs.judgement.WholeRequests.{one_judgement}
 
 -- ---- exports change nothing
 
-text_is_no_export : (es : List EntryParts) (e : EntryParts) (kind : Kind) → is_export (Ok (text_of es e kind)) ≡ false
+text_is_no_export : (es : List EntryParts) (e : EntryParts) (kind : Kind) → is_export (Ok (entry_content es e kind)) ≡ false
 text_is_no_export es e First = refl
 text_is_no_export es e Second = refl
 text_is_no_export es e Single = refl
 text_is_no_export es e Void = refl
 
-verdict_is_no_export : (es : List EntryParts) (v : Verdict) → is_export (answer_of es v) ≡ false
+verdict_is_no_export : (es : List EntryParts) (v : Verdict) → is_export (answer_by_verdict es v) ≡ false
 verdict_is_no_export es (refused why) = refl
 verdict_is_no_export es (repeated e) = text_is_no_export es e e.kind
 verdict_is_no_export es (accepted e) = text_is_no_export (es ++ e ∷ []) e e.kind
@@ -77,7 +77,7 @@ ticket_is_no_export es (Some e) = by_kind (has_ticket e) refl
     by_kind true is = by_damage (is_damaged es e) refl is
     by_kind false is = rw is refl
 
-no_export_of : (f : Finding) (t : Answered) → is_export (Ok t) ≡ false → is_export (if_sound f t) ≡ false
+no_export_of : (f : Finding) (t : Content) → is_export (Ok t) ≡ false → is_export (if_sound f t) ≡ false
 no_export_of (finding.Sound count) t none = none
 no_export_of (finding.Damaged number) t none = refl
 
@@ -99,14 +99,14 @@ export_is_quiet (Ticket number) w want is export = is_quiet w want _ is.is (reco
 export_is_quiet Indication w want is export = is_quiet w want _ is.is (record { entries = refl; spent = refl; marks = refl })
 export_is_quiet JournalCsv w want is export = is_quiet w want _ is.is (record { entries = refl; spent = refl; marks = refl })
 export_is_quiet TicketsCsv w want is export = is_quiet w want _ is.is (record { entries = refl; spent = refl; marks = refl })
-export_is_quiet Purge w want is export = absurd (true≢false (sym export ∙ ap (λ o. is_export o.answer) is.is ∙ no_export_of (check w.entries) _ refl))
+export_is_quiet Purge w want is export = absurd (true≢false (sym export ∙ ap (λ o. is_export o.answer) is.is ∙ no_export_of (finding_in w.entries) _ refl))
 export_is_quiet Check w want is export = is_quiet w want _ is.is (record { entries = refl; spent = refl; marks = refl })
 
 -- ---- something is wanted of every request
 
 pub some_wanted : (request : Request) (w : Situation) → IsRising w.entries → (want : Wanted) × IsWanted request w want
 some_wanted Purge w rising =
-    let one = law_of_one_bound w.entries (next_number w.entries w.spent) (day_of w.at) w.setup.retention_days rising in
+    let one = law_of_one_bound w.entries (number_after w.entries w.spent) (day_of w.at) w.setup.retention_days rising in
     (wanted Purge w one.0, record { bound = one.0; is_bound = one.1; is = refl })
 some_wanted request w rising = (wanted request w 0, record { bound = 0; is_bound = tt; is = refl })
 
@@ -144,14 +144,14 @@ module _ {D : Type 0} (g : Ghosts D) (at : ℕ) (bytes : List ℕ) (request : Re
   abbrev pub t' : TerminalState
   t' = record t { scale = scale' }
 
-  now : (a : Account) → TerminalStands t a.terminal → IsNow t.scale at (situation t.scale.setup at a)
+  now : (a : Account) → TerminalStands t a.terminal → IsNow t.scale at (situation_at t.scale.setup at a)
   now a st = record { setup = refl; calls = calls t.scale.setup a.terminal; stands = st.now.scale; history = refl; moment = refl }
 
   of_setup : (marks : Bool) → Marks t.scale scale' marks → scale'.setup ≡ t.scale.setup
   of_setup true takes = takes.setup
   of_setup false same = ap (λ s. s.setup) same
 
-  marked : (marks : Bool) → Marks t.scale scale' marks → (events : List AtTerminal) → TerminalStands t events → TerminalStands t' (if marks then stored ∷ events else events)
+  marked : (marks : Bool) → Marks t.scale scale' marks → (events : List TerminalEvent) → TerminalStands t events → TerminalStands t' (if marks then stored ∷ events else events)
   marked true takes events st = (law_of_stored_weighings t scale' takes).stands events st
   marked false same events st = subst (λ sc. TerminalStands (record t { scale = sc }) events) (sym same) st
 
@@ -168,55 +168,55 @@ module _ {D : Type 0} (g : Ghosts D) (at : ℕ) (bytes : List ℕ) (request : Re
       go false closed = closed
 
   -- the response to an answer
-  response_to : (want : Wanted) (out : Out) → told_of result ≡ want.answer → IsResponse at (told_result request (told_of result)) out → IsResponse at (told_result request want.answer) out
-  response_to want out is response = subst (λ r. IsResponse at (told_result request r) out) is response
+  response_to : (want : Wanted) (out : Out) → contents_of result ≡ want.answer → IsResponseOut at (told_result request (contents_of result)) out → IsResponseOut at (told_result request want.answer) out
+  response_to want out is response = subst (λ r. IsResponseOut at (told_result request r) out) is response
 
-  comes_of : (a : Account) (want : Wanted) (out : Out) → IsWanted request (situation t.scale.setup at a) want → IsResponse at (told_result request want.answer) out
-      → Comes t.scale.setup (office at bytes false) a (leaves want a) out
+  comes_of : (a : Account) (want : Wanted) (out : Out) → IsWanted request (situation_at t.scale.setup at a) want → IsResponseOut at (told_result request want.answer) out
+      → Comes t.scale.setup (office at bytes false) a (account_left want a) out
   comes_of a want out is response = (Ok request, judged, (want, is, refl, response))
 
   -- where it is made, if the request is wanted so, a crash leaves the lists before it or those that are wanted
-  crashes : (out : Out) → IsResponse at (told_fault Memory) out → (o : Account) (h : List Happening) (st : Stands g o t j h) → IsHonest g j' → j.is_closed ≡ false
+  crashes : (out : Out) → IsResponseOut at (told_fault Memory) out → (o : Account) (h : List Happening) (st : StationStands g o t j h) → IsHonest g j' → j.is_closed ≡ false
       → (db : Trees) → (state g j'.conn).may_leave db → Reopens db st.account.entries st.account.spent ⊎ IsLedTo t.scale.setup (office at bytes false) st.account db
   crashes out response o h st honest there db may =
       let kept = st.at.store there in
-      let w = situation t.scale.setup at st.account in
+      let w = situation_at t.scale.setup at st.account in
       let some = some_wanted request w st.at.lists.rising in
       either some.0 some.1 (serves.leaves w (now st.account st.at.terminal) kept.stands honest some.0 some.1 db may)
     where
-      either : (want : Wanted) → IsWanted request (situation t.scale.setup at st.account) want → Reopens db st.account.entries st.account.spent ⊎ Reopens db want.entries want.spent
+      either : (want : Wanted) → IsWanted request (situation_at t.scale.setup at st.account) want → Reopens db st.account.entries st.account.spent ⊎ Reopens db want.entries want.spent
           → Reopens db st.account.entries st.account.spent ⊎ IsLedTo t.scale.setup (office at bytes false) st.account db
       either want is (inl before) = inl before
       either want is (inr after) = inr (record {
-        after = leaves want st.account;
+        after = account_left want st.account;
         out = responded (response_text (told_result request want.answer) response.0);
         comes = comes_of st.account want _ is (response.0, response.1, refl);
         reopens = after;
       })
 
   -- it is answered, and there is a response
-  pub made_took : is_store_refusal result ≡ false → (out : Out) → IsResponse at (told_result request (told_of result)) out → Took g (office at bytes false) out t j t' j'
+  pub made_took : is_store_refusal result ≡ false → (out : Out) → IsResponseOut at (told_result request (contents_of result)) out → Took g (office at bytes false) out t j t' j'
   made_took plain out response = record {
     setup = of_setup serves.scale.0 serves.scale.1;
     may_be_unmade = tt;
     comes = λ o h st honest.
-        let made = serves.judged (situation t.scale.setup at st.account) (now st.account st.at.terminal) (st.at.store (is_open plain)).stands honest plain in
+        let made = serves.judged (situation_at t.scale.setup at st.account) (now st.account st.at.terminal) (st.at.store (is_open plain)).stands honest plain in
         let left = made.2 in
         let came = comes_of st.account made.0 out made.1 (response_to made.0 out left.answered response) in (
-          leaves made.0 st.account,
+          account_left made.0 st.account,
           came,
           record {
             terminal = marked made.0.marks left.marked st.account.terminal st.at.terminal;
             lists = left.stands.rests.holds.lists;
             store = λ there. record { stands = left.stands; only = left.only };
             soon = subst (λ s. LeavesSoon g s o j' (office at bytes false ∷ h)) (sym (of_setup serves.scale.0 serves.scale.1))
-                (λ db may. of_account t.scale.setup o (office at bytes false ∷ h) db (leaves made.0 st.account) (st.account, st.is_account, (out, came)) (left.only db may));
+                (λ db may. of_account t.scale.setup o (office at bytes false ∷ h) db (account_left made.0 st.account) (st.account, st.is_account, (out, came)) (left.only db may));
           },
         );
     crash = λ o h st honest there db may.
-        let made = serves.judged (situation t.scale.setup at st.account) (now st.account st.at.terminal) (st.at.store there).stands honest plain in
+        let made = serves.judged (situation_at t.scale.setup at st.account) (now st.account st.at.terminal) (st.at.store there).stands honest plain in
         inr (record {
-          after = leaves made.0 st.account;
+          after = account_left made.0 st.account;
           out = out;
           comes = comes_of st.account made.0 out made.1 (response_to made.0 out made.2.answered response);
           reopens = made.2.only db may;
@@ -229,8 +229,8 @@ module _ {D : Type 0} (g : Ghosts D) (at : ℕ) (bytes : List ℕ) (request : Re
   }
 
   -- what stands after a request that counts as never made
-  module _ (out : Out) (response : IsResponse at (told_fault Memory) out) where
-    soon_after : (o : Account) (h : List Happening) (st : Stands g o t j h) → IsHonest g j' → (c : Bool) → j.is_closed ≡ c → LeavesSoon g t.scale.setup o j' (office at bytes true ∷ h)
+  module _ (out : Out) (response : IsResponseOut at (told_fault Memory) out) where
+    soon_after : (o : Account) (h : List Happening) (st : StationStands g o t j h) → IsHonest g j' → (c : Bool) → j.is_closed ≡ c → LeavesSoon g t.scale.setup o j' (office at bytes true ∷ h)
     soon_after o h st honest true closed =
         subst (λ i. LeavesSoon g t.scale.setup o i (office at bytes true ∷ h)) (sym (serves.still closed))
         (λ db may. one_later t.scale.setup o h db (office at bytes true) (λ other judged' asks'. refl) (λ a. (a, out, (refl, response), refl, refl)) (st.at.soon db may))
@@ -247,8 +247,8 @@ module _ {D : Type 0} (g : Ghosts D) (at : ℕ) (bytes : List ℕ) (request : Re
           reopens = led.reopens;
         }
 
-    unmade : (same : (o : Account) (h : List Happening) → Stands g o t j h → IsHonest g j' → scale' ≡ t.scale)
-        → (kept : (o : Account) (h : List Happening) (st : Stands g o t j h) → IsHonest g j' → j'.is_closed ≡ false → IsKept g j' st.account)
+    unmade : (same : (o : Account) (h : List Happening) → StationStands g o t j h → IsHonest g j' → scale' ≡ t.scale)
+        → (kept : (o : Account) (h : List Happening) (st : StationStands g o t j h) → IsHonest g j' → j'.is_closed ≡ false → KeepsLists g j' st.account)
         → Took g (office at bytes true) out t j t' j'
     unmade same kept = record {
       setup = of_setup serves.scale.0 serves.scale.1;
@@ -256,7 +256,7 @@ module _ {D : Type 0} (g : Ghosts D) (at : ℕ) (bytes : List ℕ) (request : Re
       comes = λ o h st honest. (
         st.account,
         (refl, response),
-        subst (λ sc. StandsAt g o (record t { scale = sc }) j' (office at bytes true ∷ h) st.account) (sym (same o h st honest)) (record {
+        subst (λ sc. StationStandsAt g o (record t { scale = sc }) j' (office at bytes true ∷ h) st.account) (sym (same o h st honest)) (record {
           terminal = st.at.terminal;
           lists = st.at.lists;
           store = kept o h st honest;
@@ -282,10 +282,10 @@ module _ {D : Type 0} (g : Ghosts D) (at : ℕ) (bytes : List ℕ) (request : Re
         was_open false open' there = open'
 
     -- memory is refused for the response to an export
-    pub export_took : is_store_refusal result ≡ false → is_export (told_of result) ≡ true → Took g (office at bytes true) out t j t' j'
+    pub export_took : is_store_refusal result ≡ false → is_export (contents_of result) ≡ true → Took g (office at bytes true) out t j t' j'
     export_took plain export = unmade (λ o h st honest. left_alone o h st honest) (λ o h st honest there.
-        let made = serves.judged (situation t.scale.setup at st.account) (now st.account st.at.terminal) (st.at.store (is_open plain)).stands honest plain in
-        let quiet = export_is_quiet request (situation t.scale.setup at st.account) made.0 made.1 (sym (ap is_export made.2.answered) ∙ export) in
+        let made = serves.judged (situation_at t.scale.setup at st.account) (now st.account st.at.terminal) (st.at.store (is_open plain)).stands honest plain in
+        let quiet = export_is_quiet request (situation_at t.scale.setup at st.account) made.0 made.1 (sym (ap is_export made.2.answered) ∙ export) in
         record {
           stands = subst₂ (λ es ks. StoreStands g j' es ks) quiet.entries quiet.spent made.2.stands;
           only = subst₂ (λ es ks. LeavesOnly g j' es ks) quiet.entries quiet.spent made.2.only;
@@ -295,10 +295,10 @@ module _ {D : Type 0} (g : Ghosts D) (at : ℕ) (bytes : List ℕ) (request : Re
         unmoved true takes none = absurd (true≢false none)
         unmoved false same none = same
 
-        left_alone : (o : Account) (h : List Happening) → Stands g o t j h → IsHonest g j' → scale' ≡ t.scale
+        left_alone : (o : Account) (h : List Happening) → StationStands g o t j h → IsHonest g j' → scale' ≡ t.scale
         left_alone o h st honest =
-            let made = serves.judged (situation t.scale.setup at st.account) (now st.account st.at.terminal) (st.at.store (is_open plain)).stands honest plain in
-            let quiet = export_is_quiet request (situation t.scale.setup at st.account) made.0 made.1 (sym (ap is_export made.2.answered) ∙ export) in
+            let made = serves.judged (situation_at t.scale.setup at st.account) (now st.account st.at.terminal) (st.at.store (is_open plain)).stands honest plain in
+            let quiet = export_is_quiet request (situation_at t.scale.setup at st.account) made.0 made.1 (sym (ap is_export made.2.answered) ∙ export) in
             unmoved made.0.marks made.2.marked quiet.marks
 
 -- ---- the store isn't asked
@@ -324,28 +324,28 @@ no_ticket es number zero storable = ap (λ n. ticket_of es (with_number n es)) z
 
 -- what is answered outright is what is wanted, and changes nothing
 pub outright_comes : (at : ℕ) (bytes : List ℕ) (request : Request) → IsJudged bytes (Ok request) → asks_store request ≡ false → (t : TerminalState) (result : Result Answer Refusal) → Outright t.scale request result
-    → (out : Out) → IsResponse at (told_result request (told_of result)) out → (a : Account) → TerminalStands t a.terminal → AreLists a.entries a.spent → Comes t.scale.setup (office at bytes false) a a out
+    → (out : Out) → IsResponseOut at (told_result request (contents_of result)) out → (a : Account) → TerminalStands t a.terminal → AreLists a.entries a.spent → Comes t.scale.setup (office at bytes false) a a out
 outright_comes at bytes Indication judged asks t result is out response a st lists =
     let text = is.2 (calls t.scale.setup a.terminal) st.now.scale in
-    let w = situation t.scale.setup at a in (
+    let w = situation_at t.scale.setup at a in (
       Ok Indication,
       judged,
       (
         wanted Indication w 0,
         record { bound = 0; is_bound = tt; is = refl },
         refl,
-        subst (λ r. IsResponse at (told_result Indication r) out) (is.1 ∙ ap (λ x. Ok (text_told x)) text) response,
+        subst (λ r. IsResponseOut at (told_result Indication r) out) (is.1 ∙ ap (λ x. Ok (text_content x)) text) response,
       ),
     )
 outright_comes at bytes (Ticket number) judged asks t result is out response a st lists =
-    let w = situation t.scale.setup at a in (
+    let w = situation_at t.scale.setup at a in (
       Ok (Ticket number),
       judged,
       (
         wanted (Ticket number) w 0,
         record { bound = 0; is_bound = tt; is = refl },
         refl,
-        subst (λ r. IsResponse at (told_result (Ticket number) r) out) (ap told_of is ∙ sym (no_ticket a.entries number (is_zero number asks) lists.storable)) response,
+        subst (λ r. IsResponseOut at (told_result (Ticket number) r) out) (ap contents_of is ∙ sym (no_ticket a.entries number (is_zero number asks) lists.storable)) response,
       ),
     )
 outright_comes at bytes (Weigh key kind plate) judged asks t result is out response a st lists = absurd (cc)
@@ -356,15 +356,15 @@ outright_comes at bytes Purge judged asks t result is out response a st lists = 
 outright_comes at bytes Check judged asks t result is out response a st lists = absurd (cc)
 
 -- on any account something comes of it, which leaves that account
-outright_any : (at : ℕ) (bytes : List ℕ) (request : Request) → IsJudged bytes (Ok request) → asks_store request ≡ false → (s : Setup) (told : Told) (out : Out) → IsResponse at told out
+outright_any : (at : ℕ) (bytes : List ℕ) (request : Request) → IsJudged bytes (Ok request) → asks_store request ≡ false → (s : Setup) (told : ResponseContent) (out : Out) → IsResponseOut at told out
     → (a : Account) → (other : Out) × Comes s (office at bytes false) a a other
 outright_any at bytes Indication judged asks s told out response a =
-    let want = wanted Indication (situation s at a) 0 in (
+    let want = wanted Indication (situation_at s at a) 0 in (
       responded (response_text (told_result Indication want.answer) response.0),
       (Ok Indication, judged, (want, record { bound = 0; is_bound = tt; is = refl }, refl, (response.0, response.1, refl))),
     )
 outright_any at bytes (Ticket number) judged asks s told out response a =
-    let want = wanted (Ticket number) (situation s at a) 0 in (
+    let want = wanted (Ticket number) (situation_at s at a) 0 in (
       responded (response_text (told_result (Ticket number) want.answer) response.0),
       (Ok (Ticket number), judged, (want, record { bound = 0; is_bound = tt; is = refl }, refl, (response.0, response.1, refl))),
     )
@@ -377,32 +377,32 @@ outright_any at bytes Check judged asks s told out response a = absurd (cc asks)
 
 -- and it is answered so
 answers_outright : (at : ℕ) (bytes : List ℕ) (request : Request) → IsJudged bytes (Ok request) → (t : TerminalState) (result : Result Answer Refusal) → Outright t.scale request result
-    → (out : Out) → IsResponse at (told_result request (told_of result)) out → (h : List Happening) → Hears t h → IsOutright t.scale.setup at bytes h out
+    → (out : Out) → IsResponseOut at (told_result request (contents_of result)) out → (h : List Happening) → Hears t h → IsOutright t.scale.setup at bytes h out
 answers_outright at bytes request judged t result is out response h ears = record {
   fault = λ fault judged'. absurd (no_both request fault (one_judgement bytes (Ok request) (Err fault) judged judged'));
   no_ticket = λ judged'. ticket (same_request request (Ticket 0) (one_judgement bytes (Ok request) (Ok (Ticket 0)) judged judged'));
   indication = λ judged'. indication (same_request request Indication (one_judgement bytes (Ok request) (Ok Indication) judged judged'));
 }
   where
-    ticket : request ≡ Ticket 0 → IsResponse at (told_result (Ticket 0) (Err NoTicket)) out
+    ticket : request ≡ Ticket 0 → IsResponseOut at (told_result (Ticket 0) (Err NoTicket)) out
     ticket same =
         let is' = subst (λ r. Outright t.scale r result) same is in
-        subst (λ r. IsResponse at (told_result (Ticket 0) r) out) (ap told_of is') (subst (λ r. IsResponse at (told_result r (told_of result)) out) same response)
+        subst (λ r. IsResponseOut at (told_result (Ticket 0) r) out) (ap contents_of is') (subst (λ r. IsResponseOut at (told_result r (contents_of result)) out) same response)
 
-    indication : request ≡ Indication → (events : List AtTerminal) × (heard events ≡ heard_of h)
-        × IsResponse at (told_result Indication (Ok (text_told (indication_text t.scale.setup (indicated t.scale.setup (moments t.scale.setup (calls t.scale.setup events))))))) out
+    indication : request ≡ Indication → (events : List TerminalEvent) × (heard events ≡ heard_of h)
+        × IsResponseOut at (told_result Indication (Ok (text_content (text_of_indication t.scale.setup (indicated t.scale.setup (moments t.scale.setup (calls t.scale.setup events))))))) out
     indication same =
         let is' = subst (λ r. Outright t.scale r result) same is in
         let text = is'.2 (calls t.scale.setup ears.events) ears.stands.now.scale in (
           ears.events,
           ears.of_history,
-          subst (λ r. IsResponse at (told_result Indication r) out) (is'.1 ∙ ap (λ x. Ok (text_told x)) text) (subst (λ r. IsResponse at (told_result r (told_of result)) out) same response),
+          subst (λ r. IsResponseOut at (told_result Indication r) out) (is'.1 ∙ ap (λ x. Ok (text_content x)) text) (subst (λ r. IsResponseOut at (told_result r (contents_of result)) out) same response),
         )
 
 -- ---- what became of a request
 
 -- a refusal of the store is told as want of memory is
-refusal_told : (request : Request) (r : Result Answer Refusal) → is_store_refusal r ≡ true → told_result request (told_of r) ≡ told_fault Memory
+refusal_told : (request : Request) (r : Result Answer Refusal) → is_store_refusal r ≡ true → told_result request (contents_of r) ≡ told_fault Memory
 refusal_told request (Ok answer) is = absurd (cc is)
 refusal_told request (Err (Store fault)) is = refl
 refusal_told request (Err KeyReused) is = absurd (cc is)
@@ -422,9 +422,9 @@ refusal_told request (Err JournalFull) is = absurd (cc is)
 refusal_told request (Err NoTicket) is = absurd (cc is)
 refusal_told request (Err Damaged) is = absurd (cc is)
 
-no_export_outright : (request : Request) (scale : State) (result : Result Answer Refusal) → asks_store request ≡ false → Outright scale request result → is_export (told_of result) ≡ false
+no_export_outright : (request : Request) (scale : State) (result : Result Answer Refusal) → asks_store request ≡ false → Outright scale request result → is_export (contents_of result) ≡ false
 no_export_outright Indication scale result none is = ap is_export is.1
-no_export_outright (Ticket number) scale result none is = ap (λ r. is_export (told_of r)) is
+no_export_outright (Ticket number) scale result none is = ap (λ r. is_export (contents_of r)) is
 no_export_outright (Weigh key kind plate) scale result none is = absurd (cc none)
 no_export_outright (VoidOpen key plate) scale result none is = absurd (cc none)
 no_export_outright JournalCsv scale result none is = absurd (cc none)
@@ -442,12 +442,12 @@ module _ {D : Type 0} (g : Ghosts D) (at : ℕ) (bytes : List ℕ) (request : Re
     (serves : asks_store request ≡ true → Serves g j j' t.scale scale' at result (IsWanted request))
     (outright : asks_store request ≡ false → (j' ≡ j) × (scale' ≡ t.scale) × Outright t.scale request result) where
   -- there is a response to it
-  pub answered_took : (out : Out) → IsResponse at (told_result request (told_of result)) out → (unmade : Bool) × Took g (office at bytes unmade) out t j (record t { scale = scale' }) j'
+  pub answered_took : (out : Out) → IsResponseOut at (told_result request (contents_of result)) out → (unmade : Bool) × Took g (office at bytes unmade) out t j (record t { scale = scale' }) j'
   answered_took out response = by_request (asks_store request) refl
     where
       by_refusal : (asks : asks_store request ≡ true) (b : Bool) → is_store_refusal result ≡ b → (unmade : Bool) × Took g (office at bytes unmade) out t j (record t { scale = scale' }) j'
       by_refusal asks true is =
-          (true, refused_took g at bytes request judged asks t scale' j j' result (serves asks) out (subst (λ told. IsResponse at told out) (refusal_told request result is) response) is)
+          (true, refused_took g at bytes request judged asks t scale' j j' result (serves asks) out (subst (λ told. IsResponseOut at told out) (refusal_told request result is) response) is)
       by_refusal asks false is = (false, made_took g at bytes request judged asks t scale' j j' result (serves asks) is out response)
 
       by_request : (b : Bool) → asks_store request ≡ b → (unmade : Bool) × Took g (office at bytes unmade) out t j (record t { scale = scale' }) j'
@@ -461,7 +461,7 @@ module _ {D : Type 0} (g : Ghosts D) (at : ℕ) (bytes : List ℕ) (request : Re
           )
 
   -- memory was refused for its response
-  pub failed_took : is_export (told_of result) ≡ true → (out : Out) → IsResponse at (told_fault Memory) out → (unmade : Bool) × Took g (office at bytes unmade) out t j (record t { scale = scale' }) j'
+  pub failed_took : is_export (contents_of result) ≡ true → (out : Out) → IsResponseOut at (told_fault Memory) out → (unmade : Bool) × Took g (office at bytes unmade) out t j (record t { scale = scale' }) j'
   failed_took export out response = by_request (asks_store request) refl
     where
       by_refusal : (asks : asks_store request ≡ true) (b : Bool) → is_store_refusal result ≡ b → (unmade : Bool) × Took g (office at bytes unmade) out t j (record t { scale = scale' }) j'
@@ -476,12 +476,12 @@ module _ {D : Type 0} (g : Ghosts D) (at : ℕ) (bytes : List ℕ) (request : Re
 
 module _ {D : Type 0} (g : Ghosts D) (j : StoreView D) (at : ℕ) (bytes : List ℕ) (t : TerminalState) (out : Out) where
   -- a fault of the judgement is made
-  fault_made : (fault : HttpFault) → IsJudged bytes (Err fault) → IsResponse at (told_fault fault) out → (unmade : Bool) × Took g (office at bytes unmade) out t j t j
+  fault_made : (fault : HttpFault) → IsJudged bytes (Err fault) → IsResponseOut at (told_fault fault) out → (unmade : Bool) × Took g (office at bytes unmade) out t j t j
   fault_made fault judged response = (
     false,
     quiet_took g j at bytes false out t tt (λ other judged' asks. absurd (none other judged')) (λ a st lists. (Err fault, judged, (refl, response)))
         (λ a. (out, (Err fault, judged, (refl, response)))) (λ h ears. record {
-          fault = λ other judged'. subst (λ f. IsResponse at (told_fault f) out) (same_fault fault other (one_judgement bytes (Err fault) (Err other) judged judged')) response;
+          fault = λ other judged'. subst (λ f. IsResponseOut at (told_fault f) out) (same_fault fault other (one_judgement bytes (Err fault) (Err other) judged judged')) response;
           no_ticket = λ judged'. absurd (none (Ticket 0) judged');
           indication = λ judged'. absurd (none Indication judged');
         }),
@@ -491,10 +491,10 @@ module _ {D : Type 0} (g : Ghosts D) (j : StoreView D) (at : ℕ) (bytes : List 
       none other judged' = no_both other fault (one_judgement bytes (Ok other) (Err fault) judged' judged)
 
   -- want of memory counts as never made
-  memory_unmade : MayWantMemory bytes → IsResponse at (told_fault Memory) out → (unmade : Bool) × Took g (office at bytes unmade) out t j t j
+  memory_unmade : MayWantMemory bytes → IsResponseOut at (told_fault Memory) out → (unmade : Bool) × Took g (office at bytes unmade) out t j t j
   memory_unmade may response = (true, quiet_took g j at bytes true out t (inl may) (λ other judged' asks. refl) (λ a st lists. (refl, response)) (λ a. (out, (refl, response))) (λ h ears. response))
 
-  pub fault_took : (fault : HttpFault) → (r : Result Request HttpFault) → IsJudged bytes r → IsOf r (Err fault) → (IsErrOf {T = Request} (Err fault) Memory → MayWantMemory bytes) → IsResponse at (told_fault fault) out
+  pub fault_took : (fault : HttpFault) → (r : Result Request HttpFault) → IsJudged bytes r → IsOf r (Err fault) → (IsErrOf {T = Request} (Err fault) Memory → MayWantMemory bytes) → IsResponseOut at (told_fault fault) out
       → (unmade : Bool) × Took g (office at bytes unmade) out t j t j
   fault_took HeadTooLarge r judged is may response = fault_made HeadTooLarge (subst (IsJudged bytes) is judged) response
   fault_took Malformed r judged is may response = fault_made Malformed (subst (IsJudged bytes) is judged) response

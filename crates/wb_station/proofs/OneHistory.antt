@@ -8,20 +8,20 @@ use Rattle.wb_office.specs.declared.request.Request.TheVariants.{Purge}
 use Rattle.wb_office.specs.Situation.{Situation}
 use Rattle.wb_office.specs.Wanted.{Wanted, HasBound, IsWanted, wanted}
 use Rattle.wb_sics.specs.Event as terminal
-use Rattle.wb_sics.specs.Event.{Event as AtTerminal}
+use Rattle.wb_sics.specs.Event.{TerminalEvent}
 use Rattle.wb_sics.specs.Heard.{heard}
 use Rattle.wb_sics.specs.Replies.{replies}
 use Rattle.wb_sics.proofs.Theorems.{law_of_replies}
 use Rattle.wb_station.specs.declared.fault.HttpFault.{HttpFault}
-use Rattle.wb_station.specs.Account.{Account, Comes, ComesOf, IsAccount, IsOut, IsResponse, Out, leaves, replied, responded, situation}
+use Rattle.wb_station.specs.Account.{Account, Comes, ComesOf, IsAccount, IsOut, IsResponseOut, Out, account_left, replied, responded, situation_at}
 use Rattle.wb_station.specs.Happening.{Happening, heard_of, reading, byte, hang_up, office}
-use Rattle.wb_station.specs.Judgement.{IsJudged}
+use Rattle.wb_station.specs.HttpJudgement.{IsJudged}
 use Rattle.wb_station.specs.Laws.{OneHistory, RepliesAlone}
-use Rattle.wb_station.specs.Response.{Told, response_text, told_result}
+use Rattle.wb_station.specs.Response.{ResponseContent, response_text, told_result}
 use Rattle.wb_station.specs.Stands.{IsReplied}
 use Rattle.wb_station.proofs.judgement.WholeRequests.{one_judgement}
 
-one_response : (at : ℕ) (told : Told) (x y : Out) → IsResponse at told x → IsResponse at told y → x ≡ y
+one_response : (at : ℕ) (told : ResponseContent) (x y : Out) → IsResponseOut at told x → IsResponseOut at told y → x ≡ y
 one_response at told x y a b =
     let same = unix_secs_injective a.1.0 b.1.0 (a.1.1 ∙ sym b.1.1) in
     a.2 ∙ ap (λ d. responded (response_text told d)) (a.1.2 ∙ ap imf_fixdate same ∙ sym b.1.2) ∙ sym b.2
@@ -45,10 +45,10 @@ record IsSame (a b : Account) (x y : Out) : Type 0 where
 one_answer : (s : Setup) (at : ℕ) (r : Result Request HttpFault) (before a b : Account) (x y : Out) → ComesOf s at r before a x → ComesOf s at r before b y → IsSame a b x y
 one_answer s at (Err fault) before a b x y one two = record { account = one.0 ∙ sym two.0; out = one_response at _ x y one.1 two.1 }
 one_answer s at (Ok request) before a b x y one two =
-    let same : one.0 ≡ two.0 = one_wanted request (situation s at before) one.0 two.0 one.1 two.1 in
+    let same : one.0 ≡ two.0 = one_wanted request (situation_at s at before) one.0 two.0 one.1 two.1 in
     record {
-      account = one.2 ∙ ap (λ want. leaves want before) same ∙ sym two.2;
-      out = one_response at _ x y one.3 (subst (λ want. IsResponse at (told_result request want.answer) y) (sym same) two.3);
+      account = one.2 ∙ ap (λ want. account_left want before) same ∙ sym two.2;
+      out = one_response at _ x y one.3 (subst (λ want. IsResponseOut at (told_result request want.answer) y) (sym same) two.3);
     }
 
 one_comes : (s : Setup) (p : Happening) (before a b : Account) (x y : Out) → Comes s p before a x → Comes s p before b y → IsSame a b x y
@@ -76,7 +76,7 @@ one_history = record {
 
 -- ---- what the terminal heard
 
-heard_marked : (marks : Bool) (events : List AtTerminal) → heard (if marks then terminal.stored ∷ events else events) ≡ heard events
+heard_marked : (marks : Bool) (events : List TerminalEvent) → heard (if marks then terminal.stored ∷ events else events) ≡ heard events
 heard_marked true events = refl
 heard_marked false events = refl
 
@@ -93,7 +93,7 @@ heard_history s opening (office at bytes true ∷ h) a none is = ap (λ c. heard
 heard_history s opening (office at bytes false ∷ h) a none is =
     heard_answer s at is.2.1.0 is.0 a is.2.0 is.2.1.2 ∙ heard_history s opening h is.0 none is.1
 
-alone : (s : Setup) (e : AtTerminal) (events heard_events : List AtTerminal) → heard events ≡ heard_events → replies s (e ∷ events) ≡ replies s (e ∷ heard_events)
+alone : (s : Setup) (e : TerminalEvent) (events heard_events : List TerminalEvent) → heard events ≡ heard_events → replies s (e ∷ events) ≡ replies s (e ∷ heard_events)
 alone s e events heard_events same = sym (law_of_replies s e events) ∙ ap (λ l. replies s (e ∷ l)) same
 
 pub replies_alone : RepliesAlone

@@ -1,10 +1,10 @@
 -- The names of refusals are short.
 use Rattle.std.proofs.Common.{◌≤◌, length, arith}
-use Rattle.wb_office.specs.RefusalText.{name}
+use Rattle.wb_office.specs.RefusalText.{refusal_name}
 use Rattle.wb_office.specs.declared.refusal.Refusal.{Refusal}
 use Rattle.wb_office.specs.declared.refusal.Refusal.TheVariants.{AlreadyOpen, BelowMin, ClockBack, Damaged, Gone, JournalFull, KeyReused, NoLoad, NoOpen, NoPreset, NoTicket, NotCleared, Overload, Store, TareActive, Underload, Unstable}
 
-pub name_short : (refusal : Refusal) → length (name refusal) ≤ 14
+pub name_short : (refusal : Refusal) → length (refusal_name refusal) ≤ 14
 name_short KeyReused = omega arith
 name_short Gone = omega arith
 name_short ClockBack = omega arith

@@ -6,7 +6,7 @@ use Rattle.sqlite.specs.Store.{Ghosts}
 use Rattle.wb_sics.specs.Stands.{TerminalState}
 use Rattle.wb_store.specs.Journal.{StoreView}
 use Rattle.wb_station.specs.declared.event.Event.{Event}
-use Rattle.wb_station.specs.Account.{Out, bytes_of}
+use Rattle.wb_station.specs.Account.{Out, bytes_of_out}
 use Rattle.wb_station.specs.Happening.{Happening, happening, unmarked}
 use Rattle.wb_station.specs.RunOfEvents.{AreOf, Ran, Stopped, Went, at_place, taken_of}
 use Rattle.wb_station.specs.Stands.{Took}
@@ -36,21 +36,21 @@ module _ {D : Type 0} (g : Ghosts D) (events : List Event) (i : ℕ) (e : Event)
   ran : Ran g (next ∷ so_far.ps) t j t'' j'' (out ∷ so_far.outs)
   ran = ran_more g so_far.ps so_far.outs next out t j t' j' t'' j'' so_far.went.ran took
 
-  pub running_next : (after' : List (ℕ × List ℕ)) → after' ≡ at_place (i + 1) (bytes_of out) ++ after → Running g (take (i + 1) events) (i + 1) t j t'' j'' before after'
+  pub running_next : (after' : List (ℕ × List ℕ)) → after' ≡ at_place (i + 1) (bytes_of_out out) ++ after → Running g (take (i + 1) events) (i + 1) t j t'' j'' before after'
   running_next after' is = record {
     ps = next ∷ so_far.ps;
     outs = out ∷ so_far.outs;
     went = record {
       of_events = of_events;
       ran = ran;
-      taken = is ∙ ap (λ n. at_place (n + 1) (bytes_of out) ++ after) (sym so_far.counted)
-          ∙ ap (λ l. at_place (length so_far.outs + 1) (bytes_of out) ++ l) so_far.went.taken
-          ∙ sym (append_assoc (at_place (length so_far.outs + 1) (bytes_of out)) (taken_of so_far.outs) before);
+      taken = is ∙ ap (λ n. at_place (n + 1) (bytes_of_out out) ++ after) (sym so_far.counted)
+          ∙ ap (λ l. at_place (length so_far.outs + 1) (bytes_of_out out) ++ l) so_far.went.taken
+          ∙ sym (append_assoc (at_place (length so_far.outs + 1) (bytes_of_out out)) (taken_of so_far.outs) before);
     };
     counted = omega (arith, so_far.counted);
   }
 
-  pub stops : (after' : List (ℕ × List ℕ)) → after' ≡ after → bytes_of out ≢ [] → Stopped g (take (i + 1) events) t j t'' j'' before after'
+  pub stops : (after' : List (ℕ × List ℕ)) → after' ≡ after → bytes_of_out out ≢ [] → Stopped g (take (i + 1) events) t j t'' j'' before after'
   stops after' is some = record {
     happenings = next ∷ so_far.ps;
     last = out;

@@ -5,7 +5,7 @@ use Rattle.httpdate.specs.Text.{imf_fixdate}
 use Rattle.sqlite.specs.Store.{Ghosts}
 use Rattle.wb_station.specs.CourseOfHistory.{HasCourse, KeptForGood, SameAgain}
 use Rattle.wb_station.specs.Laws.{OneHistory, RepliesAlone}
-use Rattle.wb_station.specs.Response.{OneResponse, response_text, told}
+use Rattle.wb_station.specs.Response.{OneResponse, response_content, response_text}
 use Rattle.wb_station.specs.RunOfEvents.{RunsLead}
 use Rattle.wb_station.specs.WholeRequests.{OneJudgement, WholeStays}
 use Rattle.wb_station.proofs.Courses.{has_course, kept_for_good, same_again}
@@ -25,7 +25,7 @@ law_of_whole_requests = whole_stays
 pub law_of_one_response : OneResponse
 law_of_one_response moment outcome a b h k =
     let same = unix_secs_injective h.1.0 k.1.0 (h.1.1 ∙ sym k.1.1) in
-    h.2 ∙ ap (response_text (told outcome)) (h.1.2 ∙ ap imf_fixdate same ∙ sym k.1.2) ∙ sym k.2
+    h.2 ∙ ap (response_text (response_content outcome)) (h.1.2 ∙ ap imf_fixdate same ∙ sym k.1.2) ∙ sym k.2
 
 -- A history has one account, and at each event one output.
 pub law_of_one_history : OneHistory

@@ -9,19 +9,19 @@ use Rattle.wb_scale.specs.History.{moments}
 use Rattle.wb_sics.specs.Calls.{calls}
 use Rattle.wb_sics.specs.declared.reply.Reply.{Reply}
 use Rattle.wb_sics.specs.Event as terminal
-use Rattle.wb_sics.specs.Event.{Event as AtTerminal}
+use Rattle.wb_sics.specs.Event.{TerminalEvent}
 use Rattle.wb_sics.specs.Replies.{replies}
 use Rattle.wb_sics.specs.ReplyText.{reply_bytes}
 use Rattle.wb_store.specs.Rows.{SpentKey}
 use Rattle.wb_station.specs.declared.fault.HttpFault.{HttpFault}
 use Rattle.wb_station.specs.declared.fault.HttpFault.TheVariants.{Memory}
 use Rattle.wb_station.specs.Happening.{Happening, reading, byte, hang_up, office}
-use Rattle.wb_station.specs.Judgement.{IsJudged}
-use Rattle.wb_station.specs.Response.{IsDateOf, Told, response_text, told_fault, told_result}
+use Rattle.wb_station.specs.HttpJudgement.{IsJudged}
+use Rattle.wb_station.specs.Response.{IsDateOf, ResponseContent, response_text, told_fault, told_result}
 
 -- the events of the terminal, the newest first, and the two lists of the store
 pub record Account : Type 0 where
-  pub terminal : List AtTerminal
+  pub terminal : List TerminalEvent
   pub entries : List EntryParts
   pub spent : List SpentKey
 
@@ -39,40 +39,40 @@ abbrev pub bytes_of_replies : List Reply → List ℕ
 bytes_of_replies [] = []
 bytes_of_replies (reply ∷ more) = reply_bytes reply ++ bytes_of_replies more
 
-abbrev pub bytes_of : Out → List ℕ
-bytes_of (replied rs) = bytes_of_replies rs
-bytes_of (responded bytes) = bytes
-bytes_of nothing = []
+abbrev pub bytes_of_out : Out → List ℕ
+bytes_of_out (replied rs) = bytes_of_replies rs
+bytes_of_out (responded bytes) = bytes
+bytes_of_out nothing = []
 
 -- something comes to the terminal
-abbrev pub hears : AtTerminal → Account → Account
+abbrev pub hears : TerminalEvent → Account → Account
 hears e a = record { terminal = e ∷ a.terminal; entries = a.entries; spent = a.spent }
 
 -- what the office is asked on, at a moment
-abbrev pub situation : Setup → ℕ → Account → Situation
-situation s at a = record { setup = s; history = moments s (calls s a.terminal); entries = a.entries; spent = a.spent; at = at }
+abbrev pub situation_at : Setup → ℕ → Account → Situation
+situation_at s at a = record { setup = s; history = moments s (calls s a.terminal); entries = a.entries; spent = a.spent; at = at }
 
 -- what a request leaves; a stored weighing comes to the terminal too
-abbrev pub leaves : Wanted → Account → Account
-leaves want a =
+abbrev pub account_left : Wanted → Account → Account
+account_left want a =
     record { terminal = if want.marks then terminal.stored ∷ a.terminal else a.terminal; entries = want.entries; spent = want.spent }
 
 -- the response at a moment
-abbrev pub IsResponse : ℕ → Told → Out → Type 0
-IsResponse at told out = (date : List ℕ) × IsDateOf at date × (out ≡ responded (response_text told date))
+abbrev pub IsResponseOut : ℕ → ResponseContent → Out → Type 0
+IsResponseOut at told out = (date : List ℕ) × IsDateOf at date × (out ≡ responded (response_text told date))
 
 -- what comes of a request: of a fault of HTTP nothing but its response; else what the office answers, and what it leaves
 abbrev pub ComesOf : Setup → ℕ → Result Request HttpFault → Account → Account → Out → Type 0
-ComesOf s at (Err fault) before after out = (after ≡ before) × IsResponse at (told_fault fault) out
+ComesOf s at (Err fault) before after out = (after ≡ before) × IsResponseOut at (told_fault fault) out
 ComesOf s at (Ok request) before after out =
-    (want : Wanted) × IsWanted request (situation s at before) want × (after ≡ leaves want before) × IsResponse at (told_result request want.answer) out
+    (want : Wanted) × IsWanted request (situation_at s at before) want × (after ≡ account_left want before) × IsResponseOut at (told_result request want.answer) out
 
 -- what comes of a happening: the account after it, and what is put out; a request that counts as never made is answered 503
 abbrev pub Comes : Setup → Happening → Account → Account → Out → Type 0
 Comes s (reading r) before after out = (after ≡ hears (terminal.reading r) before) × (out ≡ replied (replies s (terminal.reading r ∷ before.terminal)))
 Comes s (byte b) before after out = (after ≡ hears (terminal.byte b) before) × (out ≡ replied (replies s (terminal.byte b ∷ before.terminal)))
 Comes s hang_up before after out = (after ≡ hears terminal.hang_up before) × (out ≡ nothing)
-Comes s (office at bytes true) before after out = (after ≡ before) × IsResponse at (told_fault Memory) out
+Comes s (office at bytes true) before after out = (after ≡ before) × IsResponseOut at (told_fault Memory) out
 Comes s (office at bytes false) before after out = (r : Result Request HttpFault) × IsJudged bytes r × ComesOf s at r before after out
 
 -- the account of a history that began with this one

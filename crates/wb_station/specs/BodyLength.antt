@@ -14,13 +14,13 @@ abbrev pub is_encoded : Received → Bool
 is_encoded x = nat_lt 0 (length (values (codes "transfer-encoding") (fields x)))
 
 -- one or more digits
-abbrev pub is_number : List ℕ → Bool
-is_number text = nat_lt 0 (length text) && list_all is_ascii_digit text
+abbrev pub is_number_text : List ℕ → Bool
+is_number_text text = nat_lt 0 (length text) && list_all is_ascii_digit text
 
 -- two or more lengths, or one that isn't a number
 abbrev pub are_wrong : List (List ℕ) → Bool
 are_wrong [] = false
-are_wrong (one ∷ []) = not (is_number one)
+are_wrong (one ∷ []) = not (is_number_text one)
 are_wrong (one ∷ two ∷ more) = true
 
 -- the number that the first of them writes; 0 without one

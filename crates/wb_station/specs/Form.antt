@@ -5,18 +5,18 @@ use Rattle.std.specs.Str.Lossy.{utf8_lossy}
 use Rattle.form_urlencoded.specs.Form.{IsPlainText, decode, raw_pairs}
 use Rattle.wb_journal.specs.declared.kind.Kind.{Kind}
 use Rattle.wb_journal.specs.declared.kind.Kind.TheVariants.{First, Second, Single}
-use Rattle.wb_journal.specs.Key.{is_key}
-use Rattle.wb_journal.specs.Plate.{is_plate}
+use Rattle.wb_journal.specs.Key.{is_key_text}
+use Rattle.wb_journal.specs.Plate.{is_plate_text}
 use Rattle.wb_office.specs.declared.request.Request.{Request}
 use Rattle.wb_office.specs.declared.request.Request.TheVariants.{VoidOpen, Weigh}
 
 -- the text that a name or a value writes; what isn't UTF-8 of it becomes U+FFFD
-abbrev pub text_of : List ℕ → List ℕ
-text_of encoded = utf8_lossy (decode encoded)
+abbrev pub decoded_text : List ℕ → List ℕ
+decoded_text encoded = utf8_lossy (decode encoded)
 
 -- the field has this name
 abbrev pub has_name : List ℕ → List ℕ × List ℕ → Bool
-has_name name pair = bytes_eq (text_of pair.0) name
+has_name name pair = bytes_eq (decoded_text pair.0) name
 
 -- the one of a list that has no other
 abbrev pub only : List (List ℕ) → Option (List ℕ)
@@ -29,30 +29,30 @@ abbrev pub encoded_in : List ℕ → List ℕ → Option (List ℕ)
 encoded_in body name = only (map (λ pair. pair.1) (filter (has_name name) (raw_pairs body)))
 
 abbrev pub value_in : List ℕ → List ℕ → Option (List ℕ)
-value_in body name = option_map text_of (encoded_in body name)
+value_in body name = option_map decoded_text (encoded_in body name)
 
-abbrev pub key_of : List ℕ → Option (List ℕ)
-key_of text = if is_key text then Some text else None
+abbrev pub key_of_text : List ℕ → Option (List ℕ)
+key_of_text text = if is_key_text text then Some text else None
 
-abbrev pub plate_of : List ℕ → Option (List ℕ)
-plate_of text = if is_plate text then Some text else None
+abbrev pub plate_of_text : List ℕ → Option (List ℕ)
+plate_of_text text = if is_plate_text text then Some text else None
 
 -- a Void has a route of its own
-abbrev pub kind_of : List ℕ → Option Kind
-kind_of text =
+abbrev pub kind_of_text : List ℕ → Option Kind
+kind_of_text text =
     if bytes_eq text (codes "first") then Some First
     else if bytes_eq text (codes "second") then Some Second
     else if bytes_eq text (codes "single") then Some Single
     else None
 
 abbrev pub key_in : List ℕ → Option (List ℕ)
-key_in body = option_and_then key_of (value_in body (codes "key"))
+key_in body = option_and_then key_of_text (value_in body (codes "key"))
 
 abbrev pub kind_in : List ℕ → Option Kind
-kind_in body = option_and_then kind_of (value_in body (codes "kind"))
+kind_in body = option_and_then kind_of_text (value_in body (codes "kind"))
 
 abbrev pub plate_in : List ℕ → Option (List ℕ)
-plate_in body = option_and_then plate_of (value_in body (codes "plate"))
+plate_in body = option_and_then plate_of_text (value_in body (codes "plate"))
 
 abbrev pub weigh : Option (List ℕ) → Option Kind → Option (List ℕ) → Option Request
 weigh key kind plate = option_and_then (λ k. option_and_then (λ d. option_map (λ p. Weigh k d p) plate) kind) key

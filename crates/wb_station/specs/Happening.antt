@@ -1,7 +1,7 @@
 -- What happens at a station.
 use Rattle.std.specs.Prelude.{ℕ, Bool, true, false, List, [], ◌∷◌}
 use Rattle.wb_sics.specs.Event as terminal
-use Rattle.wb_sics.specs.Event.{Event as AtTerminal}
+use Rattle.wb_sics.specs.Event.{TerminalEvent}
 use Rattle.wb_window.specs.Reading.{IsReading}
 use Rattle.wb_window.specs.declared.reading.Reading.{Reading as Load}
 use Rattle.wb_station.specs.declared.event.Event.{Event}
@@ -33,7 +33,7 @@ unmarked hang_up = hang_up
 unmarked (office moment bytes unmade) = office moment bytes false
 
 -- the readings, bytes and hang-ups of a history: what the terminal hears
-abbrev pub heard_of : List Happening → List AtTerminal
+abbrev pub heard_of : List Happening → List TerminalEvent
 heard_of [] = []
 heard_of (reading r ∷ h) = terminal.reading r ∷ heard_of h
 heard_of (byte b ∷ h) = terminal.byte b ∷ heard_of h

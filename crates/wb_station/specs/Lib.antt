@@ -11,7 +11,7 @@ pub mod RequestBytes
 pub mod Routes
 pub mod BodyLength
 pub mod Form
-pub mod Judgement
+pub mod HttpJudgement
 pub mod WholeRequests
 -- The bytes of a response.
 pub mod Faults

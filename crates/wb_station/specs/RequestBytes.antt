@@ -29,12 +29,12 @@ abbrev pub fields : Received → List (List ℕ × List ℕ)
 fields x = map name_and_value x.head.fields
 
 -- the field has this name, without regard to case
-abbrev pub is_named : List ℕ → List ℕ × List ℕ → Bool
-is_named name field = str_eq_ignore_ascii_case field.0 name
+abbrev pub has_field_name : List ℕ → List ℕ × List ℕ → Bool
+has_field_name name field = str_eq_ignore_ascii_case field.0 name
 
 -- the values of the fields with this name
 abbrev pub values : List ℕ → List (List ℕ × List ℕ) → List (List ℕ)
-values name fields = map (λ f. f.1) (filter (is_named name) fields)
+values name fields = map (λ f. f.1) (filter (has_field_name name) fields)
 
 -- the request's method is POST
 abbrev pub is_post : Received → Bool

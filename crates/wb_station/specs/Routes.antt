@@ -1,7 +1,7 @@
 -- The routes of the office.
 use Rattle.std.specs.Prelude.{ℕ, Bool, true, false, ◌&&◌, ◌==◌, not, nat_lt, nat_le, List, [], ◌∷◌, bytes_eq, codes, drop, length, take, if◌then◌else◌, Option, Some, None}
 use Rattle.std.specs.List.{before_first, list_any}
-use Rattle.wb_text.specs.Digits.{digits}
+use Rattle.wb_text.specs.Digits.{numeral_value}
 use Rattle.wb_station.specs.declared.fault.Method.{Method}
 use Rattle.wb_station.specs.declared.fault.Method.TheVariants.{Get, Post}
 use Rattle.wb_station.specs.declared.routes.Route.{Route}
@@ -31,12 +31,12 @@ abbrev pub route_of_path : List ℕ → Option Route
 route_of_path path = if is_ticket_path path then Some Ticket else fixed_route fixed_routes path
 
 -- the path of a target: what comes before its first `?`
-abbrev pub path_of : List ℕ → List ℕ
-path_of target = before_first (λ b. b == 63) target
+abbrev pub path_of_target : List ℕ → List ℕ
+path_of_target target = before_first (λ b. b == 63) target
 
 -- the route of a target, which isn't percent-decoded
-abbrev pub route_of : List ℕ → Option Route
-route_of target = route_of_path (path_of target)
+abbrev pub route_of_target : List ℕ → Option Route
+route_of_target target = route_of_path (path_of_target target)
 
 -- the route's method
 abbrev pub method_of : Route → Method
@@ -66,4 +66,4 @@ number_or_zero (Some number) = if nat_le number 4294967295 then number else 0
 
 -- the number of a ticket's path: 1 to 10 digits, up to the greatest number of an entry
 abbrev pub ticket_number : List ℕ → ℕ
-ticket_number path = number_or_zero (digits 10 (drop 9 path))
+ticket_number path = number_or_zero (numeral_value 10 (drop 9 path))

@@ -4,9 +4,9 @@ use Rattle.sqlite.specs.Store.{Ghosts}
 use Rattle.wb_sics.specs.Stands.{TerminalState}
 use Rattle.wb_store.specs.Journal.{IsHonest, StoreView}
 use Rattle.wb_station.specs.declared.event.Event.{Event}
-use Rattle.wb_station.specs.Account.{Account, IsOut, Out, bytes_of}
+use Rattle.wb_station.specs.Account.{Account, IsOut, Out, bytes_of_out}
 use Rattle.wb_station.specs.Happening.{Happening, happening, unmarked}
-use Rattle.wb_station.specs.Stands.{Hears, IsReplied, MustBeUnmade, Stands, Took}
+use Rattle.wb_station.specs.Stands.{Hears, IsReplied, MustBeUnmade, StationStands, Took}
 use Rattle.wb_station.specs.Unmade.{AllMayBeUnmade}
 use Rattle.wb_instrument.specs.Setup.{Setup}
 
@@ -30,7 +30,7 @@ AreReplies s (p ∷ ps) h (out ∷ outs) = IsReplied s p (ps ++ h) out × AreRep
 -- what is taken of these outputs, the newest first
 abbrev pub taken_of : List Out → List (ℕ × List ℕ)
 taken_of [] = []
-taken_of (out ∷ outs) = at_place (length outs + 1) (bytes_of out) ++ taken_of outs
+taken_of (out ∷ outs) = at_place (length outs + 1) (bytes_of_out out) ++ taken_of outs
 
 module _ {D : Type 0} (g : Ghosts D) where
   -- the happenings, the newest first, were taken one after the other, from here to there, and this was put out at each
@@ -49,8 +49,8 @@ module _ {D : Type 0} (g : Ghosts D) (ps : List Happening) (t : TerminalState) (
   pub record Leads (outs : List Out) : Type 0 where
     pub setup : t'.scale.setup ≡ t.scale.setup
     pub may_be_unmade : AllMayBeUnmade ps
-    pub stands : (opening : Account) (h : List Happening) → Stands g opening t j h → IsHonest g j' → Stands g opening t' j' (ps ++ h)
-    pub put_out : (opening : Account) (h : List Happening) → Stands g opening t j h → IsHonest g j' → AreOuts t.scale.setup opening ps h outs
+    pub stands : (opening : Account) (h : List Happening) → StationStands g opening t j h → IsHonest g j' → StationStands g opening t' j' (ps ++ h)
+    pub put_out : (opening : Account) (h : List Happening) → StationStands g opening t j h → IsHonest g j' → AreOuts t.scale.setup opening ps h outs
     -- after a fault of the disk each request that asks the store is answered 503
     pub still : j.is_closed ≡ true → (j' ≡ j) × AllMustBeUnmade ps
     pub honest : IsHonest g j' → IsHonest g j
@@ -98,4 +98,4 @@ module _ {D : Type 0} (g : Ghosts D) (events : List Event) (t : TerminalState) (
     pub last : Out
     pub outs : List Out
     pub went : Went happenings (last ∷ outs) outs
-    pub some : bytes_of last ≢ []
+    pub some : bytes_of_out last ≢ []

@@ -7,24 +7,24 @@ use Rattle.wb_instrument.specs.Setup.{Setup}
 use Rattle.wb_office.specs.declared.refusal.Refusal.TheVariants.{NoTicket}
 use Rattle.wb_office.specs.declared.request.Request.{Request}
 use Rattle.wb_office.specs.declared.request.Request.TheVariants.{Indication, Ticket}
-use Rattle.wb_office.specs.Answer.{indication_text, text_told}
+use Rattle.wb_office.specs.Answer.{text_content, text_of_indication}
 use Rattle.wb_office.specs.Wanted.{asks_store}
 use Rattle.wb_scale.specs.History.{moments}
 use Rattle.wb_scale.specs.Indication.{indicated}
 use Rattle.wb_sics.specs.Calls.{calls}
-use Rattle.wb_sics.specs.Event.{Event as AtTerminal}
+use Rattle.wb_sics.specs.Event.{TerminalEvent}
 use Rattle.wb_sics.specs.Event as terminal
 use Rattle.wb_sics.specs.Heard.{heard}
 use Rattle.wb_sics.specs.Replies.{replies}
-use Rattle.wb_sics.specs.Stands.{TerminalState, Stands as TerminalStands}
-use Rattle.wb_store.specs.Journal.{IsHonest, Reopens, StoreView, Stands as StoreStands}
+use Rattle.wb_sics.specs.Stands.{TerminalState, TerminalStands}
+use Rattle.wb_store.specs.Journal.{IsHonest, Reopens, StoreView, StoreStands}
 use Rattle.wb_store.specs.Keeping.{LeavesOnly}
 use Rattle.wb_store.specs.Lists.{AreLists}
 use Rattle.wb_station.specs.declared.fault.HttpFault.{HttpFault}
 use Rattle.wb_station.specs.declared.fault.HttpFault.TheVariants.{Memory}
-use Rattle.wb_station.specs.Account.{Account, Comes, IsAccount, IsResponse, Out, nothing, replied}
+use Rattle.wb_station.specs.Account.{Account, Comes, IsAccount, IsResponseOut, Out, nothing, replied}
 use Rattle.wb_station.specs.Happening.{Happening, heard_of, reading, byte, hang_up, office, unmarked}
-use Rattle.wb_station.specs.Judgement.{IsJudged}
+use Rattle.wb_station.specs.HttpJudgement.{IsJudged}
 use Rattle.wb_station.specs.Response.{told_fault, told_result}
 use Rattle.wb_station.specs.Unmade.{MayBeUnmade}
 
@@ -32,7 +32,7 @@ use Rattle.wb_station.specs.Unmade.{MayBeUnmade}
 
 -- it stands after the readings, bytes and hang-ups of a history, whatever weighings were stored between them
 pub record Hears (t : TerminalState) (h : List Happening) : Type 0 where
-  pub events : List AtTerminal
+  pub events : List TerminalEvent
   pub stands : TerminalStands t events
   pub of_history : heard events ≡ heard_of h
 
@@ -48,17 +48,17 @@ IsReplied s (office at bytes unmade) h out = Unit {0}
 -- what a request of these bytes is answered that asks no store: a fault of HTTP, the ticket of the number 0, and the indication of what the
 -- terminal heard
 pub record IsOutright (s : Setup) (at : ℕ) (bytes : List ℕ) (h : List Happening) (out : Out) : Type 0 where
-  pub fault : (fault : HttpFault) → IsJudged bytes (Err fault) → IsResponse at (told_fault fault) out
-  pub no_ticket : IsJudged bytes (Ok (Ticket 0)) → IsResponse at (told_result (Ticket 0) (Err NoTicket)) out
-  pub indication : IsJudged bytes (Ok Indication) → (events : List AtTerminal) × (heard events ≡ heard_of h)
-      × IsResponse at (told_result Indication (Ok (text_told (indication_text s (indicated s (moments s (calls s events))))))) out
+  pub fault : (fault : HttpFault) → IsJudged bytes (Err fault) → IsResponseOut at (told_fault fault) out
+  pub no_ticket : IsJudged bytes (Ok (Ticket 0)) → IsResponseOut at (told_result (Ticket 0) (Err NoTicket)) out
+  pub indication : IsJudged bytes (Ok Indication) → (events : List TerminalEvent) × (heard events ≡ heard_of h)
+      × IsResponseOut at (told_result Indication (Ok (text_content (text_of_indication s (indicated s (moments s (calls s events))))))) out
 
 -- and a request that counts as never made is answered 503
 abbrev pub IsAnsweredOutright : Setup → Happening → List Happening → Out → Type 0
 IsAnsweredOutright s (reading r) h out = Unit {0}
 IsAnsweredOutright s (byte b) h out = Unit {0}
 IsAnsweredOutright s hang_up h out = Unit {0}
-IsAnsweredOutright s (office at bytes true) h out = IsResponse at (told_fault Memory) out
+IsAnsweredOutright s (office at bytes true) h out = IsResponseOut at (told_fault Memory) out
 IsAnsweredOutright s (office at bytes false) h out = IsOutright s at bytes h out
 
 -- ---- the store
@@ -100,22 +100,22 @@ module _ {D : Type 0} (g : Ghosts D) where
   LeavesSoon s opening j h = (db : Trees) → (state g j.conn).may_leave db → IsOfHistory s opening h db
 
   -- the store stands for the lists, and a crash leaves these
-  pub record IsKept (j : StoreView D) (a : Account) : Type 0 where
+  pub record KeepsLists (j : StoreView D) (a : Account) : Type 0 where
     pub stands : StoreStands g j a.entries a.spent
     pub only : LeavesOnly g j a.entries a.spent
 
   -- they stand at this account of a history; of a store that a fault of the disk closed only what a crash leaves is said
-  pub record StandsAt (opening : Account) (t : TerminalState) (j : StoreView D) (h : List Happening) (account : Account) : Type 0 where
+  pub record StationStandsAt (opening : Account) (t : TerminalState) (j : StoreView D) (h : List Happening) (account : Account) : Type 0 where
     pub terminal : TerminalStands t account.terminal
     pub lists : AreLists account.entries account.spent
-    pub store : j.is_closed ≡ false → IsKept j account
+    pub store : j.is_closed ≡ false → KeepsLists j account
     pub soon : LeavesSoon t.scale.setup opening j h
 
   -- they stand after a history that began with the account at the opening
-  pub record Stands (opening : Account) (t : TerminalState) (j : StoreView D) (h : List Happening) : Type 0 where
+  pub record StationStands (opening : Account) (t : TerminalState) (j : StoreView D) (h : List Happening) : Type 0 where
     pub account : Account
     pub is_account : IsAccount t.scale.setup opening h account
-    pub at : StandsAt opening t j h account
+    pub at : StationStandsAt opening t j h account
 
 module _ {D : Type 0} (g : Ghosts D) (p : Happening) (out : Out) (t : TerminalState) (j : StoreView D) (t' : TerminalState) (j' : StoreView D) where
   -- a happening led from here to there, and this was put out
@@ -123,10 +123,10 @@ module _ {D : Type 0} (g : Ghosts D) (p : Happening) (out : Out) (t : TerminalSt
     pub setup : t'.scale.setup ≡ t.scale.setup
     pub may_be_unmade : MayBeUnmade p
     -- what is put out, and the account at which it stands then, are what comes of the happening by the definitions
-    pub comes : (opening : Account) (h : List Happening) (stood : Stands g opening t j h) → IsHonest g j'
-        → (after : Account) × Comes t.scale.setup p stood.account after out × StandsAt g opening t' j' (p ∷ h) after
+    pub comes : (opening : Account) (h : List Happening) (stood : StationStands g opening t j h) → IsHonest g j'
+        → (after : Account) × Comes t.scale.setup p stood.account after out × StationStandsAt g opening t' j' (p ∷ h) after
     -- a crash at the end of the call leaves the lists before it, or those to which the happening leads where it is made
-    pub crash : (opening : Account) (h : List Happening) (stood : Stands g opening t j h) → IsHonest g j' → j.is_closed ≡ false → (db : Trees) → (state g j'.conn).may_leave db
+    pub crash : (opening : Account) (h : List Happening) (stood : StationStands g opening t j h) → IsHonest g j' → j.is_closed ≡ false → (db : Trees) → (state g j'.conn).may_leave db
         → Reopens db stood.account.entries stood.account.spent ⊎ IsLedTo t.scale.setup (unmarked p) stood.account db
     -- a closed store stays as it is
     pub still : j.is_closed ≡ true → (j' ≡ j) × MustBeUnmade p

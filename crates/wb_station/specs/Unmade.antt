@@ -3,7 +3,7 @@ use Rattle.std.specs.Prelude.{◌≡◌, ◌⊎◌, Bool, true, false, List, [],
 use Rattle.wb_office.specs.declared.request.Request.{Request}
 use Rattle.wb_office.specs.Wanted.{asks_store}
 use Rattle.wb_station.specs.Happening.{Happening, reading, byte, hang_up, office}
-use Rattle.wb_station.specs.Judgement.{IsJudged, MayWantMemory}
+use Rattle.wb_station.specs.HttpJudgement.{IsJudged, MayWantMemory}
 
 -- the request may want memory for its form, or asks the store
 abbrev pub MayBeUnmade : Happening → Type 0

@@ -2,7 +2,7 @@
 use Rattle.std.specs.Prelude.{◌≡◌, ℕ, Bool, true, ◌||◌, not, nat_lt, List, ◌++◌, length, Option, Some, None, is_some, Result}
 use Rattle.wb_office.specs.declared.request.Request.{Request}
 use Rattle.wb_station.specs.declared.fault.HttpFault.{HttpFault}
-use Rattle.wb_station.specs.Judgement.{IsJudged, cut_short, first_fault, of_head}
+use Rattle.wb_station.specs.HttpJudgement.{IsJudged, cut_short, first_fault, of_head}
 use Rattle.wb_station.specs.RequestBytes.{IsRead, Received}
 
 -- a head is there, with a fault of its own, or the body isn't cut short; or no head is there in more than 8,192 bytes

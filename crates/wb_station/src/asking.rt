@@ -1,8 +1,8 @@
 //! A request to the office: judged, answered, and the response to it.
 ghost use Rattle.std.specs.Prelude.{Bool, List, Ok, ℕ};
-ghost use Rattle.wb_station.specs.Account.{IsResponse, responded};
+ghost use Rattle.wb_station.specs.Account.{IsResponseOut, responded};
 ghost use Rattle.wb_station.specs.Happening.{office as office_happening};
-ghost use Rattle.wb_station.specs.Judgement.{IsJudged};
+ghost use Rattle.wb_station.specs.HttpJudgement.{IsJudged};
 ghost use Rattle.wb_station.specs.Response.{told_fault};
 ghost use Rattle.wb_station.specs.Stands.{Took};
 
@@ -65,7 +65,7 @@ fn answer<W: Window, D: Alter>(
 
 /// Leaves the response to a fault in the room.
 fn put_fault(room: &mut ResponseRoom, moment: &Moment, fault: HttpFault)
-    ensures { IsResponse moment.now (told_fault fault) (responded room.new) }
+    ensures { IsResponseOut moment.now (told_fault fault) (responded room.new) }
 {
     // it fits into the room
     let _ = response_bytes(moment.copied(), Outcome::Fault(fault), room);

@@ -4,8 +4,8 @@ ghost use Rattle.std.specs.Char.{is_ascii_digit};
 ghost use Rattle.std.specs.List.{list_all};
 ghost use Rattle.std.specs.Prelude.{◌≡◌, All, IsErrOf, codes, length, min, nat_lt, true};
 ghost use Rattle.std.specs.Str.Parse.{digits_value};
-ghost use Rattle.wb_station.specs.BodyLength.{is_number as is_number_of};
-ghost use Rattle.wb_station.specs.RequestBytes.{is_named as is_named_of, values};
+ghost use Rattle.wb_station.specs.BodyLength.{is_number_text};
+ghost use Rattle.wb_station.specs.RequestBytes.{has_field_name, values};
 ghost use Rattle.wb_station.specs.helpers.LengthSaid.{IsValueOf, pairs, said, said_text};
 
 use crate::fault::HttpFault;
@@ -62,7 +62,7 @@ fn value_of<'a>(head: &Head<'a>, name: &[u8]) -> Result<Option<&'a [u8]>, HttpFa
 /// Whether the field has this name, without regard to case.
 fn is_named(bytes: &[u8], field: HeaderSpan, name: &[u8]) -> bool
     requires { IsHeaderWithin (length bytes.now) field }
-    ensures { result ≡ is_named_of name.now (header_bytes bytes.now field) }
+    ensures { result ≡ has_field_name name.now (header_bytes bytes.now field) }
 {
     field.name.of(bytes).eq_ignore_ascii_case(name)
 }
@@ -85,7 +85,7 @@ fn length_in(text: &[u8]) -> Result<u32, HttpFault>
 
 /// Whether there are digits, and nothing else.
 fn is_number(text: &[u8]) -> bool
-    ensures { result ≡ is_number_of text.now }
+    ensures { result ≡ is_number_text text.now }
 {
     !text.is_empty() && are_digits(text)
 }

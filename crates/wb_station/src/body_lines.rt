@@ -1,8 +1,8 @@
 //! The lines of short bodies.
 ghost use Rattle.arrayvec.specs.ArrayString.{array_string_len};
 ghost use Rattle.std.specs.Prelude.{◌≡◌, ◌≤◌, ◌++◌, codes, decimal, length};
-ghost use Rattle.wb_office.specs.RefusalText.{name, number};
-ghost use Rattle.wb_station.specs.Response.{fault_body, fault_line as fault_line_of, refused_line as refused_line_of};
+ghost use Rattle.wb_office.specs.RefusalText.{refusal_name, refusal_number};
+ghost use Rattle.wb_station.specs.Response.{fault_body, fault_line_text, refused_line_text};
 
 use crate::fault::HttpFault;
 use arrayvec::ArrayString;
@@ -41,7 +41,7 @@ pub(crate) fn line_of_fault(fault: HttpFault) -> Line
 }
 
 fn fault_line(fault: HttpFault) -> Line
-    ensures { result.bytes ≡ fault_line_of fault }
+    ensures { result.bytes ≡ fault_line_text fault }
 {
     numbered_line("fault ", fault.status().as_u16(), fault.name())
 }
@@ -49,7 +49,7 @@ fn fault_line(fault: HttpFault) -> Line
 /// The line of a refusal by the office.
 #[tactic(auto, using(crate::proofs::RefusalNames::name_short))]
 pub(crate) fn line_of_refusal(refusal: Refusal) -> Line
-    ensures { result.bytes ≡ refused_line_of (number refusal) (name refusal) }
+    ensures { result.bytes ≡ refused_line_text (refusal_number refusal) (refusal_name refusal) }
 {
     numbered_line("refused ", refusal.number() as u16, refusal.name())
 }

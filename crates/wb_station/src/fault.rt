@@ -1,7 +1,7 @@
 //! The faults of HTTP.
 ghost use Rattle.std.specs.Prelude.{◌≡◌, ◌≤◌, length};
-ghost use Rattle.wb_station.specs.Faults.{name as name_of, status as status_of};
-ghost use Rattle.wb_station.specs.Response.{allowed as allowed_of, phrase};
+ghost use Rattle.wb_station.specs.Faults.{fault_name, fault_status};
+ghost use Rattle.wb_station.specs.Response.{allowed_method, phrase_of_status};
 ghost use Rattle.wb_station.specs.Routes.{method_text};
 
 use http::StatusCode;
@@ -54,8 +54,8 @@ pub enum HttpFault {
 impl HttpFault {
     /// The status of the response.
     pub fn status(self) -> StatusCode
-        ensures value { result ≡ status_of self }
-        ensures phrase { length (phrase result) ≤ 32 }
+        ensures value { result ≡ fault_status self }
+        ensures phrase { length (phrase_of_status result) ≤ 32 }
     {
         match self {
             HttpFault::HeadTooLarge => StatusCode::REQUEST_HEADER_FIELDS_TOO_LARGE,
@@ -71,7 +71,7 @@ impl HttpFault {
 
     /// The method that the route allows, of a wrong method.
     pub(crate) fn allowed(self) -> Option<Method>
-        ensures { result ≡ allowed_of self }
+        ensures { result ≡ allowed_method self }
     {
         match self {
             HttpFault::WrongMethod(method) => Some(method),
@@ -87,7 +87,7 @@ impl HttpFault {
 
     /// The name, in small letters; want of memory has the name of the office's refusal for it.
     pub fn name(self) -> &'static str
-        ensures value { result.now ≡ name_of self }
+        ensures value { result.now ≡ fault_name self }
         ensures fits { length result.now ≤ 14 }
     {
         match self {

@@ -2,7 +2,7 @@
 ghost use Rattle.form_urlencoded.specs.Form.{IsPlainText};
 ghost use Rattle.std.specs.Prelude.{◌≡◌, IfOk, IsErrOf, IsOk, bytes_eq, ok_or};
 ghost use Rattle.wb_station.specs.helpers.FoundBytes.{as_bytes, as_text};
-ghost use Rattle.wb_station.specs.Form.{IsPlain, encoded_in, key_in, key_of as key_of_text, kind_in, kind_of as kind_of_text, plate_in, plate_of as plate_of_text, text_of, value_in, void_in, weighing_in};
+ghost use Rattle.wb_station.specs.Form.{IsPlain, decoded_text, encoded_in, key_in, key_of_text, kind_in, kind_of_text, plate_in, plate_of_text, value_in, void_in, weighing_in};
 ghost use Rattle.wb_station.specs.UnlessMemoryRefused.{IsOf};
 
 use crate::fault::HttpFault;
@@ -124,7 +124,7 @@ fn is_named<A: Allocator + Copy + Drop>(
     field: &[u8],
     name: &str,
 ) -> Result<bool, AllocError>
-    ensures value { IfOk result (λ yes. yes ≡ bytes_eq (text_of field.now) name.now) }
+    ensures value { IfOk result (λ yes. yes ≡ bytes_eq (decoded_text field.now) name.now) }
     ensures plain { IsPlainText field.now → IsOk result }
 {
     let text = decode(alloc, field)?;

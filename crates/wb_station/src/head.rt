@@ -2,7 +2,7 @@
 ghost use Rattle.httparse.specs.Grammar.{ReadsRequest, RequestHead};
 ghost use Rattle.httparse.specs.Spans.{IsHeaderWithin, IsRequestAt, IsRequestWithin};
 ghost use Rattle.std.specs.Prelude.{◌≡◌, ◌≤◌, ℕ, All, IfErr, IfNone, IfOk, IfSome, List, None, drop, length, take};
-ghost use Rattle.wb_station.specs.Judgement.{headless as headless_of};
+ghost use Rattle.wb_station.specs.HttpJudgement.{fault_without_head};
 ghost use Rattle.wb_station.specs.helpers.HeadPlaces.{IsHeadOf, IsReadAt};
 ghost use Rattle.wb_station.specs.RequestBytes.{IsRead, Received};
 
@@ -35,7 +35,7 @@ pub(crate) fn places_of(
 ) -> Result<RequestSpans, HttpFault>
     ensures read { IfOk result (λ r. (x : Received) × IsReadAt bytes.now fields.new r x) }
     ensures within { IfOk result (λ r. IsRequestWithin (take 8192 bytes.now) fields.new r) }
-    ensures none { IfErr result (λ e. IsRead bytes.now None × (e ≡ headless_of bytes.now)) }
+    ensures none { IfErr result (λ e. IsRead bytes.now None × (e ≡ fault_without_head bytes.now)) }
 {
     match find_head(front_of(bytes), fields) {
         Some(places) => Ok(places),
@@ -91,7 +91,7 @@ fn front_of(bytes: &[u8]) -> &[u8]
 
 /// The fault of bytes that have no head.
 fn headless(bytes: &[u8]) -> HttpFault
-    ensures { result ≡ headless_of bytes.now }
+    ensures { result ≡ fault_without_head bytes.now }
 {
     if HEAD_LIMIT < bytes.len() {
         HttpFault::HeadTooLarge

@@ -1,5 +1,5 @@
 //! What comes to the terminal.
-ghost use Rattle.wb_station.specs.helpers.Hearing.{Heard, IsReadable};
+ghost use Rattle.wb_station.specs.helpers.Hearing.{Heard, IsEventInRange};
 
 use crate::event::{AtTerminal, Room};
 use wb_sics::{Replies, Terminal};
@@ -11,7 +11,7 @@ pub(crate) fn hear<W: Window>(
     replies: &mut Replies,
     event: AtTerminal,
 ) -> Room
-    requires { IsReadable event }
+    requires { IsEventInRange event }
     ensures { Heard event terminal.old terminal.new replies.new.items result }
 {
     match event {

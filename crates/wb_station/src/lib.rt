@@ -4,7 +4,7 @@
 //! terminal, the entries and the spent keys, and what is put out at each event, by the definitions of the terminal and of the
 //! office; a request that is answered 503 counts as never made. `Station::turn` and `run` meet it for every history.
 //!
-//! The bytes of a request are judged in the order of `specs/Judgement`, and an answer, a refusal or a fault is put into the form of
+//! The bytes of a request are judged in the order of `specs/HttpJudgement`, and an answer, a refusal or a fault is put into the form of
 //! `specs/Response`.
 #![tactic(auto)]
 

@@ -3,7 +3,7 @@ ghost use Rattle.httparse.specs.Spans.{IsHeaderWithin};
 ghost use Rattle.std.specs.Prelude.{◌≡◌, All, IsErrOf, IsUtf8, Result, length, ok_or, true};
 ghost use Rattle.wb_office.specs.declared.request.Request.{Request as Asked};
 ghost use Rattle.wb_station.specs.Form.{IsPlain};
-ghost use Rattle.wb_station.specs.Judgement.{IsJudged, MayWantMemory, asked_by, has_form};
+ghost use Rattle.wb_station.specs.HttpJudgement.{IsJudged, MayWantMemory, asked_by, has_form};
 ghost use Rattle.wb_station.specs.UnlessMemoryRefused.{IsOf};
 ghost use Rattle.wb_station.specs.helpers.AskedByHead.{IsDecoded, IsFormToDecode, answered, answered_by, sought_in};
 ghost use Rattle.wb_station.specs.declared.fault.HttpFault.{HttpFault as Fault};

@@ -1,8 +1,8 @@
 //! The response to an outcome.
 ghost use Rattle.std.specs.Prelude.{◌≡◌, ◌≤◌, IsOk, OnErr, OnOk, [], false, length, vec_capacity};
-ghost use Rattle.wb_office.specs.Serves.{told as told_by_office, told_of};
+ghost use Rattle.wb_office.specs.Serves.{content_of, contents_of};
 ghost use Rattle.wb_station.specs.helpers.ToldByParts.{told_by};
-ghost use Rattle.wb_station.specs.Response.{IsDateOf, IsResponse, answer_status as answer_status_of, has_export, is_csv, is_export, phrase as phrase_of, refusal_status as refusal_status_of, response_text, told, told_answer, told_result};
+ghost use Rattle.wb_station.specs.Response.{IsDateOf, IsResponse, has_export, is_csv, is_export, phrase_of_status, response_content, response_text, status_of_answer, status_of_refusal, told_answer, told_result};
 
 use crate::body_lines::{Line, count_line, line_of_fault, line_of_refusal};
 use crate::outcome::Outcome;
@@ -51,8 +51,8 @@ fn date_of(seconds: u64) -> [u8; 29]
 
 /// The status of an answer: created for a weighing or void, else fine.
 fn answer_status(request: &Request) -> StatusCode
-    ensures value { result ≡ answer_status_of request.now }
-    ensures phrase { length (phrase_of result) ≤ 32 }
+    ensures value { result ≡ status_of_answer request.now }
+    ensures phrase { length (phrase_of_status result) ≤ 32 }
 {
     match request {
         Request::Weigh { .. } => StatusCode::CREATED,
@@ -67,8 +67,8 @@ fn answer_status(request: &Request) -> StatusCode
 }
 
 fn refusal_status(refusal: Refusal) -> StatusCode
-    ensures value { result ≡ refusal_status_of refusal }
-    ensures phrase { length (phrase_of result) ≤ 32 }
+    ensures value { result ≡ status_of_refusal refusal }
+    ensures phrase { length (phrase_of_status result) ≤ 32 }
 {
     match refusal {
         Refusal::Gone => StatusCode::GONE,
@@ -98,12 +98,12 @@ fn put_answer(
     status: StatusCode,
     answer: &Answer,
 ) -> Result<(), AllocError>
-    requires phrase { length (phrase_of status) ≤ 32 }
+    requires phrase { length (phrase_of_status status) ≤ 32 }
     requires empty { room.old.items ≡ [] }
     requires room { 2048 ≤ vec_capacity room.old }
     ensures items { OnOk result (room.new.items
-        ≡ response_text (told_answer status (told_by_office answer.now)) date.now) }
-    ensures fits { is_csv (told_by_office answer.now) ≡ false → IsOk result }
+        ≡ response_text (told_answer status (content_of answer.now)) date.now) }
+    ensures fits { is_csv (content_of answer.now) ≡ false → IsOk result }
     ensures capacity { vec_capacity room.old ≤ vec_capacity room.new }
 {
     let plain = ResponseHead {
@@ -143,7 +143,7 @@ fn put_line(
     head: ResponseHead,
     line: &Line,
 ) -> Result<(), AllocError>
-    requires phrase { length (phrase_of head.status) ≤ 32 }
+    requires phrase { length (phrase_of_status head.status) ≤ 32 }
     requires empty { room.old.items ≡ [] }
     requires room { 2048 ≤ vec_capacity room.old }
     ensures items { OnOk result (room.new.items
@@ -158,7 +158,7 @@ fn put_line(
 fn put_outcome(room: &mut Vec<u8>, date: &[u8; 29], outcome: &Outcome<'_>) -> Result<(), AllocError>
     requires empty { room.old.items ≡ [] }
     requires room { 2048 ≤ vec_capacity room.old }
-    ensures items { OnOk result (room.new.items ≡ response_text (told outcome.now) date.now) }
+    ensures items { OnOk result (room.new.items ≡ response_text (response_content outcome.now) date.now) }
     ensures fits { has_export outcome.now ≡ false → IsOk result }
     ensures capacity { vec_capacity room.old ≤ vec_capacity room.new }
 {
@@ -184,8 +184,8 @@ fn put_result(
     requires empty { room.old.items ≡ [] }
     requires room { 2048 ≤ vec_capacity room.old }
     ensures items { OnOk result (room.new.items
-        ≡ response_text (told_result request.now (told_of answered.now)) date.now) }
-    ensures fits { is_export (told_of answered.now) ≡ false → IsOk result }
+        ≡ response_text (told_result request.now (contents_of answered.now)) date.now) }
+    ensures fits { is_export (contents_of answered.now) ≡ false → IsOk result }
     ensures capacity { vec_capacity room.old ≤ vec_capacity room.new }
 {
     match answered {

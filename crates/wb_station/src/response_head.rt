@@ -1,7 +1,7 @@
 //! A response, put into a room line by line.
 ghost use Rattle.std.specs.Prelude.{◌≡◌, ◌≤◌, ◌<◌, ◌+◌, ◌^◌, ◌++◌, IsOk, OnOk, decimal, length, vec_capacity, vec_len};
 ghost use Rattle.wb_station.specs.helpers.ToldByParts.{told_by};
-ghost use Rattle.wb_station.specs.Response.{allow_line as allow_line_of, length_lines, media_type as media_type_of, phrase as phrase_of, response_text, status_line, type_lines};
+ghost use Rattle.wb_station.specs.Response.{allow_line_text, length_lines, media_type_text, phrase_of_status, response_text, status_line, type_lines};
 
 use crate::fault::Method;
 use http::StatusCode;
@@ -28,7 +28,7 @@ fn put_number(room: &mut Vec<u8>, number: u64) -> Result<(), AllocError>
 
 /// The first line.
 fn put_status_line(room: &mut Vec<u8>, status: StatusCode) -> Result<(), AllocError>
-    requires { length (phrase_of status) ≤ 32 }
+    requires { length (phrase_of_status status) ≤ 32 }
     ensures items { OnOk result (room.new.items ≡ room.old.items ++ status_line status) }
     ensures fits { vec_len room.old + 64 ≤ vec_capacity room.old → IsOk result }
     ensures len { vec_len room.new ≤ vec_len room.old + 64 }
@@ -43,7 +43,7 @@ fn put_status_line(room: &mut Vec<u8>, status: StatusCode) -> Result<(), AllocEr
 }
 
 fn phrase(status: StatusCode) -> &'static str
-    ensures { result.now ≡ phrase_of status }
+    ensures { result.now ≡ phrase_of_status status }
 {
     status.canonical_reason().unwrap_or("")
 }
@@ -64,7 +64,7 @@ fn put_type_lines(room: &mut Vec<u8>, date: &[u8; 29], csv: bool) -> Result<(), 
 }
 
 fn media_type(csv: bool) -> &'static str
-    ensures value { result.now ≡ media_type_of csv }
+    ensures value { result.now ≡ media_type_text csv }
     ensures fits { length result.now ≤ 25 }
 {
     if csv {
@@ -94,7 +94,7 @@ fn put_length_lines(
 }
 
 fn allow_line(allow: Option<Method>) -> &'static str
-    ensures value { result.now ≡ allow_line_of allow }
+    ensures value { result.now ≡ allow_line_text allow }
     ensures fits { length result.now ≤ 13 }
 {
     match allow {
@@ -112,7 +112,7 @@ pub(crate) fn put_response(
     text: &[u8],
     end: &[u8],
 ) -> Result<(), AllocError>
-    requires phrase { length (phrase_of head.status) ≤ 32 }
+    requires phrase { length (phrase_of_status head.status) ≤ 32 }
     requires size { length text.now + length end.now < 2 ^ 64 }
     ensures items { OnOk result (room.new.items
         ≡ room.old.items ++ response_text (told_by head (text.now ++ end.now)) date.now) }
@@ -135,7 +135,7 @@ pub(crate) fn put_whole(
     head: ResponseHead,
     text: &[u8],
 ) -> Result<(), AllocError>
-    requires phrase { length (phrase_of head.status) ≤ 32 }
+    requires phrase { length (phrase_of_status head.status) ≤ 32 }
     ensures items { OnOk result (room.new.items
         ≡ room.old.items ++ response_text (told_by head text.now) date.now) }
     ensures fits { vec_len room.old + 224 + length text.now ≤ vec_capacity room.old → IsOk result }

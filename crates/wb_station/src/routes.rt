@@ -2,8 +2,8 @@
 ghost use Rattle.std.specs.Prelude.{◌≡◌, [], IfErr, IfOk, IsUtf8, OnOk};
 ghost use Rattle.matchit.specs.declared.error.InsertError.TheVariants.{OutOfMemory};
 ghost use Rattle.wb_station.specs.Router.{table};
-ghost use Rattle.wb_text.specs.Digits.{digits};
-ghost use Rattle.wb_station.specs.Routes.{method_of, number_or_zero, path_of as path_of_target, route_of as route_of_target, route_of_path, ticket_number};
+ghost use Rattle.wb_text.specs.Digits.{numeral_value};
+ghost use Rattle.wb_station.specs.Routes.{method_of, number_or_zero, path_of_target, route_of_path, route_of_target, ticket_number};
 
 use crate::fault::Method;
 use matchit::{InsertError, Router};
@@ -150,7 +150,7 @@ pub(crate) fn ticket_number(target: &[u8]) -> u32
 }
 
 fn number_of(text: &[u8]) -> u32
-    ensures { result ≡ number_or_zero (digits 10 text.now) }
+    ensures { result ≡ number_or_zero (numeral_value 10 text.now) }
 {
     match digits(text, NUMBER_DIGITS) {
         Some(number) => u32::try_from(number).unwrap_or(0),

@@ -1,9 +1,9 @@
 //! Runs of events.
 ghost use Rattle.std.specs.Prelude.{◌≡◌, ◌≢◌, ◌<◌, ◌≤◌, ◌+◌, ◌-◌, ◌^◌, ◌++◌, [], All, IfErr, MatchResult, OnOk, length, take};
-ghost use Rattle.wb_station.specs.Account.{bytes_of as bytes_of_out, bytes_of_replies};
+ghost use Rattle.wb_station.specs.Account.{bytes_of_out, bytes_of_replies};
 ghost use Rattle.wb_station.specs.Happening.{IsTaken};
 ghost use Rattle.wb_station.specs.RunOfEvents.{Stopped, WentOn, at_place};
-ghost use Rattle.wb_station.specs.OutputShows.{shown};
+ghost use Rattle.wb_station.specs.OutputShows.{out_shown};
 
 use crate::event::{Event, Output};
 use crate::outputs::{Outputs, Refused};
@@ -61,9 +61,9 @@ impl<W: Window, D: Alter> Station<W, D> {
 fn hand_on<O: Outputs>(at: u64, output: Output<'_>, outputs: &mut O) -> Result<(), Refused>
     requires { O.refusals outputs.old < 2 ^ 64 - 1 }
     ensures { MatchResult result
-        (λ _. (O.taken outputs.new ≡ at_place at (bytes_of_out (shown output.entry)) ++ O.taken outputs.old)
+        (λ _. (O.taken outputs.new ≡ at_place at (bytes_of_out (out_shown output.entry)) ++ O.taken outputs.old)
         × (O.refusals outputs.new ≡ O.refusals outputs.old))
-        (λ _. (O.taken outputs.new ≡ O.taken outputs.old) × (bytes_of_out (shown output.entry) ≢ [])
+        (λ _. (O.taken outputs.new ≡ O.taken outputs.old) × (bytes_of_out (out_shown output.entry) ≢ [])
         × (O.refusals outputs.new ≡ O.refusals outputs.old + 1)) }
 {
     match output {

@@ -4,11 +4,11 @@ ghost use Rattle.std.specs.Prelude.{◌≡◌, [], Bool, IfErr, IfOk, List};
 ghost use Rattle.wb_journal.specs.declared.entry.EntryParts.{EntryParts};
 ghost use Rattle.wb_station.specs.Account.{opened, replied};
 ghost use Rattle.wb_station.specs.Happening.{IsTaken, happening, reading as reading_happening};
-ghost use Rattle.wb_station.specs.AfterBorrow.{Leaves};
-ghost use Rattle.wb_station.specs.OutputShows.{shown};
+ghost use Rattle.wb_station.specs.AfterBorrow.{HoldsAfterBorrow};
+ghost use Rattle.wb_station.specs.OutputShows.{out_shown};
 ghost use Rattle.wb_station.specs.helpers.RoomShows.{shown_in};
-ghost use Rattle.wb_station.specs.Stands.{Hears, Stands, Took};
-ghost use Rattle.wb_store.specs.Journal.{Stands as StoreStands};
+ghost use Rattle.wb_station.specs.Stands.{Hears, StationStands, Took};
+ghost use Rattle.wb_store.specs.Journal.{StoreStands};
 ghost use Rattle.wb_store.specs.Rows.{SpentKey};
 ghost use Rattle.wb_window.specs.Reading.{IsReading};
 
@@ -68,7 +68,7 @@ impl<W: Window, D: Alter> Station<W, D> {
         ensures setup { IfOk result (λ s. s.terminal.scale.setup ≡ instrument) }
         ensures stands { IfOk result (λ s. (entries : List EntryParts) (spent : List SpentKey)
             → StoreStands D.Store store entries spent
-            → Stands D.Store (opened entries spent) s.terminal s.office []) }
+            → StationStands D.Store (opened entries spent) s.terminal s.office []) }
         ensures hears { IfOk result (λ s. Hears s.terminal []) }
         ensures store { IfOk result (λ s. s.office ≡ store) }
         ensures hands_back { IfErr result (λ r. (r.window ≡ window) × (r.store ≡ store)) }
@@ -92,8 +92,8 @@ impl<W: Window, D: Alter> Station<W, D> {
     /// Takes an event, and shows what it puts out.
     pub fn turn(&mut self, event: &Event<'_>) -> Output<'_>
         requires { IsTaken event.now }
-        ensures* leaves { sem 𝓛 (Leaves (the_row W.row D.row W.Window D.Store) self.entry (λ new. (unmade : Bool)
-            × Took D.Store (happening unmade event.now) (shown result)
+        ensures* leaves { sem 𝓛 (HoldsAfterBorrow (the_row W.row D.row W.Window D.Store) self.entry (λ new. (unmade : Bool)
+            × Took D.Store (happening unmade event.now) (out_shown result)
             self.old.terminal self.old.office new.terminal new.office)) }
     {
         let room = self.take(event);
@@ -103,7 +103,7 @@ impl<W: Window, D: Alter> Station<W, D> {
     /// Takes a reading, and shows the replies at it, as `turn` does. It has no room for a request, which makes it fast.
     pub fn read(&mut self, reading: Reading) -> &Replies
         requires { IsReading reading }
-        ensures* leaves { sem 𝓛 (Leaves (the_row W.row D.row W.Window D.Store) self.entry (λ new.
+        ensures* leaves { sem 𝓛 (HoldsAfterBorrow (the_row W.row D.row W.Window D.Store) self.entry (λ new.
             Took D.Store (reading_happening reading) (replied result.now.items)
             self.old.terminal self.old.office new.terminal new.office)) }
     {
@@ -159,7 +159,7 @@ impl<W: Window, D: Alter> Station<W, D> {
 
     /// What is in a room.
     pub(crate) fn output(&self, room: Room) -> Output<'_>
-        ensures { shown result ≡ shown_in room self.now.replies.items self.now.response }
+        ensures { out_shown result ≡ shown_in room self.now.replies.items self.now.response }
     {
         match room {
             Room::Replies => Output::Replies(&self.replies),

@@ -3,13 +3,13 @@ use Rattle.std.proofs.Common.{◌≡◌, ◌∙◌, Bool, true, false, ◌||◌,
 use Rattle.std.specs.List.{list_any}
 use Rattle.sqlite.specs.Store.{Ghosts}
 use Rattle.wb_journal.specs.declared.entry.EntryParts.{EntryParts}
-use Rattle.wb_store.specs.Journal.{IsHonest, StoreView, Stands}
+use Rattle.wb_store.specs.Journal.{IsHonest, StoreView, StoreStands}
 use Rattle.wb_store.specs.Keeping.{Closes, Keeps, LeavesOnly}
 use Rattle.wb_store.specs.Rows.{SpentKey}
 
 -- a look-up that was answered leaves the lists
 pub left : {D X : Type 0} (g : Ghosts D) {old new : StoreView D} {x : X} → Keeps g old new (Ok x) → Closes g old new (Ok x)
-    → {es : List EntryParts} {ks : List SpentKey} → Stands g old es ks → IsHonest g new → Stands g new es ks × LeavesOnly g new es ks
+    → {es : List EntryParts} {ks : List SpentKey} → StoreStands g old es ks → IsHonest g new → StoreStands g new es ks × LeavesOnly g new es ks
 left g keeps closes {es} {ks} s h = (keeps.stands es ks s h (closes.closes ∙ s.opened), keeps.leaves es ks s h)
 
 -- where none is found none passes

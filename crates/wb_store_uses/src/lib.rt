@@ -7,7 +7,7 @@
 ghost use Rattle.sqlite.specs.Steps.{over_memory};
 ghost use Rattle.std.specs.Prelude.{◌++◌, [], ◌∷◌, if◌then◌else◌, IfOk, IfSome, List};
 ghost use Rattle.wb_journal.specs.declared.entry.EntryParts.{EntryParts};
-ghost use Rattle.wb_store.specs.Journal.{IsHonest, Stands};
+ghost use Rattle.wb_store.specs.Journal.{IsHonest, StoreStands};
 ghost use Rattle.wb_store.specs.Keeping.{LeavesOnly};
 ghost use Rattle.wb_store.specs.Rows.{SpentKey};
 
@@ -18,7 +18,7 @@ use wb_store::{Store, StoreFault};
 
 /// A store in memory, with nothing in it. None where memory is refused.
 pub fn open_in_memory(alloc: Global) -> Option<Store<MemStore>>
-    ensures stands { IfSome result (λ store. Stands over_memory store [] []) }
+    ensures stands { IfSome result (λ store. StoreStands over_memory store [] []) }
     ensures honest { IfSome result (IsHonest over_memory) }
 {
     match Connection::open_in_memory(alloc) {
@@ -34,9 +34,9 @@ pub fn open_in_memory(alloc: Global) -> Option<Store<MemStore>>
 /// it was added; a crash leaves the entries that stand then.
 pub fn add_if_free<D: Alter>(store: &mut Store<D>, entry: &Entry) -> Result<bool, StoreFault>
     ensures { (entries : List EntryParts) (spent : List SpentKey)
-        → Stands D.Store store.old entries spent → IsHonest D.Store store.new
+        → StoreStands D.Store store.old entries spent → IsHonest D.Store store.new
         → IfOk result (λ is_added.
-        Stands D.Store store.new (if is_added then entries ++ entry.now ∷ [] else entries) spent
+        StoreStands D.Store store.new (if is_added then entries ++ entry.now ∷ [] else entries) spent
         × LeavesOnly D.Store store.new (if is_added then entries ++ entry.now ∷ [] else entries) spent) }
 {
     if store.by_key(entry.key())?.is_some() {

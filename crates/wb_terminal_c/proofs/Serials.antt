@@ -5,7 +5,7 @@ use Rattle.std.specs.List.{before_first, list_all}
 use Rattle.std.specs.Str.{IsUtf8}
 use Rattle.std.proofs.lemmas.Bool.Decides.{nat_tests}
 use Rattle.std.proofs.lemmas.Str.{IsUtf8-from_ascii}
-use Rattle.wb_instrument.specs.Serial.{is_serial, is_serial_byte}
+use Rattle.wb_instrument.specs.Serial.{is_serial_byte, is_serial_text}
 use Rattle.wb_terminal_c.specs.Passed.{serial_passed}
 
 left_of : (a b : Bool) → (a && b) ≡ true → a ≡ true
@@ -28,7 +28,7 @@ are_ascii [] e i = omega arith
 are_ascii (b ∷ t) e nought = is_ascii b (left_of (is_serial_byte b) (list_all is_serial_byte t) e)
 are_ascii (b ∷ t) e (suc i) = are_ascii t (right_of (is_serial_byte b) (list_all is_serial_byte t) e) i
 
-is_serial-IsUtf8 : (t : List ℕ) → is_serial t ≡ true → IsUtf8 t
+is_serial-IsUtf8 : (t : List ℕ) → is_serial_text t ≡ true → IsUtf8 t
 is_serial-IsUtf8 t e =
     IsUtf8-from_ascii t (are_ascii t (right_of (nat_le 1 (length t) && nat_le (length t) 16) (list_all is_serial_byte t) (regrouped (nat_le 1 (length t)) (nat_le (length t) 16) (list_all is_serial_byte t) e)))
 
@@ -39,6 +39,6 @@ not_true false n = refl
 -- what isn't text is no serial
 pub none-passed : (text t : List ℕ) → t ≡ before_first (λ b. b == 0) text → ¬ IsUtf8 t → [] ≡ serial_passed text
 none-passed text t e not =
-    let f : is_serial t ≡ false = not_true (is_serial t) (λ is. not (is_serial-IsUtf8 t is)) in
-    let g : is_serial (before_first (λ b. b == 0) text) ≡ false = rw e at f in
+    let f : is_serial_text t ≡ false = not_true (is_serial_text t) (λ is. not (is_serial-IsUtf8 t is)) in
+    let g : is_serial_text (before_first (λ b. b == 0) text) ≡ false = rw e at f in
     rw g refl

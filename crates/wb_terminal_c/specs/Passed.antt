@@ -1,7 +1,7 @@
 -- The setup that C passed.
 use Rattle.std.specs.List.{before_first}
 use Rattle.std.specs.Prelude.{◌≡◌, ◌≤◌, ℕ, ◌==◌, List, [], if◌then◌else◌}
-use Rattle.wb_instrument.specs.Serial.{is_serial}
+use Rattle.wb_instrument.specs.Serial.{is_serial_text}
 use Rattle.wb_instrument.specs.Setup.{IsFirstFault, IsSetup, Setup}
 use Rattle.wb_instrument.specs.declared.setup.PartFault.{PartFault}
 use Rattle.wb_instrument.specs.declared.setup.PartFault.TheVariants.{Interval, Max, Window, Band, Pace, Wait, Serial, Retention, Capacity}
@@ -9,7 +9,7 @@ use Rattle.wb_terminal_c.specs.declared.setup.Setup.{Setup as Passed}
 
 -- the characters before the first 0, if they are a serial; else none, which is no serial either
 abbrev pub serial_passed : List ℕ → List ℕ
-serial_passed text = let characters = before_first (λ b. b == 0) text in if is_serial characters then characters else []
+serial_passed text = let characters = before_first (λ b. b == 0) text in if is_serial_text characters then characters else []
 
 -- the setup that was passed; the days and the places of a journal are not the terminal's
 abbrev pub setup_passed : Passed → Setup

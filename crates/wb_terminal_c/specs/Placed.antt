@@ -5,7 +5,7 @@ use Rattle.std.specs.Borrow.{full_share}
 use Rattle.std.specs.Ptr.{Ptr, block_ptr, lies_at, null_ptr, room_at}
 use Rattle.wb_instrument.specs.Setup.{Setup}
 use Rattle.wb_sics.specs.declared.reply.Reply.{Reply}
-use Rattle.wb_sics.specs.Event.{Event}
+use Rattle.wb_sics.specs.Event.{TerminalEvent}
 use Rattle.wb_sics.specs.Replies.{replies}
 use Rattle.wb_terminal_c.specs.Heard.{until_reply}
 use Rattle.wb_terminal_c.specs.Keeps.{Keeps}
@@ -28,7 +28,7 @@ abbrev pub room_for_terminal : Ptr → Fml
 room_for_terminal p = room_at the_row p
 
 -- a terminal of this setup that stands after this history lies at the pointer, and is all the caller's
-abbrev pub terminal_at : Setup → List Event → Ptr → Fml
+abbrev pub terminal_at : Setup → List TerminalEvent → Ptr → Fml
 terminal_at s h p = fex Handle (λ x. fsep (lies_at the_row full_share p x) (fex (Keeps x s h) (λ _. ftrue)))
 
 -- the answer to a call: 0, or 10 at null
@@ -51,16 +51,16 @@ abbrev pub opened_at : Setup → ℕ → Ptr → Fml
 opened_at s answer p = opened_or_room (answer == 0) s p
 
 -- the replies at the newest event; none at null
-abbrev pub replies_at : Ptr → Setup → List Event → List Reply
+abbrev pub replies_at : Ptr → Setup → List TerminalEvent → List Reply
 replies_at (block_ptr b o) s h = replies s h
 replies_at null_ptr s h = []
 
 -- how many of these bytes are taken; none at null
-abbrev pub taken_at : Ptr → Setup → List Event → List ℕ → ℕ
+abbrev pub taken_at : Ptr → Setup → List TerminalEvent → List ℕ → ℕ
 taken_at (block_ptr b o) s h bytes = until_reply s h bytes
 taken_at null_ptr s h bytes = 0
 
 -- what is indicated; at null what was there stays
-abbrev pub indication_at : Ptr → Setup → List Event → Indication → Indication
+abbrev pub indication_at : Ptr → Setup → List TerminalEvent → Indication → Indication
 indication_at (block_ptr b o) s h before = indication_after s h
 indication_at null_ptr s h before = before

@@ -4,7 +4,7 @@ use Rattle.wb_instrument.specs.Setup.{Setup}
 use Rattle.wb_scale.specs.Indication.{indicated}
 use Rattle.wb_scale.specs.declared.answers.Indicated.{Indicated}
 use Rattle.wb_scale.specs.declared.answers.Indicated.TheVariants.{NoLoad, Over, Under, Shown}
-use Rattle.wb_sics.specs.Event.{Event}
+use Rattle.wb_sics.specs.Event.{TerminalEvent}
 use Rattle.wb_sics.specs.Replies.{moments_of}
 use Rattle.wb_terminal_c.specs.declared.indication.Indication.{Indication}
 
@@ -18,12 +18,12 @@ state_of true = 4
 state_of false = 3
 
 -- 0 no load, 1 overload, 2 underload; gross and net in kilograms, or 0 if there are none
-abbrev pub shown : Setup → Indicated → Indication
-shown s NoLoad = weights 0 (pos 0) (pos 0)
-shown s Over = weights 1 (pos 0) (pos 0)
-shown s Under = weights 2 (pos 0) (pos 0)
-shown s (Shown gross net stable) = weights (state_of stable) (pos s.interval_kg *ℤ gross) (pos s.interval_kg *ℤ net)
+abbrev pub shown_indication : Setup → Indicated → Indication
+shown_indication s NoLoad = weights 0 (pos 0) (pos 0)
+shown_indication s Over = weights 1 (pos 0) (pos 0)
+shown_indication s Under = weights 2 (pos 0) (pos 0)
+shown_indication s (Shown gross net stable) = weights (state_of stable) (pos s.interval_kg *ℤ gross) (pos s.interval_kg *ℤ net)
 
 -- what is indicated after a history
-abbrev pub indication_after : Setup → List Event → Indication
-indication_after s h = shown s (indicated s (moments_of s h))
+abbrev pub indication_after : Setup → List TerminalEvent → Indication
+indication_after s h = shown_indication s (indicated s (moments_of s h))

@@ -5,9 +5,9 @@ ghost use Rattle.std.specs.Mem.{type_size};
 ghost use Rattle.std.specs.Prelude.{◌≡◌, ◌∷◌, List, length, slice_get, take};
 ghost use Rattle.std.specs.Ptr.{if_non_null};
 ghost use Rattle.wb_instrument.specs.Setup.{Setup as InstrumentSetup};
-ghost use Rattle.wb_sics.specs.Event.{Event, byte as byte_event, hang_up as hang_up_event, reading as reading_event};
+ghost use Rattle.wb_sics.specs.Event.{TerminalEvent, byte as byte_event, hang_up as hang_up_event, reading as reading_event};
 ghost use Rattle.wb_terminal_c.specs.Copied.{copied};
-ghost use Rattle.wb_terminal_c.specs.Heard.{heard};
+ghost use Rattle.wb_terminal_c.specs.Heard.{heard_after};
 ghost use Rattle.wb_terminal_c.specs.Passed.{setup_passed};
 ghost use Rattle.wb_terminal_c.specs.Placed.{IsOpened, answer_at, indication_at, opened_at, replies_at, room_for_terminal, taken_at, terminal_at, type_alignment};
 ghost use Rattle.wb_terminal_c.specs.contracts.handle.Handle.{the_row as handle_row};
@@ -53,7 +53,7 @@ pub extern "C" fn weighbridge_terminal_alignment() -> usize
 /// Takes a reading of the load converter, in tenths of e; any load out of its range is a lost reading. Answers 0, or 10 at null.
 #[unsafe(no_mangle)]
 pub unsafe extern "C" fn weighbridge_terminal_reading(handle: *mut u8, tenths: i64) -> u32
-    ghost g: { InstrumentSetup × List Event }
+    ghost g: { InstrumentSetup × List TerminalEvent }
     requires* { ⌜ Testable handle ⌝ ∗ sem 𝓛 (if_non_null handle (terminal_at g.0 g.1 handle)) }
     ensures* { sem 𝓛 (if_non_null handle (terminal_at g.0 (reading_event (reading_of tenths) ∷ g.1) handle))
         ∗ ⌜ result ≡ answer_at handle ⌝ }
@@ -67,7 +67,7 @@ pub unsafe extern "C" fn weighbridge_terminal_reading(handle: *mut u8, tenths: i
 /// Takes a byte of the stream. Answers 0, or 10 at null.
 #[unsafe(no_mangle)]
 pub unsafe extern "C" fn weighbridge_terminal_byte(handle: *mut u8, byte: u8) -> u32
-    ghost g: { InstrumentSetup × List Event }
+    ghost g: { InstrumentSetup × List TerminalEvent }
     requires* { ⌜ Testable handle ⌝ ∗ sem 𝓛 (if_non_null handle (terminal_at g.0 g.1 handle)) }
     ensures* { sem 𝓛 (if_non_null handle (terminal_at g.0 (byte_event byte ∷ g.1) handle))
         ∗ ⌜ result ≡ answer_at handle ⌝ }
@@ -81,7 +81,7 @@ pub unsafe extern "C" fn weighbridge_terminal_byte(handle: *mut u8, byte: u8) ->
 /// The connection ended. Answers 0, or 10 at null.
 #[unsafe(no_mangle)]
 pub unsafe extern "C" fn weighbridge_terminal_hang_up(handle: *mut u8) -> u32
-    ghost g: { InstrumentSetup × List Event }
+    ghost g: { InstrumentSetup × List TerminalEvent }
     requires* { ⌜ Testable handle ⌝ ∗ sem 𝓛 (if_non_null handle (terminal_at g.0 g.1 handle)) }
     ensures* { sem 𝓛 (if_non_null handle (terminal_at g.0 (hang_up_event ∷ g.1) handle))
         ∗ ⌜ result ≡ answer_at handle ⌝ }
@@ -95,7 +95,7 @@ pub unsafe extern "C" fn weighbridge_terminal_hang_up(handle: *mut u8) -> u32
 /// How many replies there are at the newest event; none at null.
 #[unsafe(no_mangle)]
 pub unsafe extern "C" fn weighbridge_terminal_replies(handle: *mut u8) -> usize
-    ghost g: { InstrumentSetup × List Event }
+    ghost g: { InstrumentSetup × List TerminalEvent }
     requires* { ⌜ Testable handle ⌝ ∗ sem 𝓛 (if_non_null handle (terminal_at g.0 g.1 handle)) }
     ensures* { sem 𝓛 (if_non_null handle (terminal_at g.0 g.1 handle))
         ∗ ⌜ result ≡ length (replies_at handle g.0 g.1) ⌝ }
@@ -110,9 +110,9 @@ pub unsafe extern "C" fn weighbridge_terminal_replies(handle: *mut u8) -> usize
 /// null.
 #[unsafe(no_mangle)]
 pub unsafe extern "C" fn weighbridge_terminal_bytes(handle: *mut u8, bytes: &[u8]) -> usize
-    ghost g: { InstrumentSetup × List Event }
+    ghost g: { InstrumentSetup × List TerminalEvent }
     requires* { ⌜ Testable handle ⌝ ∗ sem 𝓛 (if_non_null handle (terminal_at g.0 g.1 handle)) }
-    ensures* { sem 𝓛 (if_non_null handle (terminal_at g.0 (heard (take result bytes.now) g.1) handle))
+    ensures* { sem 𝓛 (if_non_null handle (terminal_at g.0 (heard_after (take result bytes.now) g.1) handle))
         ∗ ⌜ result ≡ taken_at handle g.0 g.1 bytes.now ⌝ }
 {
     if handle.is_null() {
@@ -129,7 +129,7 @@ pub unsafe extern "C" fn weighbridge_terminal_reply(
     place: usize,
     buffer: &mut [u8],
 ) -> usize
-    ghost g: { InstrumentSetup × List Event }
+    ghost g: { InstrumentSetup × List TerminalEvent }
     requires* { ⌜ Testable handle ⌝ ∗ sem 𝓛 (if_non_null handle (terminal_at g.0 g.1 handle)) }
     ensures* { sem 𝓛 (if_non_null handle (terminal_at g.0 g.1 handle))
         ∗ ⌜ (result ≡ (copied (slice_get (replies_at handle g.0 g.1) place) buffer.old).0)
@@ -147,7 +147,7 @@ pub unsafe extern "C" fn weighbridge_terminal_indicate(
     handle: *mut u8,
     shown: &mut Indication,
 ) -> u32
-    ghost g: { InstrumentSetup × List Event }
+    ghost g: { InstrumentSetup × List TerminalEvent }
     requires* { ⌜ Testable handle ⌝ ∗ sem 𝓛 (if_non_null handle (terminal_at g.0 g.1 handle)) }
     ensures* { sem 𝓛 (if_non_null handle (terminal_at g.0 g.1 handle))
         ∗ ⌜ (result ≡ answer_at handle) × (shown.new ≡ indication_at handle g.0 g.1 shown.old) ⌝ }

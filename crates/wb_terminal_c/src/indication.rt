@@ -1,7 +1,7 @@
 //! What is indicated, as C reads it.
 ghost use Rattle.std.specs.Prelude.{◌≡◌, pos};
-ghost use Rattle.wb_scale.specs.Indication.{IsInRange};
-ghost use Rattle.wb_terminal_c.specs.Shown.{shown, weights};
+ghost use Rattle.wb_scale.specs.Indication.{IsIndicationInRange};
+ghost use Rattle.wb_terminal_c.specs.Shown.{shown_indication, weights};
 
 use wb_instrument::Instrument;
 use wb_scale::Indicated;
@@ -18,8 +18,8 @@ pub struct Indication {
 
 /// What is indicated, with the weights in kilograms.
 pub(crate) fn indication_of(instrument: &Instrument, indicated: Indicated) -> Indication
-    requires { IsInRange instrument.now indicated }
-    ensures { result ≡ shown instrument.now indicated }
+    requires { IsIndicationInRange instrument.now indicated }
+    ensures { result ≡ shown_indication instrument.now indicated }
 {
     match indicated {
         Indicated::NoLoad => without_weights(0),

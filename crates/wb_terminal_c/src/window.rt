@@ -1,6 +1,6 @@
 //! A window in place: making it takes no memory either.
 ghost use Rattle.std.specs.Prelude.{◌≡◌, ◌≤◌, [], length};
-ghost use Rattle.wb_window.specs.Stability.{agree as agree_of};
+ghost use Rattle.wb_window.specs.Stability.{are_near};
 
 use std::marker::Model;
 use wb_window::{Reading, Window};
@@ -78,7 +78,7 @@ impl Window for PlacedWindow {
 
 /// Whether all are loads, and any two of them differ by at most the band.
 fn agree(readings: &[Reading], band: u32) -> bool
-    ensures { result ≡ agree_of band readings.now }
+    ensures { result ≡ are_near band readings.now }
 {
     let mut lowest = i32::MAX;
     let mut highest = i32::MIN;

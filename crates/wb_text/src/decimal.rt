@@ -2,7 +2,7 @@
 ghost use Rattle.std.specs.Char.{is_ascii_digit};
 ghost use Rattle.std.specs.List.{list_all};
 ghost use Rattle.std.specs.Prelude.{◌≡◌, ◌<◌, ◌≤◌, ◌^◌, IfSome, length};
-ghost use Rattle.wb_text.specs.Digits.{are_digits as are_digits_of, digits as digits_of};
+ghost use Rattle.wb_text.specs.Digits.{is_numeral, numeral_value};
 
 use std::str;
 
@@ -11,7 +11,7 @@ const DIGIT_LIMIT: usize = 18;
 
 /// The number that 1 to `most` decimal digits give, never more than 18; none of any other text.
 pub fn digits(text: &[u8], most: usize) -> Option<u64>
-    ensures value { result ≡ digits_of most text.now }
+    ensures value { result ≡ numeral_value most text.now }
     ensures within { IfSome result (λ _. length text.now ≤ most) }
     ensures small { IfSome result (λ n. n < 10 ^ most) }
     ensures signed { IfSome result (λ n. n < 10 ^ 18) }
@@ -26,7 +26,7 @@ pub fn digits(text: &[u8], most: usize) -> Option<u64>
 }
 
 fn are_digits(text: &[u8], most: usize) -> bool
-    ensures { result ≡ are_digits_of most text.now }
+    ensures { result ≡ is_numeral most text.now }
 {
     !text.is_empty() && text.len() <= most && text.len() <= DIGIT_LIMIT && all_digits(text)
 }

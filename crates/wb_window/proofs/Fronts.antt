@@ -7,7 +7,7 @@ use Rattle.wb_window.proofs.Order.{stays_itself, beyond_later, further}
 use Rattle.wb_window.proofs.Spread.{Within, Reached, Spread, agree-lost}
 use Rattle.wb_window.specs.helpers.Candidates.{stays, candidates}
 use Rattle.wb_window.specs.helpers.Queues.{lost_of}
-use Rattle.wb_window.specs.Stability.{agree}
+use Rattle.wb_window.specs.Stability.{are_near}
 use Rattle.wb_window.specs.declared.candidates.Extreme.{Extreme}
 use Rattle.wb_window.specs.declared.candidates.Extreme.TheVariants.{Greatest, Least}
 use Rattle.wb_window.specs.declared.reading.Reading.{Reading}
@@ -97,7 +97,7 @@ none_held [] n k = refl
 none_held (Load load ∷ older) n k = absurd k
 none_held (Lost ∷ older) n k = absurd (omega (arith, n))
 
-pub agree-none : (extreme : Extreme) (band : ℕ) (readings : List Reading) → lost_of readings ≡ 0 → slice_get (candidates extreme readings) 0 ≡ None → agree band readings ≡ true
+pub agree-none : (extreme : Extreme) (band : ℕ) (readings : List Reading) → lost_of readings ≡ 0 → slice_get (candidates extreme readings) 0 ≡ None → are_near band readings ≡ true
 agree-none extreme band readings n e =
     let loads = on (candidates extreme readings) (Fronts-candidates extreme readings) e in
     rw (none_held readings n loads) refl
@@ -111,7 +111,7 @@ lost_place [] l = absurd (omega (arith, l))
 lost_place (Load load ∷ older) l = let place = lost_place older l in (suc place.0, place.1)
 lost_place (Lost ∷ older) l = (0, refl)
 
-pub agree-any_lost : (band : ℕ) (readings : List Reading) → 0 < lost_of readings → agree band readings ≡ false
+pub agree-any_lost : (band : ℕ) (readings : List Reading) → 0 < lost_of readings → are_near band readings ≡ false
 agree-any_lost band readings l = let place = lost_place readings l in agree-lost band readings place.0 place.1
 
 -- between a load and itself there is that load alone

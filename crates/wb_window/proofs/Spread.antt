@@ -9,7 +9,7 @@ use Rattle.std.specs.List.{list_all, slice_get}
 use Rattle.std.specs.Prelude.{int_lt, int_le}
 use Rattle.wb_window.specs.declared.reading.Reading.{Reading}
 use Rattle.wb_window.specs.declared.reading.Reading.TheVariants.{Load, Lost}
-use Rattle.wb_window.specs.Stability.{near, agree}
+use Rattle.wb_window.specs.Stability.{near, are_near}
 
 -- each is a load from lo to hi
 abbrev pub Within : ℤ → ℤ → List Reading → Type 0
@@ -108,10 +108,10 @@ not_all p v (x ∷ xs) r e =
     and_false true = refl
     and_false false = refl
 
-pub agree-within : (band : ℕ) (lo hi : ℤ) (xs : List Reading) → Spread lo hi xs → hi ≤ℤ (lo +ℤ pos band) → agree band xs ≡ true
+pub agree-within : (band : ℕ) (lo hi : ℤ) (xs : List Reading) → Spread lo hi xs → hi ≤ℤ (lo +ℤ pos band) → are_near band xs ≡ true
 agree-within band lo hi xs s d = agree_each band lo hi xs xs d s.within s.within
 
-pub agree-beyond : (band : ℕ) (lo hi : ℤ) (xs : List Reading) → Spread lo hi xs → (lo +ℤ pos band) <ℤ hi → agree band xs ≡ false
+pub agree-beyond : (band : ℕ) (lo hi : ℤ) (xs : List Reading) → Spread lo hi xs → (lo +ℤ pos band) <ℤ hi → are_near band xs ≡ false
 agree-beyond band lo hi xs s d =
     elim s.ends [
       | inl e ↦ absurd (omega (arith, ints, e.1, e.2))
@@ -123,7 +123,7 @@ agree-beyond band lo hi xs s d =
     far : (hi lo : ℤ) (band : ℕ) → (lo +ℤ pos band) <ℤ hi → near band (Load hi) (Load lo) ≡ false
     far hi lo band d = let p : int_le hi (lo +ℤ pos band) ≡ false = grind (arith, ints) in rw p
 
-pub agree-lost : (band : ℕ) (xs : List Reading) (i : ℕ) → slice_get xs i ≡ Some Lost → agree band xs ≡ false
+pub agree-lost : (band : ℕ) (xs : List Reading) (i : ℕ) → slice_get xs i ≡ Some Lost → are_near band xs ≡ false
 agree-lost band xs i e =
     let l : i < length xs = slice_get_within xs i Lost e in
     let g : get_or xs i Lost ≡ Lost = get_or_from_slice_get xs i Lost Lost e in
@@ -137,7 +137,7 @@ take_next xs i x e =
     rw (take_more xs i x l, get_or_from_slice_get xs i x x e)
 
 -- the test of the greatest less the least answers
-pub spread_answer : (band : ℕ) (lo hi : ℤ) (xs : List Reading) (d b : ℤ) → Spread lo hi xs → d ≡ hi -ℤ lo → b ≡ pos band → int_le d b ≡ agree band xs
+pub spread_answer : (band : ℕ) (lo hi : ℤ) (xs : List Reading) (d b : ℤ) → Spread lo hi xs → d ≡ hi -ℤ lo → b ≡ pos band → int_le d b ≡ are_near band xs
 spread_answer band lo hi xs d b s e k =
     by_lt_z (lo +ℤ pos band) hi
     (λ beyond. let f : int_le d b ≡ false = grind (arith, ints) in f ∙ sym (agree-beyond band lo hi xs s beyond))

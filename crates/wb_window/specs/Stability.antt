@@ -11,9 +11,9 @@ near band (Load a) Lost = false
 near band Lost b = false
 
 -- each is a load, and any two of them differ by at most the band
-abbrev pub agree : ℕ → List Reading → Bool
-agree band readings = list_all (λ a. list_all (near band a) readings) readings
+abbrev pub are_near : ℕ → List Reading → Bool
+are_near band readings = list_all (λ a. list_all (near band a) readings) readings
 
 -- of readings, the newest first: there are n at least, and the last n agree
 abbrev pub is_stable : ℕ → ℕ → List Reading → Bool
-is_stable n band readings = nat_le n (length readings) && agree band (take n readings)
+is_stable n band readings = nat_le n (length readings) && are_near band (take n readings)

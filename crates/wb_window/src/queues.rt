@@ -1,6 +1,6 @@
 //! Whether readings agree, told by the greatest of them, the least, and how many are lost.
 ghost use Rattle.std.specs.Prelude.{◌≡◌, ℕ, ◌<◌, ◌∷◌, ◌++◌, [], List, IfOk, length, replicate, true};
-ghost use Rattle.wb_window.specs.Stability.{agree as agree_of};
+ghost use Rattle.wb_window.specs.Stability.{are_near};
 
 use crate::Reading;
 use crate::candidates::{Candidates, Extreme};
@@ -77,7 +77,7 @@ impl Queues {
     /// Whether all readings are loads, and any two of them differ by at most the band.
     pub(crate) fn agree(&self, band: u32) -> bool
         ensures { (size : ℕ) (readings : List Reading) → self.now ≡ queues_of size readings
-            → result ≡ agree_of band readings }
+            → result ≡ are_near band readings }
     {
         if self.lost > 0 {
             return false;

@@ -1,6 +1,6 @@
 //! A window in a ring, plain and short; the program uses the one with two queues.
 ghost use Rattle.std.specs.Prelude.{◌≡◌, IfOk, []};
-ghost use Rattle.wb_window.specs.Stability.{agree as agree_of};
+ghost use Rattle.wb_window.specs.Stability.{are_near};
 
 use crate::{Reading, Window};
 use circular_buffer::HeapCircularBuffer;
@@ -59,7 +59,7 @@ impl Window for RingWindow {
 
 /// Whether all are loads, and any two differ by at most the band.
 fn agree(ring: &HeapCircularBuffer<Reading>, band: u32) -> bool
-    ensures { result ≡ agree_of band ring.now.items }
+    ensures { result ≡ are_near band ring.now.items }
 {
     let mut lowest = i32::MAX;
     let mut highest = i32::MIN;

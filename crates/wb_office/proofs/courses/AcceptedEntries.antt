@@ -1,6 +1,6 @@
 -- What an accepted weighing or void was judged on, and what a request makes of the lists.
 use Rattle.std.proofs.Common.{◌≡◌, ◌∙◌, sym, ap, subst, ℕ, ◌+◌, ◌<◌, Bool, true, false, ◌&&◌, ◌||◌, if◌then◌else◌, List, [], ◌∷◌, ◌++◌, take, Option, Some, None, refl, arith, true≢false}
-use Rattle.wb_office.proofs.Common.{nat_tests, list_any, EntryParts, Finding, Sound, FoundDamaged, Kind, First, Second, Single, Void, check, is_closing, by_key, next_number, Refusal, Request, Weigh, VoidOpen, Purge, Outcome, adds, answer, answer_of, asking, nothing, outcome, outcome_of, purges, unless_damaged, Asking, Situation, gone, is_damaged, is_other, journal_full, places, places_of, added, added_by, answered_with, entry_of, Condition, Verdict, accepted, first_refusal, new_entry, of_new, on, on_new, refused, repeated, verdict}
+use Rattle.wb_office.proofs.Common.{nat_tests, list_any, EntryParts, Finding, Sound, FoundDamaged, Kind, First, Second, Single, Void, finding_in, is_closing_kind, entry_by_key, number_after, Refusal, Request, Weigh, VoidOpen, Purge, Outcome, adds, answer, answer_by_verdict, asking, nothing, outcome, outcome_of, purges, unless_damaged, Asking, Situation, key_gone, is_damaged, is_other, journal_full, places, places_needed, added, added_by, answered_with, entry_of, Condition, Verdict, accepted, first_refusal, entry_added, of_new, on, on_new, refused, repeated, verdict}
 use Rattle.std.specs.Prelude.{nat_lt}
 use Rattle.wb_office.specs.declared.refusal.Refusal.TheVariants as refusal
 use Rattle.wb_office.proofs.FoundEntries.{is_some_same, none_some}
@@ -10,10 +10,10 @@ use Rattle.wb_office.proofs.Verdicts.{by_damage, by_newness, by_other, by_repeti
 
 -- an entry is accepted under a new key, on which no condition holds
 pub record IsNew (a : Asking) (e : EntryParts) : Type 0 where
-  pub free : by_key a.now.entries a.key ≡ None
-  pub unspent : gone a ≡ false
+  pub free : entry_by_key a.now.entries a.key ≡ None
+  pub unspent : key_gone a ≡ false
   pub judged : first_refusal of_new a ≡ None
-  pub made : e ≡ new_entry a
+  pub made : e ≡ entry_added a
 
 pub and_true : (a b : Bool) → a ≡ true → (a && b) ≡ false → b ≡ false
 and_true true b h k = k
@@ -35,24 +35,24 @@ is_full _ = false
 -- how a request is judged: refused by its key, repeated, or judged anew
 data Judged (a : Asking) : Type 0 where
   by_its_key : (why : Refusal) → is_full why ≡ false → verdict a ≡ refused why → Judged a
-  as_repeated : (e : EntryParts) → by_key a.now.entries a.key ≡ Some e → is_other a e ≡ false → is_damaged a.now.entries e ≡ false → verdict a ≡ repeated e → Judged a
-  anew : by_key a.now.entries a.key ≡ None → gone a ≡ false → verdict a ≡ on_new a (first_refusal of_new a) → Judged a
+  as_repeated : (e : EntryParts) → entry_by_key a.now.entries a.key ≡ Some e → is_other a e ≡ false → is_damaged a.now.entries e ≡ false → verdict a ≡ repeated e → Judged a
+  anew : entry_by_key a.now.entries a.key ≡ None → key_gone a ≡ false → verdict a ≡ on_new a (first_refusal of_new a) → Judged a
 
 -- a key that is stored and was spent is refused all the same
-by_both : (a : Asking) (e : EntryParts) → by_key a.now.entries a.key ≡ Some e → is_other a e ≡ false → gone a ≡ true → verdict a ≡ refused refusal.Gone
+by_both : (a : Asking) (e : EntryParts) → entry_by_key a.now.entries a.key ≡ Some e → is_other a e ≡ false → key_gone a ≡ true → verdict a ≡ refused refusal.Gone
 unfolding verdict
 by_both a e found other spent = rw (found, other, spent) refl
 
 how_judged : (a : Asking) → Judged a
-how_judged a = go (by_key a.now.entries a.key) refl (gone a) refl
+how_judged a = go (entry_by_key a.now.entries a.key) refl (key_gone a) refl
   where
-    stored : (e : EntryParts) → by_key a.now.entries a.key ≡ Some e → (b c d : Bool) → is_other a e ≡ b → gone a ≡ c → is_damaged a.now.entries e ≡ d → Judged a
+    stored : (e : EntryParts) → entry_by_key a.now.entries a.key ≡ Some e → (b c d : Bool) → is_other a e ≡ b → key_gone a ≡ c → is_damaged a.now.entries e ≡ d → Judged a
     stored e found true c d o g m = by_its_key refusal.KeyReused refl (by_other a e found o)
     stored e found false true d o g m = by_its_key refusal.Gone refl (by_both a e found o g)
     stored e found false false true o g m = by_its_key refusal.Damaged refl (by_damage a e found o g m)
     stored e found false false false o g m = as_repeated e found o m (by_repetition a e found o g m)
 
-    go : (o : Option EntryParts) → by_key a.now.entries a.key ≡ o → (c : Bool) → gone a ≡ c → Judged a
+    go : (o : Option EntryParts) → entry_by_key a.now.entries a.key ≡ o → (c : Bool) → key_gone a ≡ c → Judged a
     go (Some e) found c g = stored e found (is_other a e) c (is_damaged a.now.entries e) refl g refl
     go None none true g = by_its_key refusal.Gone refl (by_spent a none g)
     go None none false g = anew none g (by_newness a none g)
@@ -69,7 +69,7 @@ refused_repetition e why same = absurd (cc)
 pub is_new : (a : Asking) (e : EntryParts) → verdict a ≡ accepted e → IsNew a e
 is_new a e is = go (how_judged a)
   where
-    by_conditions : by_key a.now.entries a.key ≡ None → gone a ≡ false → (r : Option Refusal) → first_refusal of_new a ≡ r → accepted e ≡ on_new a r → IsNew a e
+    by_conditions : entry_by_key a.now.entries a.key ≡ None → key_gone a ≡ false → (r : Option Refusal) → first_refusal of_new a ≡ r → accepted e ≡ on_new a r → IsNew a e
     by_conditions none free (Some why) holds made = no_refusal e why made
     by_conditions none free None holds made = record { free = none; unspent = free; judged = holds; made = ap (the_entry e) made }
 
@@ -80,7 +80,7 @@ is_new a e is = go (how_judged a)
 
 -- an entry is repeated under its key, of its kind and plate
 pub record IsRepeated (a : Asking) (e : EntryParts) : Type 0 where
-  pub found : by_key a.now.entries a.key ≡ Some e
+  pub found : entry_by_key a.now.entries a.key ≡ Some e
   pub same : is_other a e ≡ false
   pub whole : is_damaged a.now.entries e ≡ false
 
@@ -89,7 +89,7 @@ is_repeated a e is = go (how_judged a)
   where
     by_conditions : {C : Type 0} (r : Option Refusal) → repeated e ≡ on_new a r → C
     by_conditions (Some why) made = refused_repetition e why made
-    by_conditions None made = no_repetition (new_entry a) e (sym made)
+    by_conditions None made = no_repetition (entry_added a) e (sym made)
 
     go : Judged a → IsRepeated a e
     go (by_its_key why other v) = refused_repetition e why (sym is ∙ v)
@@ -103,7 +103,7 @@ pub record IsAsked (request : Request) : Type 0 where
   pub key : List ℕ
   pub kind : Kind
   pub plate : List ℕ
-  pub answers : (w : Situation) (b : ℕ) → answer w b request ≡ answer_of w.entries (verdict (asking w key kind plate))
+  pub answers : (w : Situation) (b : ℕ) → answer w b request ≡ answer_by_verdict w.entries (verdict (asking w key kind plate))
   pub outcomes : (w : Situation) (b : ℕ) → outcome w b request ≡ outcome_of (verdict (asking w key kind plate))
 
 abbrev pub asking_for : {request : Request} → IsAsked request → Situation → Asking
@@ -119,7 +119,7 @@ by_void key plate = record { key = key; kind = Void; plate = plate; answers = λ
 pub data Comes (w : Situation) (b : ℕ) (request : Request) : Outcome → Type 0 where
   stays : added w request ≡ None → Comes w b request nothing
   adding : (asked : IsAsked request) (e : EntryParts) → verdict (asking_for asked w) ≡ accepted e → added w request ≡ Some e → Comes w b request (adds e)
-  purging : request ≡ Purge → (count : ℕ) → check w.entries ≡ Sound count → added w request ≡ None → Comes w b request (purges b)
+  purging : request ≡ Purge → (count : ℕ) → finding_in w.entries ≡ Sound count → added w request ≡ None → Comes w b request (purges b)
 
 by_verdict : (w : Situation) (b : ℕ) (request : Request) (asked : IsAsked request) → Comes w b request (outcome_of (verdict (asking_for asked w)))
 by_verdict w b request asked = go (verdict (asking_for asked w)) refl
@@ -135,9 +135,9 @@ by_verdict w b request asked = go (verdict (asking_for asked w)) refl
 pub comes : (w : Situation) (b : ℕ) (request : Request) → Comes w b request (outcome w b request)
 comes w b (Weigh key kind plate) = by_verdict w b (Weigh key kind plate) (by_weighing key kind plate)
 comes w b (VoidOpen key plate) = by_verdict w b (VoidOpen key plate) (by_void key plate)
-comes w b Purge = go (check w.entries) refl
+comes w b Purge = go (finding_in w.entries) refl
   where
-    go : (f : Finding) → check w.entries ≡ f → Comes w b Purge (unless_damaged f b)
+    go : (f : Finding) → finding_in w.entries ≡ f → Comes w b Purge (unless_damaged f b)
     go (Sound count) is = purging refl count is (ap (λ f. added_by (unless_damaged f 0)) is)
     go (FoundDamaged number) is = stays (ap (λ f. added_by (unless_damaged f 0)) is)
 comes w b _ = stays refl
@@ -175,7 +175,7 @@ full_is_new a is = go (how_judged a)
   where
     by_conditions : (r : Option Refusal) → on_new a r ≡ refused refusal.JournalFull → r ≡ Some refusal.JournalFull
     by_conditions (Some why) same = ap Some (ap the_refusal same)
-    by_conditions None same = no_refusal (new_entry a) refusal.JournalFull same
+    by_conditions None same = no_refusal (entry_added a) refusal.JournalFull same
 
     go : Judged a → first_refusal of_new a ≡ Some refusal.JournalFull
     go (by_its_key why other v) = absurd (true≢false (sym (ap is_full (ap the_refusal (sym v ∙ is))) ∙ other))
@@ -197,14 +197,14 @@ last_holds (x ∷ xs) last a others some = go (x.holds a) (is_full x.refusal) re
     go true false f n s more = absurd (true≢false (sym (ap is_full (is_some_same s)) ∙ f))
     go false false f n s more = more n s
 
-last_given : (k : Kind) (capacity taken next : ℕ) → is_closing k ≡ true → (nat_lt 0 (places_of k) && nat_lt capacity (taken + places_of k)) || nat_lt 4294967295 next ≡ true → 4294967295 < next
+last_given : (k : Kind) (capacity taken next : ℕ) → is_closing_kind k ≡ true → (nat_lt 0 (places_needed k) && nat_lt capacity (taken + places_needed k)) || nat_lt 4294967295 next ≡ true → 4294967295 < next
 last_given First capacity taken next closing full = absurd (cc)
 last_given Second capacity taken next closing full = grind (arith, nat_tests)
 last_given Single capacity taken next closing full = absurd (cc)
 last_given Void capacity taken next closing full = grind (arith, nat_tests)
 
 -- a closing entry is refused for a full journal once the last number was given
-pub full_for_closing : (a : Asking) → is_closing a.kind ≡ true → verdict a ≡ refused refusal.JournalFull → 4294967295 < next_number a.now.entries a.now.spent
+pub full_for_closing : (a : Asking) → is_closing_kind a.kind ≡ true → verdict a ≡ refused refusal.JournalFull → 4294967295 < number_after a.now.entries a.now.spent
 full_for_closing a closing is =
-    last_given a.kind a.now.setup.capacity (places a.now.entries) (next_number a.now.entries a.now.spent) closing
+    last_given a.kind a.now.setup.capacity (places a.now.entries) (number_after a.now.entries a.now.spent) closing
     (last_holds (take 12 of_new) (on journal_full refusal.JournalFull) a refl (full_is_new a is))

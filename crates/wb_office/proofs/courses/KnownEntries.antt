@@ -1,6 +1,6 @@
 -- An entry that was stored once, after whatever was asked: it is stored still, or was purged.
 use Rattle.std.proofs.Common.{◌≡◌, ◌∙◌, sym, ap, subst, ℕ, ◌+◌, ◌<◌, ◌≤◌, ◌==◌, max, ◌⊎◌, Bool, true, false, inl, inr, not, ◌&&◌, ◌||◌, nat_le, if◌then◌else◌, List, [], ◌∷◌, ◌++◌, map, Option, Some, None, refl, arith, true≢false}
-use Rattle.wb_office.proofs.Common.{nat_tests, clamps, find-append, list_any-append, bytes_eq-Decides, list_any, is_none, bytes_eq, EntryParts, is_closing, day_of, open_of, partner, kept, IsRising, Among, law_of_closing, AreLists, HaveOwnKeys, by_key, greatest, greatest_spent, has_key, is_spent, next_number, SpentKey, left_rises, next_stays, Request, IsBoundAt, Outcome, outcome_of, below, entries_after, entries_left, spent_after, spent_by, spent_left, Asking, Situation, AreBounds, Journal, Turn, added, additions, after, left, situation, with_one, accepted, of_new, verdict, HasBound}
+use Rattle.wb_office.proofs.Common.{nat_tests, clamps, find-append, list_any-append, bytes_eq-Decides, list_any, is_none, bytes_eq, EntryParts, is_closing_kind, day_of, open_entry, partner_in, kept, IsRising, Among, law_of_closing, AreLists, HaveOwnKeys, entry_by_key, greatest, greatest_spent, has_key, is_spent, number_after, SpentKey, left_rises, next_stays, Request, IsBoundAt, Outcome, outcome_of, below, entries_after, entries_left, spent_by_outcome, spent_by, spent_left, Asking, Situation, AreBounds, Journal, RequestTurn, added, additions, after, left, situation_of_turn, with_one, accepted, of_new, verdict, HasBound}
 use Rattle.wb_office.proofs.ConditionsInOrder.{none_holds}
 use Rattle.wb_office.proofs.FoundEntries.{find_any, find_none, found_unspent, is_some_same}
 use Rattle.wb_office.proofs.courses.AcceptedEntries.{Comes, IsNew, adding, and_true, asking_for, comes, is_added, is_new, purging, stays}
@@ -9,8 +9,8 @@ use Rattle.wb_office.proofs.courses.Places.{above_greatest, rises}
 use Rattle.wb_office.proofs.courses.StoredEntries.{IsPast, IsStored, is_twin, past_kept, past_more, past_stays, stored_kept, stored_more}
 
 -- what holds of a journal, and of what a request leaves if it holds before it, holds after every course
-pub kept_after : (P : Journal → Type 0) → ((j : Journal) (t : Turn) → HasBound t.request (situation j t) t.bound → P j → P (left j t))
-    → (j : Journal) → P j → (ts : List Turn) → AreBounds j ts → P (after j ts)
+pub kept_after : (P : Journal → Type 0) → ((j : Journal) (t : RequestTurn) → HasBound t.request (situation_of_turn j t) t.bound → P j → P (left j t))
+    → (j : Journal) → P j → (ts : List RequestTurn) → AreBounds j ts → P (after j ts)
 kept_after P keeps j holds [] bounds = holds
 kept_after P keeps j holds (t ∷ ts) bounds = go t.is_made (kept_after P keeps j holds ts bounds.1)
   where
@@ -21,7 +21,7 @@ kept_after P keeps j holds (t ∷ ts) bounds = go t.is_made (kept_after P keeps 
 -- an entry is stored or was purged
 pub record IsKnown (es : List EntryParts) (ks : List SpentKey) (e : EntryParts) (p : Option EntryParts) : Type 0 where
   pub rising : IsRising es
-  pub below_next : e.number < next_number es ks
+  pub below_next : e.number < number_after es ks
   pub state : IsStored es ks e p ⊎ IsPast es ks e
 
 -- ---- after one request
@@ -37,7 +37,7 @@ other_added a e f p is state = go (bytes_eq f.key e.key) refl state
     asked : f.key ≡ a.key
     asked = rw new.made refl
 
-    none : f.key ≡ e.key → by_key a.now.entries e.key ≡ None
+    none : f.key ≡ e.key → entry_by_key a.now.entries e.key ≡ None
     none same = let same' : a.key ≡ e.key = sym asked ∙ same in rw (sym same') new.free
 
     unspent : f.key ≡ e.key → is_spent a.now.spent e.key ≡ false
@@ -77,7 +77,7 @@ known_kept w b e p bound known = record {
     go : IsStored w.entries w.spent e p ⊎ IsPast w.entries w.spent e → (c : Bool) → nat_le b e.number ≡ c
         → IsStored (kept b w.entries) (w.spent ++ map spent_by (below b w.entries)) e p ⊎ IsPast (kept b w.entries) (w.spent ++ map spent_by (below b w.entries)) e
     go (inl stored) true t =
-        inl (stored_kept w.entries w.spent e p (next_number w.entries w.spent) (day_of w.at) w.setup.retention_days b known.rising bound stored (grind (arith, nat_tests)))
+        inl (stored_kept w.entries w.spent e p (number_after w.entries w.spent) (day_of w.at) w.setup.retention_days b known.rising bound stored (grind (arith, nat_tests)))
     go (inl stored) false t = inr (past_kept w.entries w.spent e p b stored (grind (arith, nat_tests)))
     go (inr past) c t = inr (past_stays w.entries w.spent (map spent_by (below b w.entries)) e b past)
 
@@ -86,14 +86,14 @@ pub known_left : (w : Situation) (b : ℕ) (request : Request) (e : EntryParts) 
     → IsKnown (entries_left w b request) (spent_left w b request) e p
 known_left w b request e p bound known = go (comes w b request)
   where
-    go : {o : Outcome} → Comes w b request o → IsKnown (entries_after o w.entries) (spent_after o w.entries w.spent) e p
+    go : {o : Outcome} → Comes w b request o → IsKnown (entries_after o w.entries) (spent_by_outcome o w.entries w.spent) e p
     go (stays none) = known
     go (adding asked f is one) = known_more (asking_for asked w) e f p is known
     go (purging ask count sound none) = known_kept w b e p (subst (λ r. HasBound r w b) ask bound) known
 
-pub known_after : (j : Journal) (e : EntryParts) (p : Option EntryParts) → IsKnown j.entries j.spent e p → (ts : List Turn) → AreBounds j ts → IsKnown (after j ts).entries (after j ts).spent e p
+pub known_after : (j : Journal) (e : EntryParts) (p : Option EntryParts) → IsKnown j.entries j.spent e p → (ts : List RequestTurn) → AreBounds j ts → IsKnown (after j ts).entries (after j ts).spent e p
 known_after j e p known ts bounds =
-    kept_after (λ i. IsKnown i.entries i.spent e p) (λ i t bound k. known_left (situation i t) t.bound t.request e p bound k) j known ts bounds
+    kept_after (λ i. IsKnown i.entries i.spent e p) (λ i t bound k. known_left (situation_of_turn i t) t.bound t.request e p bound k) j known ts bounds
 
 -- ---- where it begins
 
@@ -107,13 +107,13 @@ no_twin (x ∷ xs) e none = go (bytes_eq x.key e.key) refl none (λ n. no_twin x
     go false t n rest = rw t (rest n)
 
 -- an entry that is accepted is known from then on
-pub begins : (a : Asking) (e : EntryParts) → verdict a ≡ accepted e → IsRising a.now.entries → IsKnown (a.now.entries ++ e ∷ []) a.now.spent e (partner (a.now.entries ++ e ∷ []) e)
+pub begins : (a : Asking) (e : EntryParts) → verdict a ≡ accepted e → IsRising a.now.entries → IsKnown (a.now.entries ++ e ∷ []) a.now.spent e (partner_in (a.now.entries ++ e ∷ []) e)
 begins a e is rising =
     let new = is_new a e is in
     let number = number_is_next a e is in
     let next = next_more a.now e number in
     let key : a.key ≡ e.key = rw new.made refl in
-    let free : by_key a.now.entries e.key ≡ None = rw (sym key) new.free in
+    let free : entry_by_key a.now.entries e.key ≡ None = rw (sym key) new.free in
     let none = find_none (has_key e.key) a.now.entries free in
     record {
       rising = rises a.now.entries e rising (above_greatest a.now.entries (greatest_spent a.now.spent) e.number number);
@@ -135,7 +135,7 @@ at_most_greatest (x ∷ xs) e (inl same) = let number : e.number ≡ x.number = 
 at_most_greatest (x ∷ xs) e (inr m) = let below = at_most_greatest xs e m in omega (arith, clamps, below)
 
 -- an entry of the lists is that of its key, alone
-by_its_key : (es : List EntryParts) (e : EntryParts) → HaveOwnKeys es → Among e es → by_key es e.key ≡ Some e
+by_its_key : (es : List EntryParts) (e : EntryParts) → HaveOwnKeys es → Among e es → entry_by_key es e.key ≡ Some e
 by_its_key [] e own m = absurd m
 by_its_key (x ∷ xs) e own (inl same) = rw same (rw ((bytes_eq-Decides x.key x.key).1 refl) refl)
 by_its_key (x ∷ xs) e own (inr m) = go (bytes_eq x.key e.key) refl (by_its_key xs e own.1 m)
@@ -143,11 +143,11 @@ by_its_key (x ∷ xs) e own (inr m) = go (bytes_eq x.key e.key) refl (by_its_key
     none : bytes_eq x.key e.key ≡ true → list_any (has_key e.key) xs ≡ false
     none t = subst (λ key. list_any (has_key key) xs ≡ false) ((bytes_eq-Decides x.key e.key).0 t) own.0
 
-    go : (c : Bool) → bytes_eq x.key e.key ≡ c → by_key xs e.key ≡ Some e → (if c then Some x else by_key xs e.key) ≡ Some e
+    go : (c : Bool) → bytes_eq x.key e.key ≡ c → entry_by_key xs e.key ≡ Some e → (if c then Some x else entry_by_key xs e.key) ≡ Some e
     go true t rest = absurd (true≢false (sym (find_any (has_key e.key) xs e rest) ∙ none t))
     go false t rest = rest
 
-own_twin : (es : List EntryParts) (e : EntryParts) → HaveOwnKeys es → by_key es e.key ≡ Some e → list_any (is_twin e) es ≡ false
+own_twin : (es : List EntryParts) (e : EntryParts) → HaveOwnKeys es → entry_by_key es e.key ≡ Some e → list_any (is_twin e) es ≡ false
 own_twin [] e own found = refl
 own_twin (x ∷ xs) e own found = go (bytes_eq x.key e.key) refl found (λ f. own_twin xs e own.1 f)
   where
@@ -157,13 +157,13 @@ own_twin (x ∷ xs) e own found = go (bytes_eq x.key e.key) refl found (λ f. ow
     none : bytes_eq x.key e.key ≡ true → list_any (has_key e.key) xs ≡ false
     none t = subst (λ key. list_any (has_key key) xs ≡ false) ((bytes_eq-Decides x.key e.key).0 t) own.0
 
-    go : (c : Bool) → bytes_eq x.key e.key ≡ c → (if c then Some x else by_key xs e.key) ≡ Some e → (by_key xs e.key ≡ Some e → list_any (is_twin e) xs ≡ false)
+    go : (c : Bool) → bytes_eq x.key e.key ≡ c → (if c then Some x else entry_by_key xs e.key) ≡ Some e → (entry_by_key xs e.key ≡ Some e → list_any (is_twin e) xs ≡ false)
         → ((c && not (x.number == e.number)) || list_any (is_twin e) xs) ≡ false
     go true t f rest = rw (itself (is_some_same f)) (no_twin xs e (none t))
     go false t f rest = rest f
 
 -- an entry that stands at the opening is known from then on
-pub stood : (es : List EntryParts) (ks : List SpentKey) (e : EntryParts) → AreLists es ks → Among e es → IsKnown es ks e (partner es e)
+pub stood : (es : List EntryParts) (ks : List SpentKey) (e : EntryParts) → AreLists es ks → Among e es → IsKnown es ks e (partner_in es e)
 stood es ks e lists m =
     let found = by_its_key es e lists.keys m in
     let low = at_most_greatest es e m in
@@ -192,51 +192,51 @@ rising_left w b request rising = go (comes w b request)
     go (purging ask count sound none) = left_rises (λ x. nat_le b x.number) w.entries rising
 
 -- the entries after every course are by number
-pub rising_after : (j : Journal) → IsRising j.entries → (ts : List Turn) → AreBounds j ts → IsRising (after j ts).entries
-rising_after j rising ts bounds = kept_after (λ i. IsRising i.entries) (λ i t bound r. rising_left (situation i t) t.bound t.request r) j rising ts bounds
+pub rising_after : (j : Journal) → IsRising j.entries → (ts : List RequestTurn) → AreBounds j ts → IsRising (after j ts).entries
+rising_after j rising ts bounds = kept_after (λ i. IsRising i.entries) (λ i t bound r. rising_left (situation_of_turn i t) t.bound t.request r) j rising ts bounds
 
 -- an entry that was added is known, with the partner that it had then: a Second or Void had one
 pub record IsLasting (j : Journal) (e : EntryParts) : Type 0 where
   pub first : Option EntryParts
   pub known : IsKnown j.entries j.spent e first
-  pub closes : is_closing e.kind ≡ true → is_none first ≡ false
+  pub closes : is_closing_kind e.kind ≡ true → is_none first ≡ false
 
 -- a plate has an open weighing when a Second or Void of it is accepted
-pub has_open : (a : Asking) (e : EntryParts) → verdict a ≡ accepted e → is_closing e.kind ≡ true → is_none (open_of a.now.entries e.plate) ≡ false
+pub has_open : (a : Asking) (e : EntryParts) → verdict a ≡ accepted e → is_closing_kind e.kind ≡ true → is_none (open_entry a.now.entries e.plate) ≡ false
 has_open a e is closing =
     let new = is_new a e is in
     let kind : a.kind ≡ e.kind = rw new.made refl in
     let plate : a.plate ≡ e.plate = rw new.made refl in
     let free = none_holds of_new a new.judged in
     let late = free.1.1.1.1.1.1.1.1.1 in
-    and_true (is_closing e.kind) (is_none (open_of a.now.entries e.plate)) closing (rw (kind, plate) at late.1.0)
+    and_true (is_closing_kind e.kind) (is_none (open_entry a.now.entries e.plate)) closing (rw (kind, plate) at late.1.0)
 
-adds_lasting : (j : Journal) (t : Turn) (e : EntryParts) → IsRising j.entries → added (situation j t) t.request ≡ Some e → IsLasting (left j t) e
+adds_lasting : (j : Journal) (t : RequestTurn) (e : EntryParts) → IsRising j.entries → added (situation_of_turn j t) t.request ≡ Some e → IsLasting (left j t) e
 adds_lasting j t e rising some =
-    let one = is_added (situation j t) t.request e some in
-    let is = one.asked.outcomes (situation j t) t.bound ∙ ap outcome_of one.is in
-    let a : Asking = asking_for one.asked (situation j t) in
+    let one = is_added (situation_of_turn j t) t.request e some in
+    let is = one.asked.outcomes (situation_of_turn j t) t.bound ∙ ap outcome_of one.is in
+    let a : Asking = asking_for one.asked (situation_of_turn j t) in
     let known = begins a e one.is rising in
     record {
-      first = partner (j.entries ++ e ∷ []) e;
-      known = subst (λ o. IsKnown (entries_after o j.entries) (spent_after o j.entries j.spent) e (partner (j.entries ++ e ∷ []) e)) (sym is) known;
+      first = partner_in (j.entries ++ e ∷ []) e;
+      known = subst (λ o. IsKnown (entries_after o j.entries) (spent_by_outcome o j.entries j.spent) e (partner_in (j.entries ++ e ∷ []) e)) (sym is) known;
       closes = λ closing. rw (law_of_closing j.entries e known.rising closing) (has_open a e one.is closing);
     }
 
-lasts : (j : Journal) (t : Turn) (e : EntryParts) → HasBound t.request (situation j t) t.bound → IsLasting j e → IsLasting (left j t) e
-lasts j t e bound last = record { first = last.first; known = known_left (situation j t) t.bound t.request e last.first bound last.known; closes = last.closes }
+lasts : (j : Journal) (t : RequestTurn) (e : EntryParts) → HasBound t.request (situation_of_turn j t) t.bound → IsLasting j e → IsLasting (left j t) e
+lasts j t e bound last = record { first = last.first; known = known_left (situation_of_turn j t) t.bound t.request e last.first bound last.known; closes = last.closes }
 
-pub added_lasts : (j : Journal) (ts : List Turn) (e : EntryParts) → IsRising j.entries → AreBounds j ts → Among e (additions j ts) → IsLasting (after j ts) e
+pub added_lasts : (j : Journal) (ts : List RequestTurn) (e : EntryParts) → IsRising j.entries → AreBounds j ts → Among e (additions j ts) → IsLasting (after j ts) e
 added_lasts j [] e rising bounds m = absurd m
 added_lasts j (t ∷ ts) e rising bounds m = go t.is_made m (λ n. added_lasts j ts e rising bounds.1 n)
   where
-    by_turn : (o : Option EntryParts) → added (situation (after j ts) t) t.request ≡ o → Among e (with_one o (additions j ts)) → (Among e (additions j ts) → IsLasting (after j ts) e)
+    by_turn : (o : Option EntryParts) → added (situation_of_turn (after j ts) t) t.request ≡ o → Among e (with_one o (additions j ts)) → (Among e (additions j ts) → IsLasting (after j ts) e)
         → IsLasting (left (after j ts) t) e
     by_turn None is n rest = lasts (after j ts) t e bounds.0 (rest n)
     by_turn (Some f) is (inl same) rest = adds_lasting (after j ts) t e (rising_after j rising ts bounds.1) (is ∙ ap Some (sym same))
     by_turn (Some f) is (inr n) rest = lasts (after j ts) t e bounds.0 (rest n)
 
-    go : (made : Bool) → Among e (with_one (if made then added (situation (after j ts) t) t.request else None) (additions j ts)) → (Among e (additions j ts) → IsLasting (after j ts) e)
+    go : (made : Bool) → Among e (with_one (if made then added (situation_of_turn (after j ts) t) t.request else None) (additions j ts)) → (Among e (additions j ts) → IsLasting (after j ts) e)
         → IsLasting (if made then left (after j ts) t else after j ts) e
-    go true n rest = by_turn (added (situation (after j ts) t) t.request) refl n rest
+    go true n rest = by_turn (added (situation_of_turn (after j ts) t) t.request) refl n rest
     go false n rest = rest n

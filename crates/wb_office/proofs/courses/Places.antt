@@ -1,6 +1,6 @@
 -- The places that are taken, and the partners, after every request.
 use Rattle.std.proofs.Common.{◌≡◌, ap, ap₂, ℕ, ◌+◌, ◌≤◌, ◌<◌, max, Bool, true, false, cond, not, ◌&&◌, ◌||◌, nat_le, nat_lt, List, [], ◌∷◌, ◌++◌, length, refl, arith, true≢false}
-use Rattle.wb_office.proofs.Common.{nat_tests, clamps, sum_by-cons, list_any, Contains, count_by, EntryParts, Finding, Sound, Damaged, Kind, First, Second, Single, Void, check, is_closing, is_first, day_of, is_first_of, is_open, is_partner, lies_between, may_pair_of, open_count, open_of, partner, kept, IsRising, IsRisingFrom, kept-partner, among-contains, greatest, greatest_spent, next_number, one, open_count_more, Purge, Outcome, entries_after, entries_left, Asking, places, places_of, KeepsPartners, WithinCapacity, accepted, of_new, verdict}
+use Rattle.wb_office.proofs.Common.{nat_tests, clamps, sum_by-cons, list_any, Contains, count_by, EntryParts, Finding, Sound, Damaged, Kind, First, Second, Single, Void, finding_in, is_closing_kind, is_first_kind, day_of, is_first_of, is_open, is_partner, lies_between, may_pair_of, count_of_open, open_entry, partner_in, kept, IsRising, IsRisingFrom, kept-partner, among-contains, greatest, greatest_spent, number_after, one, open_count_more, Purge, Outcome, entries_after, entries_left, Asking, places, places_needed, KeepsPartners, WithinCapacity, accepted, of_new, verdict}
 use Rattle.std.specs.Prelude.{is_some}
 use Rattle.wb_office.proofs.courses.AcceptedEntries.{Comes, adding, asking_for, comes, is_new, purging, stays}
 use Rattle.wb_office.proofs.ConditionsInOrder.{none_holds}
@@ -28,8 +28,8 @@ length_more [] e = refl
 length_more (x ∷ es) e = let more = length_more es e in omega (arith, more)
 
 -- what an entry of a kind makes of the places, where it is not refused
-by_kind : (k : Kind) (capacity n firsts after next : ℕ) (found : Bool) → after + one (is_closing k && found) ≡ firsts + one (is_first k)
-    → is_closing k && not found ≡ false → (nat_lt 0 (places_of k) && nat_lt capacity (n + firsts + places_of k)) || nat_lt 4294967295 next ≡ false
+by_kind : (k : Kind) (capacity n firsts after next : ℕ) (found : Bool) → after + one (is_closing_kind k && found) ≡ firsts + one (is_first_kind k)
+    → is_closing_kind k && not found ≡ false → (nat_lt 0 (places_needed k) && nat_lt capacity (n + firsts + places_needed k)) || nat_lt 4294967295 next ≡ false
     → n + 1 + after ≤ max capacity (n + firsts)
 by_kind First capacity n firsts after next found counts there full = enough (either (nat_lt capacity (n + firsts + 2)) (nat_lt 4294967295 next) full)
   where
@@ -69,8 +69,8 @@ entry_more a e is rising =
     let full = late.1.1.1.0 in
     let number = number_is_next a e is in
     let counts = open_count_more a.now.entries e (rises a.now.entries e rising (above_greatest a.now.entries (greatest_spent a.now.spent) e.number number)) in
-    let all = by_kind e.kind a.now.setup.capacity (length a.now.entries) (open_count a.now.entries) (open_count (a.now.entries ++ e ∷ [])) (next_number a.now.entries a.now.spent)
-    (is_some (open_of a.now.entries e.plate)) counts (rw (kind, plate) at there) (rw kind at full) in
+    let all = by_kind e.kind a.now.setup.capacity (length a.now.entries) (count_of_open a.now.entries) (count_of_open (a.now.entries ++ e ∷ [])) (number_after a.now.entries a.now.spent)
+    (is_some (open_entry a.now.entries e.plate)) counts (rw (kind, plate) at there) (rw kind at full) in
     rw (length_more a.now.entries e) all
 
 -- ---- a purge
@@ -118,11 +118,11 @@ not_between b plate low high above s under = rw (no) (mid_false (may_pair_of pla
 
 same_partner : (b : ℕ) (es : List EntryParts) (f : EntryParts) → b ≤ f.number → (s : EntryParts) → is_partner (kept b es) s f ≡ is_partner es s f
 same_partner b es f high s =
-    ap (λ r. is_closing s.kind && is_first_of s.plate f && nat_lt f.number s.number && not r)
+    ap (λ r. is_closing_kind s.kind && is_first_of s.plate f && nat_lt f.number s.number && not r)
     (any_kept b (lies_between s.plate f.number s.number) (lies_between s.plate f.number s.number) (λ x. refl) (not_between b s.plate f.number s.number high) es)
 
 no_partner : (b : ℕ) (es : List EntryParts) (f : EntryParts) → b ≤ f.number → (s : EntryParts) → s.number < b → is_partner es s f ≡ false
-no_partner b es f high s low = rw (no) (mid_false (is_closing s.kind && is_first_of s.plate f) (not (list_any (lies_between s.plate f.number s.number) es)))
+no_partner b es f high s low = rw (no) (mid_false (is_closing_kind s.kind && is_first_of s.plate f) (not (list_any (lies_between s.plate f.number s.number) es)))
   where
     no : nat_lt f.number s.number ≡ false
     no = grind (arith, nat_tests)
@@ -130,7 +130,7 @@ no_partner b es f high s low = rw (no) (mid_false (is_closing s.kind && is_first
 -- a First that stays is open where it was
 same_open : (b : ℕ) (es : List EntryParts) (f : EntryParts) → b ≤ f.number → is_open (kept b es) f ≡ is_open es f
 unfolding is_open
-same_open b es f high = ap (λ r. is_first f.kind && not r) (any_kept b (λ s. is_partner (kept b es) s f) (λ s. is_partner es s f) (same_partner b es f high) (no_partner b es f high) es)
+same_open b es f high = ap (λ r. is_first_kind f.kind && not r) (any_kept b (λ s. is_partner (kept b es) s f) (λ s. is_partner es s f) (same_partner b es f high) (no_partner b es f high) es)
 
 fewer : (b : ℕ) (es : List EntryParts) → places (kept b es) ≤ places es
 fewer b es =
@@ -154,11 +154,11 @@ within_capacity w b request rising = go (comes w b request)
 -- ---- partners
 
 pub keeps_partners : KeepsPartners
-keeps_partners w b rising bound e stays' = go (check w.entries) refl stays'
+keeps_partners w b rising bound e stays' = go (finding_in w.entries) refl stays'
   where
-    go : (f : Finding) → check w.entries ≡ f → Contains (entries_left w b Purge) e → partner (entries_left w b Purge) e ≡ partner w.entries e
+    go : (f : Finding) → finding_in w.entries ≡ f → Contains (entries_left w b Purge) e → partner_in (entries_left w b Purge) e ≡ partner_in w.entries e
     go (Sound count) is there =
         let here : Contains (kept b w.entries) e = rw is at there in
         let m = among_kept b w.entries e (among-contains e (kept b w.entries) here) in
-        rw is (kept-partner w.entries (next_number w.entries w.spent) (day_of w.at) w.setup.retention_days b rising bound e m.0 m.1)
+        rw is (kept-partner w.entries (number_after w.entries w.spent) (day_of w.at) w.setup.retention_days b rising bound e m.0 m.1)
     go (Damaged number) is there = rw is refl

@@ -1,6 +1,6 @@
 -- An entry that is stored, after other entries were added and after purges.
 use Rattle.std.proofs.Common.{◌≡◌, ◌∙◌, sym, ap, ap₂, ℕ, ◌≤◌, ◌<◌, ◌==◌, Bool, true, false, cond, inl, inr, not, ◌&&◌, ◌||◌, nat_le, nat_lt, List, [], ◌∷◌, ◌++◌, map, Option, Some, None, refl, arith, true≢false}
-use Rattle.wb_office.proofs.Common.{nat_tests, find-append, list_any-append, bytes_eq-Decides, find, list_any, option_or, bytes_eq, EntryParts, is_closing, is_first_of, is_partner, lies_between, may_pair_of, partner, IsPurgeBound, kept, IsRising, kept-partner, Among, find-among, by_key, has_key, is_of_key, is_spent, SpentKey, below, spent_by}
+use Rattle.wb_office.proofs.Common.{nat_tests, find-append, list_any-append, bytes_eq-Decides, find, list_any, option_or, bytes_eq, EntryParts, is_closing_kind, is_first_of, is_partner, lies_between, may_pair_of, partner_in, IsPurgeBound, kept, IsRising, kept-partner, Among, find-among, entry_by_key, has_key, is_of_key, is_spent, SpentKey, below, spent_by}
 use Rattle.wb_office.proofs.FoundEntries.{is_some_same}
 
 -- another entry of the same key
@@ -9,10 +9,10 @@ is_twin e x = has_key e.key x && not (x.number == e.number)
 
 -- an entry is stored, alone under its key, with this partner
 pub record IsStored (es : List EntryParts) (ks : List SpentKey) (e : EntryParts) (p : Option EntryParts) : Type 0 where
-  pub found : by_key es e.key ≡ Some e
+  pub found : entry_by_key es e.key ≡ Some e
   pub alone : list_any (is_twin e) es ≡ false
   pub unspent : is_spent ks e.key ≡ false
-  pub paired : partner es e ≡ p
+  pub paired : partner_in es e ≡ p
 
 -- an entry was purged
 pub record IsPast (es : List EntryParts) (ks : List SpentKey) (e : EntryParts) : Type 0 where
@@ -54,15 +54,15 @@ find_same p q same (x ∷ xs) = ap₂ (λ b o. cond b (Some x) o) (same x) (find
 
 same_test : (es : List EntryParts) (e f : EntryParts) → e.number < f.number → (x : EntryParts) → is_partner (es ++ f ∷ []) e x ≡ is_partner es e x
 same_test es e f above x =
-    ap (λ r. is_closing e.kind && is_first_of e.plate x && nat_lt x.number e.number && not r)
+    ap (λ r. is_closing_kind e.kind && is_first_of e.plate x && nat_lt x.number e.number && not r)
     (list_any-append (lies_between e.plate x.number e.number) es (f ∷ []) ∙ rw (no, and_false (may_pair_of e.plate f && nat_lt x.number f.number)) (or_false _))
   where
     no : nat_lt f.number e.number ≡ false
     no = grind (arith, nat_tests)
 
 -- a later entry is nobody's partner among those before it
-pub partner_more : (es : List EntryParts) (e f : EntryParts) → e.number < f.number → partner (es ++ f ∷ []) e ≡ partner es e
-unfolding partner
+pub partner_more : (es : List EntryParts) (e f : EntryParts) → e.number < f.number → partner_in (es ++ f ∷ []) e ≡ partner_in es e
+unfolding partner_in
 partner_more es e f above =
     find_same (is_partner (es ++ f ∷ []) e) (is_partner es e) (same_test es e f above) (es ++ f ∷ [])
     ∙ find-append (is_partner es e) es (f ∷ []) ∙ ap (option_or (find (is_partner es e) es)) last ∙ or_none (find (is_partner es e) es)
@@ -75,7 +75,7 @@ partner_more es e f above =
     none false b = refl
 
     last : find (is_partner es e) (f ∷ []) ≡ None
-    last = rw (no, none (is_closing e.kind && is_first_of e.plate f) (not (list_any (lies_between e.plate f.number e.number) es))) refl
+    last = rw (no, none (is_closing_kind e.kind && is_first_of e.plate f) (not (list_any (lies_between e.plate f.number e.number) es))) refl
 
 -- an entry is stored still, with the same partner, when one of another key was added behind it
 pub stored_more : (es : List EntryParts) (ks : List SpentKey) (e f : EntryParts) (p : Option EntryParts) → IsStored es ks e p → e.number < f.number → has_key e.key f ≡ false

@@ -1,6 +1,6 @@
 -- The load behind the gross of an accepted weighing.
 use Rattle.std.proofs.Common.{◌≡◌, ◌∙◌, sym, ap, subst, All, length, take, Bool, true, false, not, ◌&&◌, List, Option, Some, None, ℤ, pos, refl, arith}
-use Rattle.wb_office.proofs.Common.{ints, int_lt, is_none, option_map, is_over, is_under, round, IsSetup, Setup, EntryParts, Kind, First, Second, Single, Void, is_void, TareNow, gross, indicated, indicated_at, readings, tare_now, tare_tenths, above_zero, zero_now, is_stable, Asking, holds_of, AllWeighed, IsWeighed, accepted, first_refusal, gross_kg, kilograms, of_new, verdict}
+use Rattle.wb_office.proofs.Common.{ints, int_lt, is_none, option_map, is_over, is_under, round, IsSetup, Setup, EntryParts, Kind, First, Second, Single, Void, is_void_kind, TareNow, gross, indicated, indicated_at, readings, tare_now, tare_tenths, above_zero, zero_now, is_stable, Asking, holds_of, AllWeighed, IsWeighed, accepted, first_refusal, gross_stored, kilograms_of, of_new, verdict}
 use Rattle.std.specs.Prelude.{◌≤ℤ◌, ◌-ℤ◌}
 use Rattle.wb_scale.specs.declared.answers.Indicated.TheVariants.{Shown}
 use Rattle.wb_scale.specs.Call.{Call}
@@ -52,7 +52,7 @@ false_of : (w b : Bool) → w ≡ true → w && b ≡ false → b ≡ false
 false_of w b is h = rw is at h
 
 -- what is free of the conditions on a new key is free of those on the load
-free_load : (a : Asking) → first_refusal of_new a ≡ None → not (is_void a.kind) ≡ true
+free_load : (a : Asking) → first_refusal of_new a ≡ None → not (is_void_kind a.kind) ≡ true
     → IsFree a.now.setup (is_stable a.now.setup.window a.now.setup.band (readings a.now.history)) (gross a.now.history) × (is_cleared a.now.history ≡ true)
 free_load a none weighs =
     let free = none_holds of_new a none in
@@ -67,18 +67,18 @@ free_load a none weighs =
       true_of _ (is_cleared a.now.history) weighs load.1.1.1.1.1.1.1.0,
     )
 
-stored_gross : (s : Setup) (k : Kind) (g : Option ℤ) (whole : ℤ) → is_void k ≡ false → g ≡ Some whole → gross_kg s k g ≡ Some (kilograms s whole)
+stored_gross : (s : Setup) (k : Kind) (g : Option ℤ) (whole : ℤ) → is_void_kind k ≡ false → g ≡ Some whole → gross_stored s k g ≡ Some (kilograms_of s whole)
 stored_gross s First g whole v is = rw is refl
 stored_gross s Second g whole v is = rw is refl
 stored_gross s Single g whole v is = rw is refl
 stored_gross s Void g whole v is = absurd (cc)
 
-weighed : (a : Asking) (calls : List Call) → IsSetup a.now.setup → a.now.history ≡ moments a.now.setup calls → (e : EntryParts) → verdict a ≡ accepted e → is_void e.kind ≡ false
+weighed : (a : Asking) (calls : List Call) → IsSetup a.now.setup → a.now.history ≡ moments a.now.setup calls → (e : EntryParts) → verdict a ≡ accepted e → is_void_kind e.kind ≡ false
     → IsWeighed a.now.setup a.now.history e
 unfolding indicated above_zero
 weighed a calls setup history e is kind =
     let new = is_new a e is in
-    let void : is_void a.kind ≡ false = rw new.made at kind in
+    let void : is_void_kind a.kind ≡ false = rw new.made at kind in
     let both = free_load a new.judged (rw void refl) in
     let at = shows a.now.setup (is_stable a.now.setup.window a.now.setup.band (readings a.now.history)) (tare_now a.now.history) (above_zero a.now.history) both.0 in
     let behind = law_of_steady_indication a.now.setup setup calls at.whole at.net (ap (indicated a.now.setup) (sym history) ∙ at.shown_so) in

@@ -1,6 +1,6 @@
 -- A key that is stored or spent stays so, and no entry is added under it.
 use Rattle.std.proofs.Common.{◌≡◌, ◌∙◌, sym, subst, ℕ, ◌+◌, ◌≤◌, Bool, true, false, cond, not, ◌||◌, if◌then◌else◌, List, [], ◌∷◌, ◌++◌, map, nat_le, nat_lt, ◌⊎◌, inl, inr, Some, None, refl, arith, true≢false}
-use Rattle.wb_office.proofs.Common.{nat_tests, list_any-append, sum_by-cons, bytes_eq-Decides, list_any, Contains, count_by, bytes_eq, EntryParts, kept, among-contains, AreLists, by_key, has_key, is_of_key, is_spent, SpentKey, Request, Outcome, adds, below, entries_after, nothing, outcome, purges, spent_after, spent_by, Asking, Situation, AreBounds, Journal, Turn, added, added_by, additions, after, left, situation, with_one, OneEntryPerKey, is_taken, accepted, verdict}
+use Rattle.wb_office.proofs.Common.{nat_tests, list_any-append, sum_by-cons, bytes_eq-Decides, list_any, Contains, count_by, bytes_eq, EntryParts, kept, among-contains, AreLists, entry_by_key, has_key, is_of_key, is_spent, SpentKey, Request, Outcome, adds, below, entries_after, nothing, outcome, purges, spent_by_outcome, spent_by, Asking, Situation, AreBounds, Journal, RequestTurn, added, added_by, additions, after, left, situation_of_turn, with_one, OneEntryPerKey, is_taken, accepted, verdict}
 use Rattle.wb_office.proofs.courses.AcceptedEntries.{Comes, added_is, adding, asking_for, comes, is_new, purging, stays}
 use Rattle.wb_office.proofs.FoundEntries.{find_none}
 use Rattle.wb_office.proofs.courses.KnownEntries.{IsLasting, added_lasts}
@@ -59,7 +59,7 @@ kept_or_spent b key (e ∷ es) h = go (nat_le b e.number) (nat_lt e.number b) (t
     go false false f a t more = absurd (true≢false (sym f))
 
 -- a key that is taken stays so
-stays_taken : (w : Situation) (key : List ℕ) (o : Outcome) → taken_in w.entries w.spent key ≡ true → taken_in (entries_after o w.entries) (spent_after o w.entries w.spent) key ≡ true
+stays_taken : (w : Situation) (key : List ℕ) (o : Outcome) → taken_in w.entries w.spent key ≡ true → taken_in (entries_after o w.entries) (spent_by_outcome o w.entries w.spent) key ≡ true
 stays_taken w key nothing taken = taken
 stays_taken w key (adds e) taken =
     or_either (list_any (has_key key) w.entries) (is_spent w.spent key) taken
@@ -90,14 +90,14 @@ takes_free a e is =
 -- what a request adds under a key, and whether it is free then
 abbrev CountsOne : Situation → List ℕ → List EntryParts → Outcome → Type 0
 CountsOne w key before o =
-    count_by (has_key key) (with_one (added_by o) before) + room (taken_in (entries_after o w.entries) (spent_after o w.entries w.spent) key)
+    count_by (has_key key) (with_one (added_by o) before) + room (taken_in (entries_after o w.entries) (spent_by_outcome o w.entries w.spent) key)
     ≤ count_by (has_key key) before + room (taken_in w.entries w.spent key)
 
 one_request : (w : Situation) (b : ℕ) (request : Request) (key : List ℕ) (before : List EntryParts) → CountsOne w key before (outcome w b request)
 one_request w b request key before = go (comes w b request)
   where
-    less : (o : Outcome) → room (taken_in (entries_after o w.entries) (spent_after o w.entries w.spent) key) ≤ room (taken_in w.entries w.spent key)
-    less o = less_room (taken_in w.entries w.spent key) (taken_in (entries_after o w.entries) (spent_after o w.entries w.spent) key) (stays_taken w key o)
+    less : (o : Outcome) → room (taken_in (entries_after o w.entries) (spent_by_outcome o w.entries w.spent) key) ≤ room (taken_in w.entries w.spent key)
+    less o = less_room (taken_in w.entries w.spent key) (taken_in (entries_after o w.entries) (spent_by_outcome o w.entries w.spent) key) (stays_taken w key o)
 
     go : {o : Outcome} → Comes w b request o → CountsOne w key before o
     go (stays none) = omega arith
@@ -113,35 +113,35 @@ one_request w b request key before = go (comes w b request)
             rw (free, taken, one_of key e before, t) (omega arith)
         under false t = let l = less (adds e) in rw (one_of key e before, t) (omega (arith, l))
 
-one_turn : (made : Bool) (j : Journal) (t : Turn) (key : List ℕ) (before : List EntryParts)
-    → count_by (has_key key) (with_one (if made then added (situation j t) t.request else None) before) + room (is_taken (if made then left j t else j) key)
+one_turn : (made : Bool) (j : Journal) (t : RequestTurn) (key : List ℕ) (before : List EntryParts)
+    → count_by (has_key key) (with_one (if made then added (situation_of_turn j t) t.request else None) before) + room (is_taken (if made then left j t else j) key)
     ≤ count_by (has_key key) before + room (is_taken j key)
 one_turn true j t key before =
     subst (λ o. count_by (has_key key) (with_one o before) + room (is_taken (left j t) key) ≤ count_by (has_key key) before + room (is_taken j key))
-    (sym (added_is (comes (situation j t) t.bound t.request))) (one_request (situation j t) t.bound t.request key before)
+    (sym (added_is (comes (situation_of_turn j t) t.bound t.request))) (one_request (situation_of_turn j t) t.bound t.request key before)
 one_turn false j t key before = omega arith
 
-counted : (j : Journal) (ts : List Turn) (key : List ℕ) → count_by (has_key key) (additions j ts) + room (is_taken (after j ts) key) ≤ room (is_taken j key)
+counted : (j : Journal) (ts : List RequestTurn) (key : List ℕ) → count_by (has_key key) (additions j ts) + room (is_taken (after j ts) key) ≤ room (is_taken j key)
 counted j [] key = omega arith
 counted j (t ∷ ts) key =
     let before = counted j ts key in
     let now = one_turn t.is_made (after j ts) t key (additions j ts) in
     omega (arith, before, now)
 
-at_most_one : (j : Journal) (ts : List Turn) (key : List ℕ) → count_by (has_key key) (additions j ts) ≤ (if is_taken j key then 0 else 1)
+at_most_one : (j : Journal) (ts : List RequestTurn) (key : List ℕ) → count_by (has_key key) (additions j ts) ≤ (if is_taken j key then 0 else 1)
 at_most_one j ts key = let all = counted j ts key in omega (arith, all)
 
 -- what was added under it is stored, or was purged
-stored_or_spent : (j : Journal) (ts : List Turn) (key : List ℕ) → AreLists j.entries j.spent → AreBounds j ts → (e : EntryParts) → Contains (additions j ts) e → e.key ≡ key
-    → (by_key (after j ts).entries key ≡ Some e) ⊎ (is_spent (after j ts).spent key ≡ true)
+stored_or_spent : (j : Journal) (ts : List RequestTurn) (key : List ℕ) → AreLists j.entries j.spent → AreBounds j ts → (e : EntryParts) → Contains (additions j ts) e → e.key ≡ key
+    → (entry_by_key (after j ts).entries key ≡ Some e) ⊎ (is_spent (after j ts).spent key ≡ true)
 stored_or_spent j ts key lists bounds e added same = go last.known.state
   where
     last : IsLasting (after j ts) e
     last = added_lasts j ts e lists.rising bounds (among-contains e (additions j ts) added)
 
     go : IsStored (after j ts).entries (after j ts).spent e last.first ⊎ IsPast (after j ts).entries (after j ts).spent e
-        → (by_key (after j ts).entries key ≡ Some e) ⊎ (is_spent (after j ts).spent key ≡ true)
-    go (inl stored) = inl (subst (λ k. by_key (after j ts).entries k ≡ Some e) same stored.found)
+        → (entry_by_key (after j ts).entries key ≡ Some e) ⊎ (is_spent (after j ts).spent key ≡ true)
+    go (inl stored) = inl (subst (λ k. entry_by_key (after j ts).entries k ≡ Some e) same stored.found)
     go (inr past) = inr (subst (λ k. is_spent (after j ts).spent k ≡ true) same past.spent)
 
 pub one_entry_per_key : OneEntryPerKey

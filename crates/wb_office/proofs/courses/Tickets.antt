@@ -1,6 +1,6 @@
 -- A ticket that was given, after whatever was asked.
 use Rattle.std.proofs.Common.{◌≡◌, ◌∙◌, sym, ap, ◌⊎◌, inl, inr, ℕ, ◌==◌, Bool, true, false, true≢false, if◌then◌else◌, List, Option, Some, None, Result, Ok, Err, refl}
-use Rattle.wb_office.proofs.Common.{eqb-true, bytes_eq-Decides, EntryParts, partner, with_number, Among, find-among, has_key, Refusal, Told, has_ticket, text_of, ticket_answer, ticket_if_sound, ticket_of, is_damaged, after, IsTakenOut, TicketGivenAgain}
+use Rattle.wb_office.proofs.Common.{eqb-true, bytes_eq-Decides, EntryParts, partner_in, with_number, Among, find-among, has_key, Refusal, Content, has_ticket, entry_content, ticket_answer, ticket_if_sound, ticket_of, is_damaged, after, IsTakenOut, TicketGivenAgain}
 use Rattle.wb_office.specs.declared.refusal.Refusal.TheVariants as refusal
 use Rattle.wb_office.proofs.FoundEntries.{found_by_number}
 use Rattle.wb_office.proofs.Members.{some_passes}
@@ -10,21 +10,21 @@ use Rattle.wb_office.proofs.courses.RepeatedRequests.{same_damage, same_text}
 use Rattle.wb_office.proofs.courses.StoredEntries.{IsPast, IsStored}
 
 -- the entry behind a ticket that is given
-record IsGiven (es : List EntryParts) (number : ℕ) (text : Told) : Type 0 where
+record IsGiven (es : List EntryParts) (number : ℕ) (text : Content) : Type 0 where
   pub entry : EntryParts
   pub found : with_number number es ≡ Some entry
   pub has : has_ticket entry ≡ true
   pub whole : is_damaged es entry ≡ false
-  pub told : ◌≡◌ {A = Result Told Refusal} (Ok (text_of es entry entry.kind)) (Ok text)
+  pub told : ◌≡◌ {A = Result Content Refusal} (Ok (entry_content es entry entry.kind)) (Ok text)
 
-refused_ticket : {C : Type 0} (why : Refusal) (text : Told) → ◌≡◌ {A = Result Told Refusal} (Err why) (Ok text) → C
+refused_ticket : {C : Type 0} (why : Refusal) (text : Content) → ◌≡◌ {A = Result Content Refusal} (Err why) (Ok text) → C
 refused_ticket why text same = absurd (cc)
 
-given : (es : List EntryParts) (number : ℕ) (text : Told) → ticket_answer es number ≡ Ok text → IsGiven es number text
+given : (es : List EntryParts) (number : ℕ) (text : Content) → ticket_answer es number ≡ Ok text → IsGiven es number text
 given es number text is = go (with_number number es) refl is
   where
     by_damage : (e : EntryParts) → with_number number es ≡ Some e → has_ticket e ≡ true → (d : Bool) → is_damaged es e ≡ d
-        → ◌≡◌ {A = Result Told Refusal} (if d then Err refusal.Damaged else Ok (text_of es e e.kind)) (Ok text) → IsGiven es number text
+        → ◌≡◌ {A = Result Content Refusal} (if d then Err refusal.Damaged else Ok (entry_content es e e.kind)) (Ok text) → IsGiven es number text
     by_damage e found has true whole told = refused_ticket refusal.Damaged text told
     by_damage e found has false whole told = record { entry = e; found = found; has = has; whole = whole; told = told }
 
@@ -45,13 +45,13 @@ ticket_given_again j ts lists bounds number text is = by_standing (stands_or_out
     there : Among was.entry j.entries × ((was.entry.number == number) ≡ true)
     there = find-among (λ x. x.number == number) j.entries was.entry was.found
 
-    known : IsKnown (after j ts).entries (after j ts).spent was.entry (partner j.entries was.entry)
-    known = known_after j was.entry (partner j.entries was.entry) (stood j.entries j.spent was.entry lists there.0) ts bounds
+    known : IsKnown (after j ts).entries (after j ts).spent was.entry (partner_in j.entries was.entry)
+    known = known_after j was.entry (partner_in j.entries was.entry) (stood j.entries j.spent was.entry lists there.0) ts bounds
 
     same_number : was.entry.number ≡ number
     same_number = eqb-true was.entry.number number there.1
 
-    again : IsStored (after j ts).entries (after j ts).spent was.entry (partner j.entries was.entry) → ticket_answer (after j ts).entries number ≡ Ok text
+    again : IsStored (after j ts).entries (after j ts).spent was.entry (partner_in j.entries was.entry) → ticket_answer (after j ts).entries number ≡ Ok text
     again stored =
         let found : with_number number (after j ts).entries ≡ Some was.entry =
         ap (λ n. with_number n (after j ts).entries) (sym same_number) ∙ found_by_number (has_key was.entry.key) (after j ts).entries was.entry known.rising stored.found in
@@ -61,7 +61,7 @@ ticket_given_again j ts lists bounds number text is = by_standing (stands_or_out
     not_past : {C : Type 0} → Among was.entry (after j ts).entries → IsPast (after j ts).entries (after j ts).spent was.entry → C
     not_past m past = absurd (true≢false (sym (some_passes (has_key was.entry.key) was.entry (after j ts).entries m ((bytes_eq-Decides was.entry.key was.entry.key).1 refl)) ∙ past.absent))
 
-    by_state : Among was.entry (after j ts).entries → IsStored (after j ts).entries (after j ts).spent was.entry (partner j.entries was.entry) ⊎ IsPast (after j ts).entries (after j ts).spent was.entry
+    by_state : Among was.entry (after j ts).entries → IsStored (after j ts).entries (after j ts).spent was.entry (partner_in j.entries was.entry) ⊎ IsPast (after j ts).entries (after j ts).spent was.entry
         → ticket_answer (after j ts).entries number ≡ Ok text
     by_state m (inl stored) = again stored
     by_state m (inr past) = not_past m past

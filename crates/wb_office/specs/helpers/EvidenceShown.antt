@@ -1,11 +1,11 @@
 -- What was found out about a weighing or void, and the lists and the history that it shows.
 use Rattle.std.specs.Prelude.{◌≡◌, ℕ, List, length}
 use Rattle.wb_journal.specs.declared.entry.EntryParts.{EntryParts}
-use Rattle.wb_journal.specs.Pairs.{open_count, open_of}
+use Rattle.wb_journal.specs.Pairs.{count_of_open, open_entry}
 use Rattle.wb_scale.specs.Cleared.{is_cleared}
 use Rattle.wb_scale.specs.Indication.{indicated}
 use Rattle.wb_scale.specs.Tare.{tare_now}
-use Rattle.wb_store.specs.Lists.{newest, next_number}
+use Rattle.wb_store.specs.Lists.{newest_entry, number_after}
 use Rattle.wb_store.specs.Rows.{SpentKey}
 use Rattle.wb_office.specs.declared.evidence.Evidence.{Evidence}
 use Rattle.wb_office.specs.declared.evidence.OfJournal.{OfJournal}
@@ -20,11 +20,11 @@ pub record ShowsScale (s : OfScale) (w : Situation) : Type 0 where
 
 -- what the journal shows, with these entries and spent keys, of a plate
 pub record ShowsJournal (j : OfJournal) (plate : List ℕ) (es : List EntryParts) (ks : List SpentKey) : Type 0 where
-  pub last : j.newest ≡ newest es
-  pub open_one : j.open ≡ open_of es plate
+  pub last : j.newest ≡ newest_entry es
+  pub open_one : j.open ≡ open_entry es plate
   pub entries : j.count ≡ length es
-  pub firsts : j.open_count ≡ open_count es
-  pub next : j.next_number ≡ next_number es ks
+  pub firsts : j.open_count ≡ count_of_open es
+  pub next : j.next_number ≡ number_after es ks
 
 -- all that a weighing or void with a new key is judged on
 pub record Shows (e : Evidence) (a : Asking) : Type 0 where

@@ -10,7 +10,7 @@ use Rattle.wb_scale.specs.declared.answers.TareNow.{TareNow}
 use Rattle.wb_scale.specs.declared.answers.TareNow.TheVariants.{Empty, Weighed, Preset}
 use Rattle.wb_office.specs.declared.refusal.Refusal.{Refusal}
 use Rattle.wb_office.specs.declared.refusal.Refusal.TheVariants as refusal
-use Rattle.wb_office.specs.Verdict.{kilograms}
+use Rattle.wb_office.specs.Verdict.{kilograms_of}
 
 -- why a load that is indicated so isn't stored
 abbrev pub refusal_of_shown : Indicated → Option Refusal
@@ -35,7 +35,7 @@ abbrev pub gross_shown : Setup → Indicated → Option ℕ
 gross_shown s NoLoad = None
 gross_shown s Over = None
 gross_shown s Under = None
-gross_shown s (Shown gross net stable) = Some (kilograms s gross)
+gross_shown s (Shown gross net stable) = Some (kilograms_of s gross)
 
 -- the gross that is stored of what is indicated; none for a Void
 abbrev pub gross_of_shown : Setup → Kind → Indicated → Option ℕ

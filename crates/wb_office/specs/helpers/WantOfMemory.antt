@@ -4,12 +4,12 @@ use Rattle.wb_store.specs.declared.fault.StoreFault.TheVariants.{Memory}
 use Rattle.wb_office.specs.declared.answer.Answer.{Answer}
 use Rattle.wb_office.specs.declared.refusal.Refusal.{Refusal}
 use Rattle.wb_office.specs.declared.refusal.Refusal.TheVariants.{Store}
-use Rattle.wb_office.specs.Answer.{Told}
-use Rattle.wb_office.specs.Serves.{told_of, is_store_refusal}
+use Rattle.wb_office.specs.Answer.{Content}
+use Rattle.wb_office.specs.Serves.{contents_of, is_store_refusal}
 
 -- it is answered so, unless the store refuses
-abbrev pub Tells : Result Answer Refusal → Result Told Refusal → Type 0
-Tells result want = is_store_refusal result ≡ false → told_of result ≡ want
+abbrev pub IsAnsweredSo : Result Answer Refusal → Result Content Refusal → Type 0
+IsAnsweredSo result want = is_store_refusal result ≡ false → contents_of result ≡ want
 
 -- if the store refuses, it is for want of memory
 abbrev pub WantsMemory : Result Answer Refusal → Type 0

@@ -1,16 +1,16 @@
 -- What is wanted of a weighing or void.
 use Rattle.std.specs.Prelude.{◌≡◌}
 use Rattle.wb_office.specs.declared.judging.Asked.{Asked}
-use Rattle.wb_office.specs.Answer.{answer_of, asking, entries_after, is_marked, outcome_of, spent_after}
+use Rattle.wb_office.specs.Answer.{answer_by_verdict, asking, entries_after, is_marked, outcome_of, spent_by_outcome}
 use Rattle.wb_office.specs.Situation.{Situation}
 use Rattle.wb_office.specs.Wanted.{Wanted}
 use Rattle.wb_office.specs.Verdict.{Verdict, verdict}
 
 abbrev pub wanted_by : Situation → Verdict → Wanted
 wanted_by w v = record {
-  answer = answer_of w.entries v;
+  answer = answer_by_verdict w.entries v;
   entries = entries_after (outcome_of v) w.entries;
-  spent = spent_after (outcome_of v) w.entries w.spent;
+  spent = spent_by_outcome (outcome_of v) w.entries w.spent;
   marks = is_marked (outcome_of v);
 }
 

@@ -16,10 +16,10 @@ events_of room HangUp = hang_up ∷ []
 events_of room (Request moment count) = office moment (take count room) false ∷ []
 
 -- what is read of a line: loads in range, and no more bytes than the room has
-abbrev pub IsRead : List ℕ → TraceLine → Type 0
-IsRead room Nothing = Unit {0}
-IsRead room (Readings r times) = IsReading r
-IsRead room (Text text) = Unit {0}
-IsRead room (Bytes count) = count ≤ length room
-IsRead room HangUp = Unit {0}
-IsRead room (Request moment count) = count ≤ length room
+abbrev pub IsReadLine : List ℕ → TraceLine → Type 0
+IsReadLine room Nothing = Unit {0}
+IsReadLine room (Readings r times) = IsReading r
+IsReadLine room (Text text) = Unit {0}
+IsReadLine room (Bytes count) = count ≤ length room
+IsReadLine room HangUp = Unit {0}
+IsReadLine room (Request moment count) = count ≤ length room

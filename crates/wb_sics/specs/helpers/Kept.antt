@@ -45,5 +45,5 @@ abbrev pub waiting_from : Setup → List Moment → Command → Option Waiting
 waiting_from s ms command = waiting_for s ms (awaited_by command)
 
 -- whether the value is repeated from a command's LF on, where it was or not before
-abbrev pub repeating_from : Command → Bool → Bool
-repeating_from command repeating = unwrap_or (turned_by command) repeating
+abbrev pub repeats_from : Command → Bool → Bool
+repeats_from command repeating = unwrap_or (turned_by command) repeating

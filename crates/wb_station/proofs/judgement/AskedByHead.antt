@@ -13,10 +13,10 @@ use Rattle.wb_station.specs.declared.fault.Method.TheVariants.{Get, Post}
 use Rattle.wb_station.specs.declared.request.Sought.{Sought}
 use Rattle.wb_station.specs.declared.routes.Route.{Route}
 use Rattle.wb_station.specs.declared.routes.Route.TheVariants.{Check, Indication, JournalCsv, Purge, Ticket, TicketsCsv, Voids, Weighings}
-use Rattle.wb_station.specs.BodyLength.{are_wrong, first_number, is_encoded, is_number, lengths}
-use Rattle.wb_station.specs.Judgement.{Condition, allows, asked, asked_by, cut_short, first_fault, judged, malformed_length, no_length, no_route, of_body, on, too_large, unless_faulty, wrong_method}
+use Rattle.wb_station.specs.BodyLength.{are_wrong, first_number, is_encoded, is_number_text, lengths}
+use Rattle.wb_station.specs.HttpJudgement.{FaultCondition, allows, asked_by, cut_short, fault_on, first_fault, judgement_of, malformed_length, no_length, no_route, of_body, request_asked, too_large, unless_faulty, wrong_method}
 use Rattle.wb_station.specs.RequestBytes.{Received, fields}
-use Rattle.wb_station.specs.Routes.{method_of, route_of}
+use Rattle.wb_station.specs.Routes.{method_of, route_of_target}
 use Rattle.wb_station.specs.helpers.LengthSaid.{said, said_values}
 use Rattle.wb_station.specs.helpers.AskedByHead.{answered, answered_by, sought, sought_at, sought_on, with_length}
 
@@ -60,7 +60,7 @@ posted : (route : Route) (encoded : Bool) (vs : List (List ℕ)) (target rest : 
     ≡ answered_by (with_length route (said_with encoded vs)) target rest
 posted route true vs target rest = refl
 posted route false [] target rest = refl
-posted route false (one ∷ []) target rest = one_length route target rest one (is_number one) (nat_lt 1024 (digits_value 10 one))
+posted route false (one ∷ []) target rest = one_length route target rest one (is_number_text one) (nat_lt 1024 (digits_value 10 one))
 posted route false (one ∷ two ∷ more) target rest = refl
 
 by_post : (route : Route) → method_of route ≡ Post → (get post encoded : Bool) (vs : List (List ℕ)) (target rest : List ℕ)
@@ -107,8 +107,8 @@ by_option (Some route) method target rest encoded vs =
 
 -- the first fault is the fault of the first condition
 pub mapped : (x : Received) (a b c d e f : Bool)
-    → option_map (λ (k : Condition). k.fault) (cond a (Some (on no_route NoRoute)) (cond b (Some (on (wrong_method Get) (WrongMethod Get))) (cond c (Some (on (wrong_method Post) (WrongMethod Post)))
-    (cond d (Some (on malformed_length Malformed)) (cond e (Some (on no_length NoLength)) (cond f (Some (on too_large TooLarge)) None))))))
+    → option_map (λ (k : FaultCondition). k.fault) (cond a (Some (fault_on no_route NoRoute)) (cond b (Some (fault_on (wrong_method Get) (WrongMethod Get))) (cond c (Some (fault_on (wrong_method Post) (WrongMethod Post)))
+    (cond d (Some (fault_on malformed_length Malformed)) (cond e (Some (fault_on no_length NoLength)) (cond f (Some (fault_on too_large TooLarge)) None))))))
     ≡ first_of a b c d e f
 mapped x true b c d e f = refl
 mapped x false true c d e f = refl
@@ -118,23 +118,23 @@ mapped x false false false false true f = refl
 mapped x false false false false false true = refl
 mapped x false false false false false false = refl
 
-pub last_mapped : (a : Bool) → option_map (λ (k : Condition). k.fault) (cond a (Some (on cut_short Malformed)) None) ≡ cond a (Some Malformed) None
+pub last_mapped : (a : Bool) → option_map (λ (k : FaultCondition). k.fault) (cond a (Some (fault_on cut_short Malformed)) None) ≡ cond a (Some Malformed) None
 last_mapped true = refl
 last_mapped false = refl
 
-pub judged_by_steps : (x : Received) → judged x ≡ answered_by (sought x) x.head.target x.rest
+pub judged_by_steps : (x : Received) → judgement_of x ≡ answered_by (sought x) x.head.target x.rest
 judged_by_steps x =
-    ap (λ (o : Option HttpFault). unless_faulty (option_or o (first_fault of_body x)) (asked x))
+    ap (λ (o : Option HttpFault). unless_faulty (option_or o (first_fault of_body x)) (request_asked x))
     (mapped x (no_route x) (wrong_method Get x) (wrong_method Post x) (malformed_length x) (no_length x) (too_large x))
-    ∙ ap (λ (o : Option HttpFault). unless_faulty (option_or (first_of (no_route x) (wrong_method Get x) (wrong_method Post x) (malformed_length x) (no_length x) (too_large x)) o) (asked x)) (last_mapped (cut_short x))
-    ∙ by_option (route_of x.head.target) x.head.method x.head.target x.rest (is_encoded x) (lengths x)
+    ∙ ap (λ (o : Option HttpFault). unless_faulty (option_or (first_of (no_route x) (wrong_method Get x) (wrong_method Post x) (malformed_length x) (no_length x) (too_large x)) o) (request_asked x)) (last_mapped (cut_short x))
+    ∙ by_option (route_of_target x.head.target) x.head.method x.head.target x.rest (is_encoded x) (lengths x)
 
 pub judged_by_parts : (x : Received) (method target rest : List ℕ) (ps : List (List ℕ × List ℕ))
     → method ≡ x.head.method → target ≡ x.head.target → ps ≡ fields x → rest ≡ x.rest
-    → answered_by (sought_on (route_of target) method (said ps)) target rest ≡ judged x
+    → answered_by (sought_on (route_of_target target) method (said ps)) target rest ≡ judgement_of x
 judged_by_parts x method target rest ps m t p r =
-    ap (λ (w : List ℕ). answered_by (sought_on (route_of w) method (said ps)) w rest) t
-    ∙ ap (λ (w : List ℕ). answered_by (sought_on (route_of x.head.target) w (said ps)) x.head.target rest) m
-    ∙ ap (λ (w : List (List ℕ × List ℕ)). answered_by (sought_on (route_of x.head.target) x.head.method (said w)) x.head.target rest) p
-    ∙ ap (λ (w : List ℕ). answered_by (sought_on (route_of x.head.target) x.head.method (said (fields x))) x.head.target w) r
+    ap (λ (w : List ℕ). answered_by (sought_on (route_of_target w) method (said ps)) w rest) t
+    ∙ ap (λ (w : List ℕ). answered_by (sought_on (route_of_target x.head.target) w (said ps)) x.head.target rest) m
+    ∙ ap (λ (w : List (List ℕ × List ℕ)). answered_by (sought_on (route_of_target x.head.target) x.head.method (said w)) x.head.target rest) p
+    ∙ ap (λ (w : List ℕ). answered_by (sought_on (route_of_target x.head.target) x.head.method (said (fields x))) x.head.target w) r
     ∙ sym (judged_by_steps x)

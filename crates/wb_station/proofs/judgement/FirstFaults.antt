@@ -10,11 +10,11 @@ use Rattle.wb_station.specs.declared.fault.Method.TheVariants.{Get, Post}
 use Rattle.wb_station.specs.declared.request.Sought.{Sought}
 use Rattle.wb_station.specs.declared.routes.Route.{Route}
 use Rattle.wb_station.specs.declared.routes.Route.TheVariants.{Check, Indication, JournalCsv, Purge, Ticket, TicketsCsv, Voids, Weighings}
-use Rattle.wb_station.specs.BodyLength.{are_wrong, first_number, is_encoded, is_number, lengths}
+use Rattle.wb_station.specs.BodyLength.{are_wrong, first_number, is_encoded, is_number_text, lengths}
 use Rattle.wb_station.specs.Form.{IsPlain}
-use Rattle.wb_station.specs.Judgement.{MayWantMemory, allows, cut_short, first_fault, has_form, malformed_length, no_length, no_route, of_body, of_head, too_large, wrong_method}
+use Rattle.wb_station.specs.HttpJudgement.{MayWantMemory, allows, cut_short, first_fault, has_form, malformed_length, no_length, no_route, of_body, of_head, too_large, wrong_method}
 use Rattle.wb_station.specs.RequestBytes.{Reads, Received, fields}
-use Rattle.wb_station.specs.Routes.{method_of, route_of}
+use Rattle.wb_station.specs.Routes.{method_of, route_of_target}
 use Rattle.wb_station.specs.helpers.LengthSaid.{said}
 use Rattle.wb_station.specs.helpers.AskedByHead.{IsDecoded, sought, sought_on, with_length}
 use Rattle.wb_station.proofs.judgement.AskedByHead.{first_of, last_mapped, mapped, not_below, not_both, said_with, steps, steps_at}
@@ -47,7 +47,7 @@ posted : (route : Route) (encoded : Bool) (vs : List (List ℕ)) (rest : List �
     ≡ fault_with (with_length route (said_with encoded vs)) rest
 posted route true vs rest = refl
 posted route false [] rest = refl
-posted route false (one ∷ []) rest = one_length route one rest (is_number one) (nat_lt 1024 (digits_value 10 one))
+posted route false (one ∷ []) rest = one_length route one rest (is_number_text one) (nat_lt 1024 (digits_value 10 one))
 posted route false (one ∷ two ∷ more) rest = refl
 
 by_method : (m : Method) (route : Route) → method_of route ≡ m → (get post encoded : Bool) (vs : List (List ℕ)) (rest : List ℕ) → (get ≡ true → post ≡ false)
@@ -71,7 +71,7 @@ pub fault_by_steps : (x : Received) → option_or (first_fault of_head x) (first
 fault_by_steps x =
     ap (λ (o : Option HttpFault). option_or o (first_fault of_body x)) (mapped x (no_route x) (wrong_method Get x) (wrong_method Post x) (malformed_length x) (no_length x) (too_large x))
     ∙ ap (option_or (first_of (no_route x) (wrong_method Get x) (wrong_method Post x) (malformed_length x) (no_length x) (too_large x))) (last_mapped (cut_short x))
-    ∙ by_option (route_of x.head.target) x.head.method x.rest (is_encoded x) (lengths x)
+    ∙ by_option (route_of_target x.head.target) x.head.method x.rest (is_encoded x) (lengths x)
 
 -- ---- a form
 
@@ -93,7 +93,7 @@ record IsSoughtOf (o : Option Route) (encoded : Bool) (vs : List (List ℕ)) (s 
 same_length : (encoded : Bool) (vs : List (List ℕ)) (n : ℕ) → said_with encoded vs ≡ Ok n → first_number vs ≡ n
 same_length true vs n e = cc e
 same_length false [] n e = cc e
-same_length false (one ∷ []) n e = by (is_number one) (nat_lt 1024 (digits_value 10 one)) e
+same_length false (one ∷ []) n e = by (is_number_text one) (nat_lt 1024 (digits_value 10 one)) e
   where
     by : (b d : Bool) → (if b then (if d then Err TooLarge else Ok (digits_value 10 one)) else Err Malformed) ≡ Ok n → digits_value 10 one ≡ n
     by true true e = cc e
@@ -126,7 +126,7 @@ sought_on_of (Some route) method encoded vs s e =
 wants : (bytes : List ℕ) (x : Received) (r : Result Sought HttpFault) → Reads bytes x → sought x ≡ r → IsDecoded r x.rest → MayWantMemory bytes
 wants bytes x (Err fault) reads e d = absurd d
 wants bytes x (Ok s) reads e d =
-    let of = sought_on_of (route_of x.head.target) x.head.method (is_encoded x) (lengths x) s e in
+    let of = sought_on_of (route_of_target x.head.target) x.head.method (is_encoded x) (lengths x) s e in
     record {
       received = x;
       reads = reads;
@@ -139,9 +139,9 @@ wants bytes x (Ok s) reads e d =
 
 pub wanted : (bytes : List ℕ) (x : Received) (method target rest : List ℕ) (ps : List (List ℕ × List ℕ)) → Reads bytes x
     → method ≡ x.head.method → target ≡ x.head.target → ps ≡ fields x → rest ≡ x.rest
-    → IsDecoded (sought_on (route_of target) method (said ps)) rest → MayWantMemory bytes
+    → IsDecoded (sought_on (route_of_target target) method (said ps)) rest → MayWantMemory bytes
 wanted bytes x method target rest ps reads m t p r d = wants bytes x (sought x) reads refl (subst (λ (k : List ℕ). IsDecoded (sought x) k) r (subst (λ (k : Result Sought HttpFault). IsDecoded k rest) same d))
   where
-    same : sought_on (route_of target) method (said ps) ≡ sought x
-    same = ap (λ (w : List ℕ). sought_on (route_of w) method (said ps)) t ∙ ap (λ (w : List ℕ). sought_on (route_of x.head.target) w (said ps)) m
-        ∙ ap (λ (w : List (List ℕ × List ℕ)). sought_on (route_of x.head.target) x.head.method (said w)) p
+    same : sought_on (route_of_target target) method (said ps) ≡ sought x
+    same = ap (λ (w : List ℕ). sought_on (route_of_target w) method (said ps)) t ∙ ap (λ (w : List ℕ). sought_on (route_of_target x.head.target) w (said ps)) m
+        ∙ ap (λ (w : List (List ℕ × List ℕ)). sought_on (route_of_target x.head.target) x.head.method (said w)) p

@@ -14,10 +14,10 @@ use Rattle.wb_station.specs.declared.fault.Method.{Method}
 use Rattle.wb_station.specs.declared.fault.Method.TheVariants.{Get, Post}
 use Rattle.wb_station.specs.declared.request.Sought.{Sought}
 use Rattle.wb_station.specs.declared.routes.Route.{Route}
-use Rattle.wb_station.specs.BodyLength.{are_wrong, first_number, is_encoded, is_number, lengths}
-use Rattle.wb_station.specs.Judgement.{IsJudged, cut_short, first_fault, headless, judged, judgement, malformed_length, no_length, no_route, of_body, of_head, too_large, wrong_method}
+use Rattle.wb_station.specs.BodyLength.{are_wrong, first_number, is_encoded, is_number_text, lengths}
+use Rattle.wb_station.specs.HttpJudgement.{IsJudged, cut_short, fault_without_head, first_fault, judgement, judgement_of, malformed_length, no_length, no_route, of_body, of_head, too_large, wrong_method}
 use Rattle.wb_station.specs.RequestBytes.{IsRead, Reads, Received, fields}
-use Rattle.wb_station.specs.Routes.{method_of, route_of}
+use Rattle.wb_station.specs.Routes.{method_of, route_of_target}
 use Rattle.wb_station.specs.helpers.LengthSaid.{said}
 use Rattle.wb_station.specs.helpers.AskedByHead.{answered, answered_by, sought, sought_on, whole_by, with_length}
 use Rattle.wb_station.specs.WholeRequests.{OneJudgement, WholeStays, is_whole}
@@ -36,7 +36,7 @@ posted : (route : Route) (encoded : Bool) (vs : List (List ℕ))
     → first_of false false false (encoded || are_wrong vs) (not (nat_lt 0 (length vs))) (nat_lt 1024 (first_number vs)) ≡ fault_in (with_length route (said_with encoded vs))
 posted route true vs = refl
 posted route false [] = refl
-posted route false (one ∷ []) = one_length route one (is_number one) (nat_lt 1024 (digits_value 10 one))
+posted route false (one ∷ []) = one_length route one (is_number_text one) (nat_lt 1024 (digits_value 10 one))
 posted route false (one ∷ two ∷ more) = refl
 
 by_method : (m : Method) (route : Route) → method_of route ≡ m → (get post encoded : Bool) (vs : List (List ℕ)) → (get ≡ true → post ≡ false)
@@ -57,7 +57,7 @@ by_option (Some route) method encoded vs =
 head_fault : (x : Received) → first_fault of_head x ≡ fault_in (sought x)
 head_fault x =
     mapped x (no_route x) (wrong_method Get x) (wrong_method Post x) (malformed_length x) (no_length x) (too_large x)
-    ∙ by_option (route_of x.head.target) x.head.method (is_encoded x) (lengths x)
+    ∙ by_option (route_of_target x.head.target) x.head.method (is_encoded x) (lengths x)
 
 -- ---- whole by steps
 
@@ -111,7 +111,7 @@ followed x more = record { head = x.head; rest = x.rest ++ more }
 reads_more : (bytes more : List ℕ) (x : Received) → Reads bytes x → Reads (bytes ++ more) (followed x more)
 reads_more bytes more x h = (h.0, ap (λ (b : List ℕ). b ++ more) h.1 ∙ append_assoc (print_request x.head) x.rest more)
 
-judged_more : (x : Received) (more : List ℕ) → whole_by (sought x) x.rest ≡ true → judged x ≡ judged (followed x more)
+judged_more : (x : Received) (more : List ℕ) → whole_by (sought x) x.rest ≡ true → judgement_of x ≡ judgement_of (followed x more)
 judged_more x more e = judged_by_steps x ∙ sym (answered_on (sought x) x.head.target x.rest more e) ∙ sym (judged_by_steps (followed x more))
 
 -- a head within the first bytes of more is one of the first bytes
@@ -127,7 +127,7 @@ no_head_more bytes more e none = λ (x : Received). λ (h : Reads (bytes ++ more
     let within : length (print_request x.head) ≤ length bytes = grind (arith, nat_tests, e, size) in
     none (record { head = x.head; rest = drop (length (print_request x.head)) bytes }) (h.0, shorter (print_request x.head) x.rest bytes more h.1 within)
 
-headless_more : (bytes more : List ℕ) → nat_lt 8192 (length bytes) ≡ true → headless bytes ≡ headless (bytes ++ more)
+headless_more : (bytes more : List ℕ) → nat_lt 8192 (length bytes) ≡ true → fault_without_head bytes ≡ fault_without_head (bytes ++ more)
 headless_more bytes more e =
     let longer : nat_lt 8192 (length (bytes ++ more)) ≡ true = grind (arith, nat_tests, e, length-append bytes more) in
     rw (e, longer) refl
@@ -146,9 +146,9 @@ whole_stays bytes more r w j =
 
 pub whole_by_parts : (x : Received) (method target rest : List ℕ) (ps : List (List ℕ × List ℕ))
     → method ≡ x.head.method → target ≡ x.head.target → ps ≡ fields x → rest ≡ x.rest
-    → whole_by (sought_on (route_of target) method (said ps)) rest ≡ whole_by (sought x) x.rest
+    → whole_by (sought_on (route_of_target target) method (said ps)) rest ≡ whole_by (sought x) x.rest
 whole_by_parts x method target rest ps m t p r =
-    ap (λ (w : List ℕ). whole_by (sought_on (route_of w) method (said ps)) rest) t
-    ∙ ap (λ (w : List ℕ). whole_by (sought_on (route_of x.head.target) w (said ps)) rest) m
-    ∙ ap (λ (w : List (List ℕ × List ℕ)). whole_by (sought_on (route_of x.head.target) x.head.method (said w)) rest) p
+    ap (λ (w : List ℕ). whole_by (sought_on (route_of_target w) method (said ps)) rest) t
+    ∙ ap (λ (w : List ℕ). whole_by (sought_on (route_of_target x.head.target) w (said ps)) rest) m
+    ∙ ap (λ (w : List (List ℕ × List ℕ)). whole_by (sought_on (route_of_target x.head.target) x.head.method (said w)) rest) p
     ∙ ap (whole_by (sought x)) r

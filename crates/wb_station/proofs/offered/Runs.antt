@@ -8,7 +8,7 @@ use Rattle.wb_station.specs.declared.event.Event.TheVariants.{Reading, Byte, Han
 use Rattle.wb_station.specs.Account.{Account, IsAccount, IsOut, Out}
 use Rattle.wb_station.specs.Happening.{Happening, happening, unmarked}
 use Rattle.wb_station.specs.RunOfEvents.{IsParted, Leads, Ran, RunsLead}
-use Rattle.wb_station.specs.Stands.{IsReplied, Stands, Took}
+use Rattle.wb_station.specs.Stands.{IsReplied, StationStands, Took}
 
 pub unmarked_happening : (unmade : Bool) (e : Event) → unmarked (happening unmade e) ≡ happening false e
 unmarked_happening unmade (Reading r) = refl
@@ -35,8 +35,8 @@ module _ {D : Type 0} (g : Ghosts D) where
   -- ---- where a run leads
 
   module _ (p : Happening) (out : Out) (t : TerminalState) (j : StoreView D) (t' : TerminalState) (j' : StoreView D) (took : Took g p out t j t' j') (opening : Account) (h : List Happening)
-      (stood : Stands g opening t j h) (honest : IsHonest g j') where
-    stands_on : Stands g opening t' j' (p ∷ h)
+      (stood : StationStands g opening t j h) (honest : IsHonest g j') where
+    stands_on : StationStands g opening t' j' (p ∷ h)
     stands_on =
         let came = took.comes opening h stood honest in
         record {

@@ -9,9 +9,9 @@ use Rattle.wb_station.specs.declared.head.Head.{Head}
 use Rattle.wb_station.specs.declared.request.Sought.{Sought}
 use Rattle.wb_station.specs.declared.routes.Route.{Route}
 use Rattle.wb_station.specs.Form.{IsPlain}
-use Rattle.wb_station.specs.Judgement.{asked_by, has_form}
+use Rattle.wb_station.specs.HttpJudgement.{asked_by, has_form}
 use Rattle.wb_station.specs.RequestBytes.{Received, fields}
-use Rattle.wb_station.specs.Routes.{method_of, method_text, route_of}
+use Rattle.wb_station.specs.Routes.{method_of, method_text, route_of_target}
 use Rattle.wb_station.specs.helpers.LengthSaid.{pairs, said}
 
 abbrev pub with_length : Route → Result ℕ HttpFault → Result Sought HttpFault
@@ -33,11 +33,11 @@ sought_on None method length = Err NoRoute
 sought_on (Some route) method length = sought_at (method_of route) route method length
 
 abbrev pub sought : Received → Result Sought HttpFault
-sought x = sought_on (route_of x.head.target) x.head.method (said (fields x))
+sought x = sought_on (route_of_target x.head.target) x.head.method (said (fields x))
 
 -- the same of a head that is given by its parts
 abbrev pub sought_in : Head → Result Sought HttpFault
-sought_in h = sought_on (route_of h.target.now) h.method.now (said (pairs h))
+sought_in h = sought_on (route_of_target h.target.now) h.method.now (said (pairs h))
 
 -- the answer to what is sought, of a target and what follows the head
 abbrev pub answered : Sought → List ℕ → List ℕ → Result Request HttpFault

@@ -5,9 +5,9 @@ use Rattle.std.specs.Cow.{cow_str_bytes}
 use Rattle.std.specs.declared.borrow.CowStr.{CowStr}
 
 -- what was found so far
-abbrev pub listed : Option (Bor (List ℕ)) → List (List ℕ)
-listed None = []
-listed (Some one) = one.now ∷ []
+abbrev pub bytes_found : Option (Bor (List ℕ)) → List (List ℕ)
+bytes_found None = []
+bytes_found (Some one) = one.now ∷ []
 
 abbrev pub as_bytes : {E : Type 0} → Result (Bor (List ℕ)) E → Result (List ℕ) E
 as_bytes (Ok one) = Ok one.now

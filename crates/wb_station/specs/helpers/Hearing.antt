@@ -2,9 +2,9 @@
 use Rattle.std.specs.Prelude.{◌≡◌, List, [], ◌∷◌}
 use Rattle.wb_sics.specs.declared.reply.Reply.{Reply}
 use Rattle.wb_sics.specs.Event as terminal
-use Rattle.wb_sics.specs.Event.{Event}
+use Rattle.wb_sics.specs.Event.{TerminalEvent}
 use Rattle.wb_sics.specs.Replies.{replies}
-use Rattle.wb_sics.specs.Stands.{Stands, TakesAll, TerminalState}
+use Rattle.wb_sics.specs.Stands.{TerminalStands, TerminalState, TerminalTakesAll}
 use Rattle.wb_station.specs.declared.event.AtTerminal.{AtTerminal}
 use Rattle.wb_station.specs.declared.event.AtTerminal.TheVariants.{Byte, Hangup, Reading}
 use Rattle.wb_station.specs.declared.event.Room.{Room}
@@ -12,12 +12,12 @@ use Rattle.wb_station.specs.declared.event.Room.TheVariants.{Nothing, Replies}
 use Rattle.wb_window.specs.Reading.{IsReading}
 
 -- the load of a reading is in its range
-abbrev pub IsReadable : AtTerminal → Type 0
-IsReadable (Reading r) = IsReading r
-IsReadable (Byte b) = Unit {0}
-IsReadable Hangup = Unit {0}
+abbrev pub IsEventInRange : AtTerminal → Type 0
+IsEventInRange (Reading r) = IsReading r
+IsEventInRange (Byte b) = Unit {0}
+IsEventInRange Hangup = Unit {0}
 
-abbrev pub event_of : AtTerminal → Event
+abbrev pub event_of : AtTerminal → TerminalEvent
 event_of (Reading r) = terminal.reading r
 event_of (Byte b) = terminal.byte b
 event_of Hangup = terminal.hang_up
@@ -29,13 +29,13 @@ room_of (Byte b) = Replies
 room_of Hangup = Nothing
 
 -- they are the replies to it
-abbrev pub AreReplies : AtTerminal → TerminalState → List Reply → Type 0
-AreReplies (Reading r) t rs = (events : List Event) → Stands t events → rs ≡ replies t.scale.setup (terminal.reading r ∷ events)
-AreReplies (Byte b) t rs = (events : List Event) → Stands t events → rs ≡ replies t.scale.setup (terminal.byte b ∷ events)
-AreReplies Hangup t rs = Unit {0}
+abbrev pub AreRepliesTo : AtTerminal → TerminalState → List Reply → Type 0
+AreRepliesTo (Reading r) t rs = (events : List TerminalEvent) → TerminalStands t events → rs ≡ replies t.scale.setup (terminal.reading r ∷ events)
+AreRepliesTo (Byte b) t rs = (events : List TerminalEvent) → TerminalStands t events → rs ≡ replies t.scale.setup (terminal.byte b ∷ events)
+AreRepliesTo Hangup t rs = Unit {0}
 
 -- the terminal took it, and left these replies in that room
 pub record Heard (event : AtTerminal) (t t' : TerminalState) (rs : List Reply) (room : Room) : Type 0 where
-  pub takes : TakesAll t t' (event_of event ∷ [])
+  pub takes : TerminalTakesAll t t' (event_of event ∷ [])
   pub in_room : room ≡ room_of event
-  pub replies : AreReplies event t rs
+  pub replies : AreRepliesTo event t rs

@@ -5,7 +5,7 @@ use Rattle.httparse.specs.Spans.{header_bytes}
 use Rattle.wb_station.specs.declared.fault.HttpFault.{HttpFault}
 use Rattle.wb_station.specs.declared.fault.HttpFault.TheVariants.{Malformed, NoLength, TooLarge}
 use Rattle.wb_station.specs.declared.head.Head.{Head}
-use Rattle.wb_station.specs.BodyLength.{is_number}
+use Rattle.wb_station.specs.BodyLength.{is_number_text}
 use Rattle.wb_station.specs.RequestBytes.{values}
 use Rattle.std.specs.Str.Parse.{digits_value}
 
@@ -28,7 +28,7 @@ said_number number = if nat_lt 1024 number then Err TooLarge else Ok number
 
 -- the length that one text writes
 abbrev pub said_text : List ℕ → Result ℕ HttpFault
-said_text text = if is_number text then said_number (digits_value 10 text) else Err Malformed
+said_text text = if is_number_text text then said_number (digits_value 10 text) else Err Malformed
 
 abbrev pub said_values : List (List ℕ) → Result ℕ HttpFault
 said_values [] = Err NoLength

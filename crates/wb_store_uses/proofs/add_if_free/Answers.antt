@@ -1,6 +1,6 @@
 use Rattle.std.proofs.Common.{◌≡◌, ◌∙◌, false, rules, sym}
 use Rattle.std.specs.List.{list_any}
-use Rattle.wb_store.specs.Lists.{has_key, is_spent, next_number}
+use Rattle.wb_store.specs.Lists.{has_key, is_spent, number_after}
 use Rattle.wb_store_uses.proofs.Callers.{left, none_passes}
 use Rattle.wb_store_uses.proofs.add_if_free.Goals as goal
 
@@ -30,7 +30,7 @@ returns g c = λ es ks s h.
     let found = c.in_ok-by_key.ensures.found es ks s h1 in
     let gone = c.in_ok-spent.ensures.found es ks first.0 h2 in
     let next = c.in_ok-next_number.ensures.found es ks second.0 h3 in
-    let number : c.args.entry.now.number ≡ next_number es ks = search (rules, next, c.number.ensures.value, c.from.ensures, c.if-branch-from.false) in
+    let number : c.args.entry.now.number ≡ number_after es ks = search (rules, next, c.number.ensures.value, c.from.ensures, c.if-branch-from.false) in
     let free : list_any (has_key c.args.entry.now.key) es ≡ false = none_passes (has_key c.args.entry.now.key) es (rw (found, c.key.ensures.value) at (sym c.is_some.ensures ∙ c.if-is_some.false)) in
     let unspent : is_spent ks c.args.entry.now.key ≡ false = rw c.key-2.ensures.value at (sym gone ∙ c.if-branch.false) in
     c.in_ok-append.ensures.added es ks third.0 (record { number = number; free = free; unspent = unspent }) h

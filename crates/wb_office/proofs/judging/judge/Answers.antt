@@ -1,5 +1,5 @@
 use Rattle.std.proofs.Common.{rules, ◌≡◌, ◌∙◌, sym, ap, Err, Some, None}
-use Rattle.wb_office.proofs.Common.{partner_of, AreLists, by_key}
+use Rattle.wb_office.proofs.Common.{partner_of, AreLists, entry_by_key}
 use Rattle.wb_office.proofs.LookUps.{also, made, nothing_told, reads, stood, stop, then_told, told}
 use Rattle.wb_office.proofs.judging.judge.Goals as goal
 
@@ -16,7 +16,7 @@ returns-in_ok-partner-in-Some-clause-looks g c =
     let two = reads g.D.Store c.in_ok-partner-in-Some.ensures.keeps c.in_ok-partner-in-Some.ensures.closes in
     told g.D.Store (made g.D.Store _ _ (also g.D.Store one two)) (λ es ks s h2 a asks scale lists.
     let h1 = c.in_ok-partner-in-Some.ensures.closes.honest h2 in
-    let found : by_key es c.args.asked.key ≡ Some c.in-Some.entry = sym (c.in_ok-entry.ensures.found es ks s h1) ∙ c.in-Some.is in
+    let found : entry_by_key es c.args.asked.key ≡ Some c.in-Some.entry = sym (c.in_ok-entry.ensures.found es ks s h1) ∙ c.in-Some.is in
     let paired : c.in_ok-partner-in-Some.partner ≡ partner_of es c.in-Some.entry.number =
     c.in_ok-partner-in-Some.ensures.found es ks (stood g.D.Store one s h1) h2 ∙ ap (partner_of es) c.number.ensures.value in
     let are_lists : AreLists a.now.entries a.now.spent = rw (lists.entries, lists.spent) s.rests.holds.lists in
@@ -26,5 +26,5 @@ pub returns-in-None-clause-looks : goal.returns-in-None-clause-looks
 returns-in-None-clause-looks g c =
     let one = reads g.D.Store c.in_ok-entry.ensures.keeps c.in_ok-entry.ensures.closes in
     then_told g.D.Store one c.judge_new.ensures.looks (λ es ks s h1 y tells a asks scale lists.
-    let none : by_key es c.args.asked.key ≡ None = sym (c.in_ok-entry.ensures.found es ks s h1) ∙ c.in-None.is in
+    let none : entry_by_key es c.args.asked.key ≡ None = sym (c.in_ok-entry.ensures.found es ks s h1) ∙ c.in-None.is in
     tells a asks scale lists (rw (lists.entries, asks.of_key) none))

@@ -1,5 +1,5 @@
 use Rattle.std.proofs.Common.{rules, ◌≡◌, ◌∙◌, sym, None, refl}
-use Rattle.wb_office.proofs.Common.{has_key, first_refusal, new_entry, of_new}
+use Rattle.wb_office.proofs.Common.{has_key, first_refusal, entry_added, of_new}
 use Rattle.wb_office.proofs.FoundEntries.{find_none, is_some_same}
 use Rattle.wb_office.proofs.Verdicts.{by_condition, by_none}
 use Rattle.wb_office.proofs.judging.judge_evidence.Goals as goal
@@ -11,7 +11,7 @@ pub returns-in-Some-new_entry-clause-judged : goal.returns-in-Some-new_entry-cla
 returns-in-Some-new_entry-clause-judged c = λ a asks setup shows none ungone.
     let unrefused : c.refusal.result ≡ None = search (rules, c.in_default.is) in
     let free : first_refusal of_new a ≡ None = sym (c.refusal.ensures.judged a shows) ∙ unrefused in
-    let entry : c.in-Some-new_entry.entry ≡ new_entry a = is_some_same (sym c.in-Some-new_entry.is ∙ c.new_entry.ensures a shows asks.of_key asks.of_plate setup free) in
+    let entry : c.in-Some-new_entry.entry ≡ entry_added a = is_some_same (sym c.in-Some-new_entry.is ∙ c.new_entry.ensures a shows asks.of_key asks.of_plate setup free) in
     rw entry (record {
       judged = by_none a none ungone free;
       paired = shows.journal_shown.open_one;

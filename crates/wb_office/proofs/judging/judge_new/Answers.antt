@@ -1,5 +1,5 @@
 use Rattle.std.proofs.Common.{rules, ◌≡◌, ◌∙◌, sym, ap, Err, true, false}
-use Rattle.wb_office.proofs.Common.{is_spent, gone}
+use Rattle.wb_office.proofs.Common.{is_spent, key_gone}
 use Rattle.wb_office.specs.helpers.EvidenceShown.{ShowsJournal}
 use Rattle.wb_office.proofs.LookUps.{also, made, nothing_told, reads, stood, stop, told}
 use Rattle.wb_office.proofs.Verdicts.{by_spent}
@@ -26,7 +26,7 @@ returns-clause-looks g c =
     told g.D.Store (made g.D.Store _ _ (also g.D.Store one two)) (λ es ks s h2 a asks scale lists none.
     let h1 = c.in_ok-journal.ensures.closes.honest h2 in
     let isnt : is_spent ks c.args.asked.key ≡ false = sym (c.in_ok-spent.ensures.found es ks s h1) ∙ c.if-branch.false in
-    let ungone : gone a ≡ false = rw (lists.spent, asks.of_key) isnt in
+    let ungone : key_gone a ≡ false = rw (lists.spent, asks.of_key) isnt in
     let setup : a.now.setup ≡ c.instrument-instrument.result.now = scale.setup ∙ sym c.instrument-instrument.ensures.value in
     let journal : ShowsJournal c.in_ok-journal.journal a.plate a.now.entries a.now.spent = rw (asks.of_plate, lists.entries, lists.spent) (c.in_ok-journal.ensures.tells es ks (stood g.D.Store one s h1) h2) in
     c.judge_evidence.ensures.judged a asks setup (record {

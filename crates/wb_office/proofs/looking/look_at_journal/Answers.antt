@@ -1,5 +1,5 @@
 use Rattle.std.proofs.Common.{◌≡◌, ◌∙◌, ℕ, List, Err, Ok, rules, sym}
-use Rattle.wb_office.proofs.Common.{EntryParts, SpentKey, IsHonest, Stands, next_number}
+use Rattle.wb_office.proofs.Common.{EntryParts, SpentKey, IsHonest, StoreStands, number_after}
 use Rattle.wb_store.proofs.offered.LaterLists.{next_from_newest}
 use Rattle.wb_office.proofs.LookUps.{Reads, also, made, nothing_told, reads, stood, stop, told}
 use Rattle.wb_office.proofs.looking.look_at_journal.Goals as goal
@@ -48,7 +48,7 @@ returns g c =
     let all = also g.D.Store (also g.D.Store (also g.D.Store one two) three) four in
     let mid = c.open_of.new.self in
     let last : Reads g.D.Store c.args.store.now c.match-newest.store {X = ℕ} (Ok c.match-newest.next_number) × (IsHonest g.D.Store c.match-newest.store → IsHonest g.D.Store mid)
-    × ((es : List EntryParts) (ks : List SpentKey) → Stands g.D.Store c.args.store.now es ks → IsHonest g.D.Store c.match-newest.store → c.match-newest.next_number ≡ next_number es ks) =
+    × ((es : List EntryParts) (ks : List SpentKey) → StoreStands g.D.Store c.args.store.now es ks → IsHonest g.D.Store c.match-newest.store → c.match-newest.next_number ≡ number_after es ks) =
     elim c.match-newest.branch [
       | in-Some w ↦ rw (w.store-is, w.next_number-is) (
         made g.D.Store _ _ all,

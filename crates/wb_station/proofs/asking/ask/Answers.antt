@@ -1,6 +1,6 @@
 use Rattle.std.proofs.Common.{subst}
 use Rattle.wb_station.specs.Account.{responded}
-use Rattle.wb_station.specs.Judgement.{IsJudged}
+use Rattle.wb_station.specs.HttpJudgement.{IsJudged}
 use Rattle.wb_station.proofs.OfficeRequests.{fault_took}
 use Rattle.wb_station.proofs.asking.ask.Goals as goal
 

@@ -1,10 +1,10 @@
 use Rattle.std.proofs.Common.{◌≡◌, ◌++◌, drop, map}
 use Rattle.httparse.specs.Spans.{header_bytes}
 use Rattle.wb_station.specs.RequestBytes.{values}
-use Rattle.wb_station.specs.helpers.FoundBytes.{listed}
+use Rattle.wb_station.specs.helpers.FoundBytes.{bytes_found}
 use Rattle.wb_station.proofs.body_length.value_of.Given as goal
 
 abbrev pub invariant-loop-field : goal.invariant-loop-field
 invariant-loop-field l =
     values l.name (map (header_bytes l.head.front.now) l.head.fields.now)
-    ≡ listed l.found ++ values l.name (map (header_bytes l.head.front.now) (drop l.field-index l.head.fields.now))
+    ≡ bytes_found l.found ++ values l.name (map (header_bytes l.head.front.now) (drop l.field-index l.head.fields.now))

@@ -1,6 +1,6 @@
 use Rattle.std.proofs.Common.{refl, subst, Result, Some}
 use Rattle.wb_office.specs.declared.request.Request.{Request as Asked}
-use Rattle.wb_station.specs.Judgement.{judged}
+use Rattle.wb_station.specs.HttpJudgement.{judgement_of}
 use Rattle.wb_station.specs.UnlessMemoryRefused.{IsOf}
 use Rattle.wb_station.specs.declared.fault.HttpFault.{HttpFault as Fault}
 use Rattle.wb_station.proofs.judgement.AskedByHead.{judged_by_parts}
@@ -13,7 +13,7 @@ returns-clause-judged g c =
     let there = c.in_ok-places.ensures.read.1 in
     let parts = c.head_at.ensures.head x there in
     let same = judged_by_parts x _ _ _ _ parts.method parts.target parts.fields parts.rest in
-    (judged x, (Some x, there.reads, refl), subst (λ (r : Result Asked Fault). IsOf r c.request_of_head.result) same c.request_of_head.ensures.value)
+    (judgement_of x, (Some x, there.reads, refl), subst (λ (r : Result Asked Fault). IsOf r c.request_of_head.result) same c.request_of_head.ensures.value)
 
 pub returns-clause-memory : goal.returns-clause-memory
 returns-clause-memory g c = λ wants.

@@ -1,11 +1,11 @@
 use Rattle.std.proofs.Common.{◌≡◌, ℕ, List, Result, Ok, Err}
 use Rattle.std.specs.Prelude.{OnOk}
-use Rattle.wb_station.specs.Response.{IsDateOf, IsResponse, response_text, told}
+use Rattle.wb_station.specs.Response.{IsDateOf, IsResponse, response_content, response_text}
 use Rattle.wb_station.specs.declared.outcome.Outcome.{Outcome}
 use Rattle.wb_station.proofs.response.response_bytes.Goals as goal
 
 on_ok : {E : Type 0} (r : Result (Unit {0}) E) (moment : ℕ) (outcome : Outcome) (date bytes : List ℕ)
-    → IsDateOf moment date → OnOk r (bytes ≡ response_text (told outcome) date) → OnOk r (IsResponse moment outcome bytes)
+    → IsDateOf moment date → OnOk r (bytes ≡ response_text (response_content outcome) date) → OnOk r (IsResponse moment outcome bytes)
 on_ok (Ok u) moment outcome date bytes d h = (date, d, h)
 on_ok (Err e) moment outcome date bytes d h = h
 

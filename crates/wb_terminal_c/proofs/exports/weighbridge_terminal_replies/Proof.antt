@@ -2,7 +2,7 @@
 -- terminal is lent for the call of `count`, and comes back at its last value.
 use Rattle.wb_terminal_c.proofs.Steps.{◌≡◌, ℕ, length, subst, List, [], ◌∷◌, refl, sym, ap, ◌∙◌, w64, proved, full_share, id⊢, ftrue, flft, flent, fex, fsep, named, vint, vptr, fact, tables, WpFn, ‵, raw, ◌⊛◌, some, later, at_ret, ◌$◌, ◌∵◌, !, qed, done, by, move, keep, drop, use1, use3, split, join, fsplit, fjoin, fpack, fpick, pick, await, suffices, frame, group, enter, of_opd, lit, bin, addr, stop, no_more, and_then, first, branches, skips, exec, returns, returns_within, alloc_all, pass_all, free_all, look_at, get, through, sets, lands_as, env, Body, lft_new, lft_end, usize, yes, Is, shows, mem, part_at, uint_Makes, uint_Lawful, Ptr, RawPtr, block_ptr, lies_at, rawptr_vals, rawptr_Tells, MutRef, lends_ref, ref_back, plain, nothing, owned, heard, peeks, calls_at, lasts, on_entry, triple_of, framed, Stays, walk_of, says, stay_dropped, Goes-dropped, ends_at, lit<, if_non_null, null_ptr, Testable, tests_null, Logic, sem, SProp, ent, Ura, Model, Wired, Running}
 use Rattle.wb_instrument.specs.Setup.{Setup}
-use Rattle.wb_sics.specs.Event.{Event}
+use Rattle.wb_sics.specs.Event.{TerminalEvent}
 use Rattle.wb_terminal_c.specs.Keeps.{Keeps}
 use Rattle.wb_terminal_c.specs.Placed.{terminal_at}
 use Rattle.wb_terminal_c.specs.declared.handle.Handle.{Handle}
@@ -16,8 +16,8 @@ use Rattle.wb_terminal_c.proofs.handle.count.Met.{met}
 abbrev stayed : Stays f.ended.signature.params f.ended.kept
 stayed = (stay_dropped _ yes, tt)
 
-module _ {M : Type 1} (𝓤 : Ura M) (𝓛 : Logic 𝓤) (𝓜 : Model 𝓤 𝓛.H) (𝓡 : Running 𝓤 𝓛.H 𝓜) (wired : Wired 𝓡.env code.code) (s : Setup) (h : List Event) where
-  abbrev now : List Event
+module _ {M : Type 1} (𝓤 : Ura M) (𝓛 : Logic 𝓤) (𝓜 : Model 𝓤 𝓛.H) (𝓡 : Running 𝓤 𝓛.H 𝓜) (wired : Wired 𝓡.env code.code) (s : Setup) (h : List TerminalEvent) where
+  abbrev now : List TerminalEvent
   now = h
 
   abbrev y : Ptr → (walk_of 𝓛 f.ended stayed (f.clauses 𝓛 𝓜.mem 𝓡.returns)).Ghost

@@ -3,7 +3,7 @@
 -- and the buffer is given to it for good.
 use Rattle.wb_terminal_c.proofs.Steps.{◌≡◌, ℕ, length, subst, List, [], ◌∷◌, ◌++◌, refl, sym, ap, ◌∙◌, w64, MutBor, proved, full_share, id⊢, Fml, ftrue, flft, fres, flent, fex, fsep, named, vint, vptr, fact, tables, WpFn, ‵, raw, ◌⊛◌, some, later, at_ret, ◌$◌, ◌∵◌, !, qed, done, by, move, keep, drop, use1, use3, split, join, fsplit, fjoin, fpack, fpick, feq_l, pick, await, suffices, frame, group, enter, of_opd, lit, bin, addr, stop, fld, hop, no_more, and_then, first, branches, skips, exec, returns, returns_within, alloc_all, pass_all, free_all, look_at, get, through, sets, lands_as, env, Body, lft_new, lft_end, u8, usize, yes, Is, shows, mem, part_at, uint_Makes, uint_vals, uint_Tells, uint_Lawful, Ptr, RawPtr, block_ptr, lies_at, rawptr_vals, rawptr_Tells, MutRef, lends_ref, ref_back, plain, nothing, owned, heard, peeks, calls_at, lasts, triple_of, framed, Stays, walk_of, says, stay_dropped, Goes-dropped, ends_at, owns, get_in, look_in_at, from, whole, sub, agg, MutSlice, mut_slice_vals, mut_slice_Tells, finally, gave_slice, Goes-gave_slice, lit<, ◌<◌, ◌^◌, if_non_null, null_ptr, Testable, tests_null, Logic, sem, SProp, ent, Ura, Model, Wired, Running, Lft, Share}
 use Rattle.wb_instrument.specs.Setup.{Setup}
-use Rattle.wb_sics.specs.Event.{Event}
+use Rattle.wb_sics.specs.Event.{TerminalEvent}
 use Rattle.wb_terminal_c.specs.Keeps.{Keeps}
 use Rattle.wb_terminal_c.specs.Placed.{terminal_at}
 use Rattle.wb_terminal_c.specs.declared.handle.Handle.{Handle}
@@ -20,7 +20,7 @@ use denote.Slice.{coded_holeys, heres, res-finally}
 abbrev stayed : Stays f.ended.signature.params f.ended.kept
 stayed = (stay_dropped _ yes, (stay_dropped _ yes, (gave_slice (0 ∷ []) tt (plain (λ _. u8)), tt)))
 
-module _ {M : Type 1} (𝓤 : Ura M) (𝓛 : Logic 𝓤) (𝓜 : Model 𝓤 𝓛.H) (𝓡 : Running 𝓤 𝓛.H 𝓜) (wired : Wired 𝓡.env code.code) (κ : Lft) (q : Share) (k : ℕ) (number : Is usize k (uint_vals w64 k)) (buffer : MutBor (List ℕ)) (room : length buffer.now < 2 ^ 64) (s : Setup) (h : List Event) where
+module _ {M : Type 1} (𝓤 : Ura M) (𝓛 : Logic 𝓤) (𝓜 : Model 𝓤 𝓛.H) (𝓡 : Running 𝓤 𝓛.H 𝓜) (wired : Wired 𝓡.env code.code) (κ : Lft) (q : Share) (k : ℕ) (number : Is usize k (uint_vals w64 k)) (buffer : MutBor (List ℕ)) (room : length buffer.now < 2 ^ 64) (s : Setup) (h : List TerminalEvent) where
   abbrev y : Ptr → (walk_of 𝓛 f.ended stayed (f.clauses 𝓛 𝓜.mem 𝓡.returns)).Ghost
   y p = (((κ, tt), (q, tt), tt, (p, (k, (buffer, tt))), (rawptr_vals p, (uint_vals w64 k, (mut_slice_vals buffer, tt)))), (s, h))
 

@@ -1,10 +1,10 @@
 use Rattle.std.proofs.Common.{◌≡◌, true, Some, refl, sym, ◌∙◌}
 use Rattle.std.specs.Str.Parse.{digits_value}
-use Rattle.wb_text.specs.Digits.{are_digits}
+use Rattle.wb_text.specs.Digits.{is_numeral}
 use Rattle.wb_text.proofs.Numerals.{digits-few, digits-parsed, digits-signed, digits-small, digits-utf8}
 use Rattle.wb_text.proofs.decimal.digits.Goals as goal
 
-yes : (c : goal.After-ok) → are_digits c.args.most c.args.text.now ≡ true
+yes : (c : goal.After-ok) → is_numeral c.args.most c.args.text.now ≡ true
 yes c = sym c.are_digits.ensures ∙ c.if-not-are_digits.false
 
 parsed : (c : goal.After-ok) → c.ok.result ≡ Some (digits_value 10 c.args.text.now)
@@ -24,5 +24,5 @@ returns-in-Ok-clause-signed c = rw (parsed c) (digits-signed c.args.most c.args.
 
 pub returns-in-Err-clause-value : goal.returns-in-Err-clause-value
 returns-in-Err-clause-value c =
-    let yes : are_digits c.args.most c.args.text.now ≡ true = sym c.are_digits.ensures ∙ c.if-not-are_digits.false in
+    let yes : is_numeral c.args.most c.args.text.now ≡ true = sym c.are_digits.ensures ∙ c.if-not-are_digits.false in
     absurd (c.in-Err.ensures.cases.0 (digits-utf8 c.args.most c.args.text.now yes))

@@ -1,5 +1,5 @@
 use Rattle.std.proofs.Common.{sym, refl, ap, ◌∙◌}
-use Rattle.wb_office.proofs.Common.{indication_text}
+use Rattle.wb_office.proofs.Common.{text_of_indication}
 use Rattle.wb_journal.specs.declared.kind.Kind.TheVariants as kind
 use Rattle.wb_office.specs.declared.request.Request.TheVariants as request
 use Rattle.wb_office.proofs.Serving.{serves_weighing}
@@ -40,7 +40,7 @@ returns-in-Indication-clause-outright g c = λ asks.
       (
         c.indication_text.result.bytes,
         refl,
-        λ calls stood. c.indication_text.ensures ∙ ap (λ s. indication_text s c.indicated.result) c.instrument.ensures.value
-            ∙ ap (indication_text c.args.scale.now.setup) (c.indicated.ensures.value calls stood),
+        λ calls stood. c.indication_text.ensures ∙ ap (λ s. text_of_indication s c.indicated.result) c.instrument.ensures.value
+            ∙ ap (text_of_indication c.args.scale.now.setup) (c.indicated.ensures.value calls stood),
       ),
     )

@@ -2,7 +2,7 @@ use Rattle.std.proofs.Common.{◌≡◌, arith, of_z, pos, sym, to_z, w32, ◌�
 use Rattle.std.proofs.lemmas.Int.{ints}
 use Rattle.wb_instrument.specs.Limits.{tracking_gap}
 use Rattle.wb_scale.specs.helpers.After.{IsRefused, IsTarget, pause_from, seen}
-use Rattle.wb_scale.specs.Stands.{Stands}
+use Rattle.wb_scale.specs.Stands.{ScaleStands}
 use Rattle.wb_scale.specs.State.{State}
 use Rattle.wb_scale.proofs.Standing.{IsScale-seen, Stands-read, Takes-behind}
 use Rattle.wb_scale.proofs.Zeros.{IsScale-zeroed, Stands-read_only, Stands-read_zeroed, target_answer-seen}
@@ -33,7 +33,7 @@ invariant_of-self-in-Ok g c =
 pub returns-in-Ok-clause-answer : goal.returns-in-Ok-clause-answer
 returns-in-Ok-clause-answer g c = λ h st.
     let s = before g c in
-    let from : Stands s h = rw c.self.view_is st in
+    let from : ScaleStands s h = rw c.self.view_is st in
     let is = target g c in
     rw (← c.self.view_is) (sym is.done ∙ target_answer-seen s c.args.reading h c.self.invariant from)
 
@@ -52,7 +52,7 @@ refused g c = rw c.read.ensures at c.in-Err.ensures.err
 pub returns-in-Err-clause-answer : goal.returns-in-Err-clause-answer
 returns-in-Err-clause-answer g c = λ h st.
     let s = earlier g c in
-    let from : Stands s h = rw c.self.view_is st in
+    let from : ScaleStands s h = rw c.self.view_is st in
     let is = refused g c in
     rw (← c.self.view_is) (sym is.is ∙ target_answer-seen s c.args.reading h c.self.invariant from)
 

@@ -5,7 +5,7 @@ use Rattle.wb_scale.specs.declared.answers.TareNow.TheVariants.{Weighed}
 use Rattle.wb_scale.specs.helpers.After.{above, balance_answer}
 use Rattle.wb_scale.specs.Call.{tare}
 use Rattle.wb_scale.specs.Moment.{nothing}
-use Rattle.wb_scale.specs.Stands.{Stands}
+use Rattle.wb_scale.specs.Stands.{ScaleStands}
 use Rattle.wb_scale.specs.Tare.{tare_kg}
 use Rattle.wb_scale.specs.State.{State}
 use Rattle.wb_scale.specs.Zero.{last_load}
@@ -26,7 +26,7 @@ tared g c = rw (load g c) (rw (c.stable-stable.ensures, c.in-Ok.ensures.ok.0) at
 pub returns-in-Ok-clause-answer : goal.returns-in-Ok-clause-answer
 returns-in-Ok-clause-answer g c = λ h st.
     let s = before g c in
-    let from : Stands s h = rw c.self.view_is st in
+    let from : ScaleStands s h = rw c.self.view_is st in
     let tenths : to_z w32 (of_z w32 c.in-Ok.tenths) ≡ c.in-Ok.tenths = omega (arith, ints) in
     let kg = rw tenths at c.tare_kilograms.ensures in
     let same : to_z w32 (of_z w32 c.tare_kilograms.result) ≡ c.tare_kilograms.result = omega (arith, ints) in
@@ -41,7 +41,7 @@ returns-in-Ok-clause-takes g c =
 pub returns-in-Err-clause-answer : goal.returns-in-Err-clause-answer
 returns-in-Err-clause-answer g c = λ h st.
     let s : State = record { setup = c.self.inside.instrument; held = g.W.Window.held c.self.inside.window; zero = c.self.inside.zero; pause = c.self.inside.pause; tare = c.self.inside.tare; cleared = c.self.inside.cleared } in
-    let from : Stands s h = rw c.self.view_is st in
+    let from : ScaleStands s h = rw c.self.view_is st in
     let load : c.above_zero.result ≡ above (last_load s.held.readings) s.zero = subst (λ (t : State). c.above_zero.result ≡ above (last_load t.held.readings) t.zero) (sym c.self.view_is) c.above_zero.ensures.value in
     let answer : balance_answer s ≡ c.in-Err.answer = rw (c.stable-stable.ensures, load) at c.in-Err.ensures.err in
     rw (← c.self.view_is) (sym answer ∙ balance_answer-held s h c.self.invariant from)

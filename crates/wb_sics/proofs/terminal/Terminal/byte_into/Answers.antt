@@ -4,7 +4,7 @@ use Rattle.std.proofs.lemmas.Bool.Decides.{nat_tests}
 use Rattle.wb_sics.specs.Calls.{calls}
 use Rattle.wb_sics.specs.Event.{byte}
 use Rattle.wb_sics.specs.Lines.{line_command}
-use Rattle.wb_sics.specs.Stands.{Stands}
+use Rattle.wb_sics.specs.Stands.{TerminalStands}
 use Rattle.wb_sics.proofs.Standing.{Performs, Stands-at, StandsAt-byte, StandsAt-line, Takes-behind, kept, replies-byte, replies-line}
 use Rattle.wb_sics.proofs.UnfinishedLine.{line_command-kept}
 use Rattle.wb_sics.proofs.terminal.Terminal.byte_into.Goals as goal
@@ -45,7 +45,7 @@ returns-clause-replies g c = λ h st.
     let i = s.scale.setup in
     let b = c.perform-waiting.new.scale in
     let command = c.kept_command-command.result in
-    let from : Stands (kept s.scale s.waiting s.repeating s.line.items) h = rw c.self.view_is st in
+    let from : TerminalStands (kept s.scale s.waiting s.repeating s.line.items) h = rw c.self.view_is st in
     let lf : (c.args.byte == 10) ≡ true = grind (arith, nat_tests) in
     let is : command ≡ line_command h = line_command-kept c.as_slice.result.now h command (c.as_slice.ensures.value ∙ from.now.line) c.kept_command-command.ensures in
     let did : Performs i (calls i h) command b s.waiting c.perform-waiting.result c.perform-waiting.new.replies.items = record {

@@ -2,7 +2,7 @@ use Rattle.std.proofs.Common.{◌++◌}
 use Rattle.wb_sics.specs.Calls.{calls}
 use Rattle.wb_sics.specs.Event.{reading}
 use Rattle.wb_sics.specs.helpers.Kept.{asked_waiting}
-use Rattle.wb_sics.specs.Stands.{Stands}
+use Rattle.wb_sics.specs.Stands.{TerminalStands}
 use Rattle.wb_sics.proofs.Standing.{Reads, Stands-at, StandsAt-reading, Takes-behind, kept, replied, replies-reading}
 use Rattle.wb_sics.proofs.terminal.Terminal.reading_into.Goals as goal
 
@@ -28,7 +28,7 @@ returns-clause-replies g c = λ h st.
     let s = c.self.inside in
     let i = s.scale.setup in
     let b = c.take_reading-waiting.new.scale in
-    let from : Stands (kept s.scale s.waiting s.repeating s.line.items) h = rw c.self.view_is st in
+    let from : TerminalStands (kept s.scale s.waiting s.repeating s.line.items) h = rw c.self.view_is st in
     let k = calls i h in
     let stands = c.take_reading-waiting.ensures.takes.stands k from.now.scale in
     let did : Reads i k c.args.reading b s.waiting c.take_reading-waiting.result s.repeating c.repeat.new.replies.items = record {

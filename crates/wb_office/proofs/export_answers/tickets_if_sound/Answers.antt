@@ -1,6 +1,6 @@
 use Rattle.std.proofs.Common.{◌≡◌, ◌∙◌, sym}
 use Rattle.wb_office.proofs.Common.{check_of, Sound, tickets_csv}
-use Rattle.wb_office.proofs.exporting.tickets_if_sound.Goals as goal
+use Rattle.wb_office.proofs.export_answers.tickets_if_sound.Goals as goal
 
 pub returns-in-Sound-clause-tells : goal.returns-in-Sound-clause-tells
 returns-in-Sound-clause-tells c = λ rising plain.

@@ -12,19 +12,19 @@ use Rattle.wb_station.specs.declared.routes.Route.TheVariants.{Check, Indication
 use Rattle.wb_station.specs.BodyLength.{are_wrong, body_of, is_encoded, length_of, lengths}
 use Rattle.wb_station.specs.Form.{IsPlain, void_in, weighing_in}
 use Rattle.wb_station.specs.RequestBytes.{IsRead, Reads, Received, is_post}
-use Rattle.wb_station.specs.Routes.{method_of, method_text, path_of, route_of, same_method, ticket_number}
+use Rattle.wb_station.specs.Routes.{method_of, method_text, path_of_target, route_of_target, same_method, ticket_number}
 
 -- ---- without a head
 
 -- 1: of more than 8,192 bytes; 2: of not more
-abbrev pub headless : List ℕ → HttpFault
-headless bytes = if nat_lt 8192 (length bytes) then HeadTooLarge else Malformed
+abbrev pub fault_without_head : List ℕ → HttpFault
+fault_without_head bytes = if nat_lt 8192 (length bytes) then HeadTooLarge else Malformed
 
 -- ---- with a head
 
 -- 3: the target is no route
 abbrev pub no_route : Received → Bool
-no_route x = is_none (route_of x.head.target)
+no_route x = is_none (route_of_target x.head.target)
 
 abbrev pub allows : Method → Option Route → Bool
 allows method None = false
@@ -32,7 +32,7 @@ allows method (Some route) = same_method method (method_of route)
 
 -- 4: the route has this method, and the request another
 abbrev pub wrong_method : Method → Received → Bool
-wrong_method method x = allows method (route_of x.head.target) && not (bytes_eq x.head.method (method_text method))
+wrong_method method x = allows method (route_of_target x.head.target) && not (bytes_eq x.head.method (method_text method))
 
 -- 5: a POST with a Transfer-Encoding, or with two or more lengths, or with one that isn't a number
 abbrev pub malformed_length : Received → Bool
@@ -51,25 +51,25 @@ abbrev pub cut_short : Received → Bool
 cut_short x = is_post x && nat_lt (length x.rest) (length_of x)
 
 -- a fault, with the condition on which it comes
-pub record Condition : Type 0 where
+pub record FaultCondition : Type 0 where
   pub fault : HttpFault
   pub holds : Received → Bool
 
-abbrev pub on : (Received → Bool) → HttpFault → Condition
-on holds fault = record { fault = fault; holds = holds }
+abbrev pub fault_on : (Received → Bool) → HttpFault → FaultCondition
+fault_on holds fault = record { fault = fault; holds = holds }
 
 -- the conditions on a head, in the order in which they are judged
-abbrev pub of_head : List Condition
+abbrev pub of_head : List FaultCondition
 of_head =
-    on no_route NoRoute ∷ on (wrong_method Get) (WrongMethod Get) ∷ on (wrong_method Post) (WrongMethod Post)
-    ∷ on malformed_length Malformed ∷ on no_length NoLength ∷ on too_large TooLarge ∷ []
+    fault_on no_route NoRoute ∷ fault_on (wrong_method Get) (WrongMethod Get) ∷ fault_on (wrong_method Post) (WrongMethod Post)
+    ∷ fault_on malformed_length Malformed ∷ fault_on no_length NoLength ∷ fault_on too_large TooLarge ∷ []
 
 -- the condition on what follows the head
-abbrev pub of_body : List Condition
-of_body = on cut_short Malformed ∷ []
+abbrev pub of_body : List FaultCondition
+of_body = fault_on cut_short Malformed ∷ []
 
 -- the fault of the first condition that holds
-abbrev pub first_fault : List Condition → Received → Option HttpFault
+abbrev pub first_fault : List FaultCondition → Received → Option HttpFault
 first_fault conditions x = option_map (λ c. c.fault) (find (λ c. c.holds x) conditions)
 
 -- what a body and a target ask by a route: of a form that lacks a field, or has one that isn't valid, nothing
@@ -77,14 +77,14 @@ abbrev pub asked_by : List ℕ → List ℕ → Route → Option Request
 asked_by body target Weighings = weighing_in body
 asked_by body target Voids = void_in body
 asked_by body target Purge = Some request.Purge
-asked_by body target Ticket = Some (request.Ticket (ticket_number (path_of target)))
+asked_by body target Ticket = Some (request.Ticket (ticket_number (path_of_target target)))
 asked_by body target Indication = Some request.Indication
 asked_by body target JournalCsv = Some request.JournalCsv
 asked_by body target TicketsCsv = Some request.TicketsCsv
 asked_by body target Check = Some request.Check
 
-abbrev pub asked : Received → Option Request
-asked x = option_and_then (asked_by (body_of x) x.head.target) (route_of x.head.target)
+abbrev pub request_asked : Received → Option Request
+request_asked x = option_and_then (asked_by (body_of x) x.head.target) (route_of_target x.head.target)
 
 -- 9: no fault, and nothing is asked
 abbrev pub unless_faulty : Option HttpFault → Option Request → Result Request HttpFault
@@ -93,13 +93,13 @@ unless_faulty None request = ok_or request BadField
 
 -- ---- the judgement
 
-abbrev pub judged : Received → Result Request HttpFault
-judged x = unless_faulty (option_or (first_fault of_head x) (first_fault of_body x)) (asked x)
+abbrev pub judgement_of : Received → Result Request HttpFault
+judgement_of x = unless_faulty (option_or (first_fault of_head x) (first_fault of_body x)) (request_asked x)
 
 -- the judgement of bytes of which this is read
 abbrev pub judgement : List ℕ → Option Received → Result Request HttpFault
-judgement bytes None = Err (headless bytes)
-judgement bytes (Some x) = judged x
+judgement bytes None = Err (fault_without_head bytes)
+judgement bytes (Some x) = judgement_of x
 
 -- the bytes are judged so
 abbrev pub IsJudged : List ℕ → Result Request HttpFault → Type 0
@@ -124,6 +124,6 @@ pub record MayWantMemory (bytes : List ℕ) : Type 0 where
   pub reads : Reads bytes received
   pub passed : option_or (first_fault of_head received) (first_fault of_body received) ≡ None
   pub route : Route
-  pub target : route_of received.head.target ≡ Some route
+  pub target : route_of_target received.head.target ≡ Some route
   pub form : has_form route ≡ true
   pub encoded : ¬ (IsPlain (body_of received))

@@ -1,9 +1,9 @@
 //! The answers of the exports.
 ghost use Rattle.std.specs.Prelude.{◌≡◌, ℕ, IfOk, List, Ok};
 ghost use Rattle.wb_journal.specs.Rising.{IsRising};
-ghost use Rattle.wb_office.specs.Answer.{csv_told, tickets_answer};
+ghost use Rattle.wb_office.specs.Answer.{csv_content, tickets_answer};
 ghost use Rattle.wb_office.specs.Serves.{Serves};
-ghost use Rattle.wb_office.specs.helpers.WantOfMemory.{Tells, WantsMemory};
+ghost use Rattle.wb_office.specs.helpers.WantOfMemory.{IsAnsweredSo, WantsMemory};
 ghost use Rattle.wb_office.specs.Wanted.{IsWanted};
 ghost use Rattle.wb_office.specs.declared.request.Request.TheVariants as request;
 ghost use Rattle.wb_scale.specs.State.{State};
@@ -45,7 +45,7 @@ pub(crate) fn answer_tickets<D: Alter>(
 
 fn tickets_if_sound(alloc: Global, entries: &[Entry]) -> Result<Answer, Refusal>
     ensures memory { WantsMemory result }
-    ensures tells { IsRising entries.now → Tells result (tickets_answer entries.now) }
+    ensures tells { IsRising entries.now → IsAnsweredSo result (tickets_answer entries.now) }
 {
     match finding_of(alloc, entries)? {
         Finding::Sound(_) => {
@@ -60,7 +60,7 @@ fn tickets_if_sound(alloc: Global, entries: &[Entry]) -> Result<Answer, Refusal>
 fn exported(text: Result<CsvText, AllocError>) -> Result<Answer, Refusal>
     ensures memory { WantsMemory result }
     ensures tells { (wanted : List ℕ) → IfOk text (λ t. t ≡ wanted)
-        → Tells result (Ok (csv_told wanted)) }
+        → IsAnsweredSo result (Ok (csv_content wanted)) }
 {
     match text {
         Ok(text) => Ok(Answer::Csv(text)),
