@@ -1,6 +1,7 @@
 //! Values from outside, a file for each crate.
 mod calibration;
 mod calibration_file;
+mod callers;
 mod command_line;
 mod instrument;
 mod journal;

@@ -7,19 +7,7 @@ use std::test::Fail;
 use wb_instrument::{
     Instrument, PartFault, Parts, Serial, is_interval, round_tenths, weight_field,
 };
-
-/// A road weighbridge.
-pub(super) const ROAD: Parts<'static> = Parts {
-    interval_kg: 20,
-    max_kg: 60_000,
-    window: 4,
-    band: 2,
-    pace: 10,
-    wait: 20,
-    serial: "WB01",
-    retention_days: 90,
-    capacity: 1_000,
-};
+use wb_road::ROAD;
 
 /// What is asked of an instrument, or of what it is made of.
 #[derive(Clone, Copy)]

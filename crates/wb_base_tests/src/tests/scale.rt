@@ -2,11 +2,11 @@
 //! windows.
 ghost use Rattle.std.specs.Prelude.{◌≡◌, IfOk, []};
 
-use super::instrument::ROAD;
 use std::alloc::{AllocError, Global};
 use std::process::Abort;
 use std::test::Fail;
 use wb_instrument::{Instrument, Parts};
+use wb_road::ROAD;
 use wb_scale::{Indicated, PresetAnswer, Scale, TareAnswer, TareNow, ZeroAnswer};
 use wb_window::{DequeWindow, Reading, RingWindow, Window};
 

@@ -3,13 +3,13 @@ use std::alloc::Global;
 use std::process::Abort;
 use std::test::Fail;
 use wb_journal::Moment;
+use wb_road::MORNING;
 use wb_sources::{
     Answered, Converter, ListSources, ListTurn, REQUEST_ROOM, Sources, TERMINAL_ROOM,
 };
 use wb_window::Reading;
 
 /// 2025-03-10 08:00:00.
-const MORNING: u64 = 1_741_593_600;
 
 /// So many bytes, of which no two neighbours are alike.
 fn bytes(alloc: Global, count: usize) -> Result<Vec<u8>, Fail> {

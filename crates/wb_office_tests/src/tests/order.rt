@@ -2,8 +2,7 @@
 use super::{Asks, Step, day};
 use std::test::Fail;
 use wb_journal::Kind;
-
-const MORNING: u64 = 1_741_593_600;
+use wb_road::MORNING;
 
 /// When the entries of the morning are of age.
 const OLD: u64 = 1_749_427_200;

@@ -2,11 +2,7 @@
 use super::{Asks, Step, day};
 use std::test::Fail;
 use wb_journal::Kind;
-
-/// 2025-03-10 08:00:00, and an hour and a half later.
-const MORNING: u64 = 1_741_593_600;
-
-const LATER: u64 = 1_741_599_000;
+use wb_road::{LATER, MORNING};
 
 const SLIP: &str =
     "WEIGHING SLIP 1\nPLATE AB-12\nFIRST NO 1\nAT 2025-03-10 08:00:00\nG      18340 kg\nE 20 kg MAX 60000 kg SERIAL WB01\nDIGEST 1ff0f144d39a8d0890cc2c886fab380c93a9dd98d1d16ca37031b262a56fd3b3\n";

@@ -5,16 +5,12 @@ use std::alloc::Global;
 use std::process::Abort;
 use std::str;
 use std::test::Fail;
-use wb_instrument::Serial;
-use wb_journal::{Digest, Entry, EntryParts, Key, Kind, Moment, Plate};
+use wb_journal::{Entry, Kind};
 use wb_program::{PrintFault, What, print_check, print_export};
+use wb_road::{LATER, MORNING, Plain, unsealed};
 use wb_sources::converter_line;
 use wb_store::{Store, StoreFault};
 use wb_window::Reading;
-
-const MORNING: u64 = 1_741_593_600;
-
-const LATER: u64 = 1_741_599_000;
 
 const TICKETS: &str =
     "ticket,kind,plate,first,at,gross_kg,tare_kg,net_kg\n2,pair,AB-12,1,2025-03-10 09:30:00,18340,8140,10200\n";
@@ -23,20 +19,16 @@ const JOURNAL: &str =
     "number,key,kind,plate,moment,gross_kg,preset_kg,interval_kg,max_kg,serial,digest\n1,K1,first,AB-12,2025-03-10 08:00:00,18340,,20,60000,WB01,1ff0f144d39a8d0890cc2c886fab380c93a9dd98d1d16ca37031b262a56fd3b3\n2,K2,second,AB-12,2025-03-10 09:30:00,8140,,20,60000,WB01,0cc09cd58f03a59c03e87a55f97d3a8262963dcfe6244de45c39d2f4c9e62d56\n3,K3,first,AB-12,2025-03-10 09:30:00,18340,,20,60000,WB01,2df787db950f1a08430facec636ce9101fc1faabc1c6e06780e363463ffd4f3d\n";
 
 fn entry(number: u32, key: &str, kind: Kind, moment: u64, gross_kg: u32) -> Result<Entry, Fail> {
-    let parts = EntryParts {
+    let entry = unsealed(&Plain {
         number,
-        key: Key::new(key).ok_or("key")?,
+        key,
         kind,
-        plate: Plate::new("AB-12").ok_or("plate")?,
-        moment: Moment::new(moment).ok_or("moment")?,
+        plate: "AB-12",
+        moment,
         gross_kg: Some(gross_kg),
         preset_kg: None,
-        interval_kg: 20,
-        max_kg: 60_000,
-        serial: Serial::new("WB01").ok_or("serial")?,
-        digest: Digest::empty(),
-    };
-    Ok(Entry::new(parts).ok_or("limits")?)
+    });
+    Ok(entry.ok_or("limits")?)
 }
 
 /// Stores a pair of weighings and another first one. The very first has its digest, or none.

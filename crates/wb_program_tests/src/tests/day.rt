@@ -1,7 +1,8 @@
 //! A day at a weighbridge, as `docs/day.md` has it.
-use super::{ROAD, prints};
+use super::prints;
 use std::test::Fail;
 use wb_program::ReplayEnd;
+use wb_road::ROAD;
 
 /// The lines of the day, and what each prints.
 const LINES: [(&str, &str); 33] = [

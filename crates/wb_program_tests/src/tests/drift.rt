@@ -1,8 +1,10 @@
 //! Rows of zero tracking: so many steps in so many readings, and none past the range of the zero.
-use super::{ROAD, Road, Row, prints_each};
+use super::{Row, prints_each};
 use std::test::Fail;
+use wb_instrument::Parts;
+use wb_road::ROAD;
 
-const FAST: Road = Road { pace: 50, ..ROAD };
+const FAST: Parts<'static> = Parts { pace: 50, ..ROAD };
 
 const AT_50_A_SECOND: &[Row] = &[
     (

@@ -1,11 +1,12 @@
 //! How a replay ends: its limits, faults of its reader and writer, texts and statuses.
-use super::{ROAD, instrument};
 use std::alloc::Global;
 use std::io::{ErrorKind, Read, Write};
 use std::process::Abort;
 use std::test::Fail;
 use std::{io, str};
+use wb_instrument::Instrument;
 use wb_program::{ReplayEnd, replay};
+use wb_road::ROAD;
 
 /// A line, a comment up to so many bytes, and these last bytes.
 fn long(alloc: Global, size: usize, last: &[u8]) -> Result<Vec<u8>, Fail> {
@@ -24,7 +25,7 @@ fn ends<R: Read>(
     printed: &[u8],
 ) -> Result<(), Fail> {
     let mut writer = Vec::new(alloc);
-    let end = replay(alloc, instrument(ROAD)?, reader, &mut writer);
+    let end = replay(alloc, Instrument::new(ROAD)?, reader, &mut writer);
     assert_eq!(rt; end, wanted);
     assert_eq!(rt; writer.as_slice(), printed);
     Ok(())
@@ -209,7 +210,7 @@ fn keeps(
         writes,
     };
     let mut trace = b"r 9170 4\nt SI\nt I4\nt x\n".as_slice();
-    let end = replay(alloc, instrument(ROAD)?, &mut trace, &mut writer);
+    let end = replay(alloc, Instrument::new(ROAD)?, &mut trace, &mut writer);
     assert_eq!(rt; end, wanted, "{writes} writes");
     assert_eq!(rt;
         str::from_utf8(writer.taken.as_slice())?,

@@ -1,6 +1,8 @@
 //! Rows with requests to the office: what a station over a journal in memory puts out, printed.
-use super::{ROAD, Road, Row, prints_each};
+use super::{Row, prints_each};
 use std::test::Fail;
+use wb_instrument::Parts;
+use wb_road::ROAD;
 
 const ANSWERED: &[Row] = &[
     (
@@ -60,7 +62,7 @@ fn answers_requests(rt: HostRuntime) -> Result<(), Fail> {
     prints_each(&rt, rt.alloc(), ROAD, ANSWERED)
 }
 
-const TWO_PLACES: Road = Road {
+const TWO_PLACES: Parts<'static> = Parts {
     capacity: 2,
     ..ROAD
 };

@@ -5,8 +5,9 @@ use std::io::{Read, Write};
 use std::net::{OpenListener, TcpListener, TcpStream};
 use std::process::Abort;
 use std::test::Fail;
-use wb_instrument::{Instrument, Parts};
+use wb_instrument::Instrument;
 use wb_program::{ServeEnd, serve};
+use wb_road::ROAD;
 use wb_sockets::{Converter, ConverterFault, Sockets, listen};
 use wb_station::Station;
 use wb_store::Store;
@@ -14,17 +15,7 @@ use wb_window::RingWindow;
 
 /// A station of a road weighbridge, over a journal in memory.
 fn road(alloc: Global) -> Result<Station<RingWindow, MemStore>, Fail> {
-    let instrument = Instrument::new(Parts {
-        interval_kg: 20,
-        max_kg: 60_000,
-        window: 4,
-        band: 2,
-        pace: 10,
-        wait: 20,
-        serial: "WB01",
-        retention_days: 90,
-        capacity: 1_000,
-    })?;
+    let instrument = Instrument::new(ROAD)?;
     let Ok(store) = Store::open(Connection::open_in_memory(alloc)?) else {
         return Err("want of memory")?;
     };

@@ -1,15 +1,15 @@
 //! Turns of the service over sources in memory.
-use super::{ROAD, instrument, store};
+use super::store;
 use std::alloc::Global;
 use std::process::Abort;
 use std::test::Fail;
+use wb_instrument::Instrument;
 use wb_journal::Moment;
 use wb_program::{ServeEnd, serve};
+use wb_road::{MORNING, ROAD};
 use wb_sources::{Answered, Converter, HandedIn, ListSources, ListTurn};
 use wb_station::Station;
 use wb_window::{DequeWindow, Reading};
-
-const MORNING: u64 = 1_741_593_600;
 
 const FIRST: &str =
     "POST /weighings HTTP/1.1\r\nContent-Length: 29\r\n\r\nkey=K1&kind=first&plate=AB-12";
@@ -263,7 +263,7 @@ fn serves(rt: &impl Abort, alloc: Global, service: &Service) -> Result<(), Fail>
 
 /// How a service at a fresh station ends.
 fn ended(alloc: Global, sources: &mut ListSources, limit: u64) -> Result<ServeEnd, Fail> {
-    let instrument = instrument(ROAD)?;
+    let instrument = Instrument::new(ROAD)?;
     let window = DequeWindow::new(alloc, instrument.window() as usize, instrument.band())?;
     match Station::open(alloc, instrument, window, store(alloc)?) {
         Ok(mut station) => Ok(serve(&mut station, sources, limit)),
