@@ -1,6 +1,6 @@
 -- Entries found by key and by number.
 use Rattle.std.proofs.Common.{◌≡◌, ◌∙◌, sym, ℕ, ◌<◌, ◌==◌, Bool, true, false, ◌||◌, if◌then◌else◌, List, [], ◌∷◌, Option, Some, None, unwrap_or, refl, ap, arith, true≢false}
-use Rattle.wb_office.proofs.Common.{nat_tests, bytes_eq-Decides, AllByRecursion, find, list_any, bytes_eq, EntryParts, partner_in, partner_of, with_number, IsRising, IsRisingFrom, entry_by_key, has_key, is_spent, SpentKey}
+use Rattle.wb_office.proofs.Common.{nat_tests, bytes_eq-Decides, AllByRecursion, find, list_any, bytes_eq, EntryParts, with_number, IsRising, IsRisingFrom, entry_by_key, has_key, is_spent, SpentKey}
 
 -- what is found passes the test
 pub find_any : {X : Type 0} (p : X → Bool) (xs : List X) (x : X) → find p xs ≡ Some x → list_any p xs ≡ true
@@ -58,10 +58,6 @@ found_by_number p (x ∷ xs) e rising found = go (p x) found (λ f. found_from p
         → (if x.number == e.number then Some x else with_number e.number xs) ≡ Some e
     go true f more above = rw (sym (is_some_same f)) (same_number x (with_number x.number xs))
     go false f more above = other_number x e (with_number e.number xs) (above f) (more f)
-
--- the partner of its number is its partner
-pub partner_of_found : (es : List EntryParts) (key : List ℕ) (e : EntryParts) → IsRising es → entry_by_key es key ≡ Some e → partner_of es e.number ≡ partner_in es e
-partner_of_found es key e rising found = rw (found_by_number (has_key key) es e rising found) refl
 
 -- its key wasn't spent
 pub found_unspent : (es : List EntryParts) (ks : List SpentKey) (key : List ℕ) (e : EntryParts) → AllByRecursion (λ s. list_any (has_key s.key) es ≡ false) ks → entry_by_key es key ≡ Some e

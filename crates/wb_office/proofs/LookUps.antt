@@ -1,5 +1,5 @@
 -- Calls of the store that only read it, one after the other.
-use Rattle.std.proofs.Common.{◌≡◌, ◌∙◌, ap, sym, refl, Bool, true, false, ◌||◌, List, Result, Ok, Err, IfOk, MatchResult}
+use Rattle.std.proofs.Common.{◌≡◌, ◌∙◌, ap, sym, refl, Bool, true, false, ◌||◌, List, Result, Ok, Err, MatchResult}
 use Rattle.wb_office.proofs.Common.{Ghosts, EntryParts, StoreFault, Closed, Disk, Memory, closed_by, IsHonest, StoreView, StoreStands, Closes, Keeps, SpentKey}
 use Rattle.wb_office.specs.helpers.LookUps.{LooksUp}
 
@@ -13,10 +13,6 @@ is_same_fault Y f same = ap Err (ap the_fault same)
 
 pub ok_is_no_fault : {X : Type 0} {C : Type 0} (x : X) → ◌≡◌ {A = Result X StoreFault} (Ok x) (Err Closed) → C
 ok_is_no_fault x same = absurd (cc)
-
-if_ok_map : {Y : Type 0} (P Q : Y → Type 0) (r : Result Y StoreFault) → ((y : Y) → P y → Q y) → IfOk r P → IfOk r Q
-if_ok_map P Q (Ok y) follows p = follows y p
-if_ok_map P Q (Err f) follows p = p
 
 or_none : (b : Bool) → b || false ≡ b
 or_none true = refl
@@ -102,12 +98,3 @@ module _ {D : Type 0} (g : Ghosts D) where
       → MatchResult r Q (λ f. f ≡ Memory) → ((y : Y) → Q y → (es : List EntryParts) (ks : List SpentKey) → StoreStands g old es ks → IsHonest g new → P es ks y) → LooksUp g old new r P
   worked_out {x = x} (Ok y) l q tells = told (made x y l) (tells y q)
   worked_out (Err f) l q tells = rw q (nothing_told (wanting l))
-
-  -- what a later look-up tells, together with what was found before
-  pub then_told : {old mid new : StoreView D} {X Y : Type 0} {x : X} {r : Result Y StoreFault} {P Q : List EntryParts → List SpentKey → Y → Type 0} → Reads old mid {X = X} (Ok x)
-      → LooksUp g mid new r P → ((es : List EntryParts) (ks : List SpentKey) → StoreStands g old es ks → IsHonest g mid → (y : Y) → P es ks y → Q es ks y) → LooksUp g old new r Q
-  then_told {r = r} {P = P} {Q = Q} first next follows = record {
-    tells = λ es ks s h. if_ok_map (P es ks) (Q es ks) r (follows es ks s (next.closes.honest h)) (next.tells es ks (stood first s (next.closes.honest h)) h);
-    keeps = (also first (reads next.keeps next.closes)).keeps;
-    closes = (also first (reads next.keeps next.closes)).closes;
-  }

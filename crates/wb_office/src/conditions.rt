@@ -9,11 +9,12 @@ ghost use Rattle.wb_office.specs.Serves.{is_of_store};
 ghost use Rattle.wb_office.specs.helpers.EvidenceShown.{Shows};
 ghost use Rattle.wb_office.specs.Verdict.{first_refusal, of_new};
 
-use crate::evidence::{Evidence, OfJournal};
+use crate::evidence::Evidence;
 use crate::refusal::Refusal;
 use wb_instrument::MIN_INTERVALS;
 use wb_journal::{Kind, is_sound};
 use wb_scale::{Indicated, TareNow};
+use wb_store::Overview;
 
 /// The last number of an entry.
 const LAST_NUMBER: u64 = 4_294_967_295;
@@ -126,21 +127,21 @@ impl Evidence {
     fn is_already_open(&self) -> bool
         ensures { (a : Asking) → Shows self.now a → result ≡ already_open a }
     {
-        self.kind.is_first() && self.journal.open.is_some()
+        self.kind.is_first() && self.journal.open_weighing.is_some()
     }
 
     /// Whether a Second or Void finds none.
     fn has_no_open(&self) -> bool
         ensures { (a : Asking) → Shows self.now a → result ≡ no_open a }
     {
-        self.kind.is_closing() && self.journal.open.is_none()
+        self.kind.is_closing() && self.journal.open_weighing.is_none()
     }
 
     /// Whether the First that a Second would close isn't sound.
     fn is_first_damaged(&self) -> bool
         ensures { (a : Asking) → Shows self.now a → result ≡ damaged_first a }
     {
-        match &self.journal.open {
+        match &self.journal.open_weighing {
             Some(open) => is_second(self.kind) && !is_sound(open),
             None => false,
         }
@@ -156,7 +157,7 @@ impl Evidence {
 }
 
 /// Whether the free places of the journal are fewer than so many.
-fn lacks_places(capacity: u32, journal: &OfJournal, needed: usize) -> bool
+fn lacks_places(capacity: u32, journal: &Overview, needed: usize) -> bool
     ensures { result ≡ (nat_lt 0 needed && nat_lt capacity (journal.now.count + journal.now.open_count + needed)) }
 {
     let taken = journal.count.saturating_add(journal.open_count);

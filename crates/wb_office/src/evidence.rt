@@ -1,6 +1,7 @@
 //! What a weighing or void whose key is new is judged on.
-use wb_journal::{Entry, Kind, Moment};
+use wb_journal::{Kind, Moment};
 use wb_scale::{Indicated, TareNow};
+use wb_store::Overview;
 
 /// What the scale shows.
 #[derive(Clone, Copy, Debug, Drop)]
@@ -11,20 +12,6 @@ pub(crate) struct OfScale {
     pub(crate) is_cleared: bool,
 }
 
-/// What the journal shows.
-#[derive(Debug, Drop)]
-pub(crate) struct OfJournal {
-    /// The entry with the greatest number.
-    pub(crate) newest: Option<Entry>,
-    /// The open weighing of the plate.
-    pub(crate) open: Option<Entry>,
-    /// How many entries there are.
-    pub(crate) count: usize,
-    /// How many Firsts are open.
-    pub(crate) open_count: usize,
-    pub(crate) next_number: u64,
-}
-
 /// All of it, with what is asked for.
 #[derive(Debug, Drop)]
 pub(crate) struct Evidence {
@@ -33,5 +20,5 @@ pub(crate) struct Evidence {
     /// The places of the journal.
     pub(crate) capacity: u32,
     pub(crate) scale: OfScale,
-    pub(crate) journal: OfJournal,
+    pub(crate) journal: Overview,
 }

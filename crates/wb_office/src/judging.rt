@@ -2,7 +2,7 @@
 ghost use Rattle.std.specs.Prelude.{◌≡◌, IfOk, None, Some, false, not, true};
 ghost use Rattle.std.specs.Option.{option_copied};
 ghost use Rattle.wb_journal.specs.Digest.{is_sound_entry};
-ghost use Rattle.wb_journal.specs.Pairs.{partner_of};
+ghost use Rattle.wb_journal.specs.Pairs.{partner_in};
 ghost use Rattle.wb_office.specs.Situation.{Asking, IsOnLists};
 ghost use Rattle.wb_office.specs.Conditions.{holds_of, is_other, key_gone};
 ghost use Rattle.wb_office.specs.helpers.Partners.{is_damaged_with};
@@ -12,17 +12,17 @@ ghost use Rattle.wb_office.specs.helpers.EvidenceShown.{Shows, ShowsScale};
 ghost use Rattle.wb_scale.specs.Indication.{IsIndicationInRange};
 ghost use Rattle.wb_scale.specs.Tare.{IsTare};
 ghost use Rattle.wb_store.specs.Lists.{AreLists, entry_by_key};
+ghost use Rattle.wb_store.specs.Sight.{IsSeen, overview};
 
 use crate::conditions::is_second;
 use crate::evidence::{Evidence, OfScale};
-use crate::looking::look_at_journal;
 use crate::new_entry::new_entry;
 use crate::refusal::Refusal;
 use sqlite::Alter;
 use wb_instrument::Instrument;
 use wb_journal::{Entry, Key, Kind, Moment, Plate, is_sound};
 use wb_scale::Scale;
-use wb_store::{Store, StoreFault};
+use wb_store::{Overview, Sight, Store, StoreFault};
 use wb_window::Window;
 
 /// A weighing or void that is asked for.
@@ -49,7 +49,7 @@ fn judge_repetition(entry: Entry, partner: Option<Entry>, asked: &Asked) -> Judg
     ensures plain { is_plain result ≡ true }
     ensures judged { (a : Asking) → AsksFor asked.now a → AreLists a.now.entries a.now.spent
         → entry_by_key a.now.entries a.key ≡ Some entry
-        → partner ≡ partner_of a.now.entries entry.number → MeetsVerdict result a }
+        → partner ≡ partner_in a.now.entries entry → MeetsVerdict result a }
 {
     if !is_same(&entry, asked) {
         return Judgement::Refused(Refusal::KeyReused);
@@ -94,30 +94,31 @@ pub(crate) fn judge<W: Window, D: Alter>(
         → AsksFor asked a → IsOnScale scale.now a → IsOnLists es ks a → MeetsVerdict judgement a) }
     ensures plain { IfOk result (λ judgement. is_plain judgement ≡ true) }
 {
-    match store.by_key(&asked.key)? {
-        Some(entry) => {
-            let partner = store.partner(entry.number())?;
-            Ok(judge_repetition(entry, partner, &asked))
-        }
-        None => judge_new(store, scale, asked),
+    let sight = store.look(&asked.key, &asked.plate)?;
+    Ok(judge_sight(sight, scale, asked))
+}
+
+/// Judges by what is seen of the key and the plate.
+fn judge_sight<W: Window>(sight: Sight, scale: &Scale<W>, asked: Asked) -> Judgement
+    ensures plain { is_plain result ≡ true }
+    ensures judged { (a : Asking) → AsksFor asked a → IsOnScale scale.now a
+        → AreLists a.now.entries a.now.spent
+        → IsSeen a.now.entries a.now.spent a.key a.plate sight → MeetsVerdict result a }
+{
+    match sight {
+        Sight::Standing(entry, partner) => judge_repetition(entry, partner, &asked),
+        Sight::Spent => Judgement::Refused(Refusal::Gone),
+        Sight::New(journal) => judge_new(journal, scale, asked),
     }
 }
 
-/// Judges a key that no entry has.
-fn judge_new<W: Window, D: Alter>(
-    store: &mut Store<D>,
-    scale: &Scale<W>,
-    asked: Asked,
-) -> Result<Judgement, StoreFault>
-    ensures looks { LooksUp D.Store store.old store.new result (λ es ks judgement. (a : Asking)
-        → AsksFor asked a → IsOnScale scale.now a → IsOnLists es ks a
-        → entry_by_key a.now.entries a.key ≡ None → MeetsVerdict judgement a) }
-    ensures plain { IfOk result (λ judgement. is_plain judgement ≡ true) }
+/// Judges a key that is new.
+fn judge_new<W: Window>(journal: Overview, scale: &Scale<W>, asked: Asked) -> Judgement
+    ensures plain { is_plain result ≡ true }
+    ensures judged { (a : Asking) → AsksFor asked a → IsOnScale scale.now a
+        → entry_by_key a.now.entries a.key ≡ None → key_gone a ≡ false
+        → journal ≡ overview a.now.entries a.now.spent a.plate → MeetsVerdict result a }
 {
-    if store.spent(&asked.key)? {
-        return Ok(Judgement::Refused(Refusal::Gone));
-    }
-    let journal = look_at_journal(store, &asked.plate)?;
     let instrument = scale.instrument();
     let evidence = Evidence {
         kind: asked.kind,
@@ -126,7 +127,7 @@ fn judge_new<W: Window, D: Alter>(
         scale: shown(scale),
         journal,
     };
-    Ok(judge_evidence(instrument, evidence, asked))
+    judge_evidence(instrument, evidence, asked)
 }
 
 /// What the scale shows.
@@ -160,7 +161,7 @@ fn judge_evidence(instrument: &Instrument, evidence: Evidence, asked: Asked) -> 
         plate,
     } = asked;
     match new_entry(&evidence, key, plate, instrument) {
-        Some(entry) => Judgement::Accepted(entry, evidence.journal.open),
+        Some(entry) => Judgement::Accepted(entry, evidence.journal.open_weighing),
         None => Judgement::Refused(Refusal::JournalFull),
     }
 }

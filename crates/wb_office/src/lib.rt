@@ -15,7 +15,6 @@ mod export_answers;
 mod indication;
 mod journal_export;
 mod judging;
-mod looking;
 mod new_entry;
 mod office;
 mod purging;

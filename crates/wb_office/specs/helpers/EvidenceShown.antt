@@ -1,14 +1,10 @@
 -- What was found out about a weighing or void, and the lists and the history that it shows.
-use Rattle.std.specs.Prelude.{◌≡◌, ℕ, List, length}
-use Rattle.wb_journal.specs.declared.entry.EntryParts.{EntryParts}
-use Rattle.wb_journal.specs.Pairs.{count_of_open, open_entry}
+use Rattle.std.specs.Prelude.{◌≡◌}
 use Rattle.wb_scale.specs.Cleared.{is_cleared}
 use Rattle.wb_scale.specs.Indication.{indicated}
 use Rattle.wb_scale.specs.Tare.{tare_now}
-use Rattle.wb_store.specs.Lists.{newest_entry, number_after}
-use Rattle.wb_store.specs.Rows.{SpentKey}
+use Rattle.wb_store.specs.Sight.{overview}
 use Rattle.wb_office.specs.declared.evidence.Evidence.{Evidence}
-use Rattle.wb_office.specs.declared.evidence.OfJournal.{OfJournal}
 use Rattle.wb_office.specs.declared.evidence.OfScale.{OfScale}
 use Rattle.wb_office.specs.Situation.{Asking, Situation}
 
@@ -18,18 +14,10 @@ pub record ShowsScale (s : OfScale) (w : Situation) : Type 0 where
   pub in_force : s.tare ≡ tare_now w.history
   pub bridge : s.is_cleared ≡ is_cleared w.history
 
--- what the journal shows, with these entries and spent keys, of a plate
-pub record ShowsJournal (j : OfJournal) (plate : List ℕ) (es : List EntryParts) (ks : List SpentKey) : Type 0 where
-  pub last : j.newest ≡ newest_entry es
-  pub open_one : j.open ≡ open_entry es plate
-  pub entries : j.count ≡ length es
-  pub firsts : j.open_count ≡ count_of_open es
-  pub next : j.next_number ≡ number_after es ks
-
 -- all that a weighing or void with a new key is judged on
 pub record Shows (e : Evidence) (a : Asking) : Type 0 where
   pub of_kind : e.kind ≡ a.kind
   pub of_moment : e.at ≡ a.now.at
   pub most : e.capacity ≡ a.now.setup.capacity
   pub scale_shown : ShowsScale e.scale a.now
-  pub journal_shown : ShowsJournal e.journal a.plate a.now.entries a.now.spent
+  pub journal_shown : e.journal ≡ overview a.now.entries a.now.spent a.plate

@@ -3,7 +3,7 @@ use super::{FIRST, Row, SECOND, entry};
 use sqlite::Alter;
 use std::alloc::Global;
 use wb_journal::{Entry, Key, Plate, entry_text, open_count, open_of};
-use wb_store::{Store, StoreFault};
+use wb_store::{Sight, Store, StoreFault};
 
 /// A call, and what is wanted of it.
 #[derive(Clone, Copy, Drop)]
@@ -14,6 +14,8 @@ pub(super) enum Call {
     Finds(Look, Wanted),
     /// A number is asked for.
     Counts(Count, Result<u64, StoreFault>),
+    /// One look is taken at a key and a plate.
+    Looks(&'static str, &'static str, Result<Seen, StoreFault>),
 }
 
 /// A look-up of an entry.
@@ -67,12 +69,28 @@ pub(super) enum Count {
     Purged(u64),
 }
 
+/// What a look at a key and a plate shows, entries by their numbers, 0 for none.
+#[derive(Clone, Copy, Drop, PartialEq, Eq)]
+pub(super) enum Seen {
+    /// The entry with the key, and its partner.
+    Standing(u32, u32),
+    Spent,
+    New {
+        newest: u32,
+        next: u64,
+        open: u32,
+        count: usize,
+        open_count: usize,
+    },
+}
+
 /// Whether the store answers a call as is wanted.
 fn is_wanted<D: Alter>(alloc: Global, store: &mut Store<D>, call: &Call) -> bool {
     match call {
         Call::Appends(row, wanted) => appended(store, row) == *wanted,
         Call::Finds(look, wanted) => is_found(found(alloc, store, look), wanted),
         Call::Counts(count, wanted) => counted(alloc, store, count) == *wanted,
+        Call::Looks(key, plate, wanted) => looked(store, key, plate) == *wanted,
     }
 }
 
@@ -105,6 +123,32 @@ fn found<D: Alter>(
         Look::Open(plate) => store.open_of(&Plate::new(plate).ok_or(MALFORMED)?),
         Look::OpenInList(plate) => open_in_list(alloc, store, plate),
         Look::Newest => store.newest(),
+    }
+}
+
+fn looked<D: Alter>(store: &mut Store<D>, key: &str, plate: &str) -> Result<Seen, StoreFault> {
+    let key = Key::new(key).ok_or(MALFORMED)?;
+    let plate = Plate::new(plate).ok_or(MALFORMED)?;
+    match store.look(&key, &plate)? {
+        Sight::Standing(entry, partner) => {
+            Ok(Seen::Standing(entry.number(), number_of(&partner)))
+        }
+        Sight::Spent => Ok(Seen::Spent),
+        Sight::New(journal) => Ok(Seen::New {
+            newest: number_of(&journal.newest),
+            next: journal.next_number,
+            open: number_of(&journal.open_weighing),
+            count: journal.count,
+            open_count: journal.open_count,
+        }),
+    }
+}
+
+/// The number of an entry, 0 where there is none.
+fn number_of(entry: &Option<Entry>) -> u32 {
+    match entry {
+        Some(entry) => entry.number(),
+        None => 0,
     }
 }
 

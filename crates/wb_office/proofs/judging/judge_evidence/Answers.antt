@@ -1,4 +1,4 @@
-use Rattle.std.proofs.Common.{rules, ◌≡◌, ◌∙◌, sym, None, refl}
+use Rattle.std.proofs.Common.{rules, ◌≡◌, ◌∙◌, sym, ap, None, refl}
 use Rattle.wb_office.proofs.Common.{has_key, first_refusal, entry_added, of_new}
 use Rattle.wb_office.proofs.FoundEntries.{find_none, is_some_same}
 use Rattle.wb_office.proofs.Verdicts.{by_condition, by_none}
@@ -14,6 +14,6 @@ returns-in-Some-new_entry-clause-judged c = λ a asks setup shows none ungone.
     let entry : c.in-Some-new_entry.entry ≡ entry_added a = is_some_same (sym c.in-Some-new_entry.is ∙ c.new_entry.ensures a shows asks.of_key asks.of_plate setup free) in
     rw entry (record {
       judged = by_none a none ungone free;
-      paired = shows.journal_shown.open_one;
+      paired = ap (λ j. j.open_weighing) shows.journal_shown;
       next = record { number = refl; free = find_none (has_key a.key) a.now.entries none; unspent = ungone };
     })
