@@ -6,6 +6,7 @@
 //! memory.
 #![tactic(auto)]
 
+mod code;
 mod field;
 mod interval;
 mod limits;
@@ -14,9 +15,10 @@ mod rounding;
 mod serial;
 mod setup;
 
+pub use code::{Alphabet, Code, NotACode};
 pub use field::weight_field;
 pub use interval::is_interval;
 pub use limits::MIN_INTERVALS;
 pub use rounding::round_tenths;
-pub use serial::Serial;
+pub use serial::{Serial, SerialCharacters};
 pub use setup::{Instrument, PartFault, Parts};

@@ -2,8 +2,9 @@
 ghost use Rattle.std.specs.Prelude.{◌≡◌, IfErr, IfOk, IsTrue, ◌↔◌};
 ghost use Rattle.wb_instrument.specs.Setup.{IsFirstFault, IsMax, IsSetup, IsWithinLimits, setup_of};
 
+use crate::code::is_code;
 use crate::interval::is_interval;
-use crate::serial::{Serial, is_serial};
+use crate::serial::{Serial, SerialCharacters};
 use std::marker::Model;
 use thiserror::Error;
 
@@ -203,7 +204,7 @@ fn is_within(part: PartFault, parts: &Parts<'_>) -> bool
         PartFault::Band => 1 <= parts.band && parts.band <= 2,
         PartFault::Pace => 2 <= parts.pace && parts.pace <= 50,
         PartFault::Wait => 1 <= parts.wait && parts.wait <= 600,
-        PartFault::Serial => is_serial(parts.serial),
+        PartFault::Serial => is_code::<SerialCharacters>(parts.serial, 16),
         PartFault::Retention => 1 <= parts.retention_days && parts.retention_days <= 3_650,
         PartFault::Capacity => 2 <= parts.capacity && parts.capacity <= 100_000,
     }

@@ -1,5 +1,5 @@
 -- Slips and tickets: texts of an entry, and of its partner (print symbols of OIML R 76-1:2006: G gross, N net, PT preset tare).
-use Rattle.std.specs.Prelude.{ℕ, ◌+◌, ◌-◌, ◌/◌, ◌%◌, List, [], ◌∷◌, ◌++◌, Option, Some, None, ℤ, pos, codes, decimal}
+use Rattle.std.specs.Prelude.{ℕ, ◌+◌, ◌/◌, ◌%◌, List, [], ◌∷◌, ◌++◌, Option, Some, None, ℤ, pos, codes, decimal}
 use Rattle.wb_instrument.specs.WeightField.{weight_in_field}
 use Rattle.wb_journal.specs.declared.civil.Civil.{Civil}
 use Rattle.wb_journal.specs.declared.entry.EntryParts.{EntryParts}

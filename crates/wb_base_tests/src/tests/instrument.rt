@@ -28,11 +28,13 @@ enum Ask {
     Rounded(i32),
     Field(i32),
     IsSerial(&'static str),
+    /// The serial of a text, or why there is none.
+    SerialFrom(&'static str),
 }
 
 use Ask::{
     Fault, Field, Intervals, IsInterval, IsOver, IsSerial, IsUnder, Numbers, Preset, Rounded,
-    SerialCopied, SerialText, TrackingGap, ZeroLimit,
+    SerialCopied, SerialFrom, SerialText, TrackingGap, ZeroLimit,
 };
 
 /// What a row shows, the parts of an instrument, what is asked, and the answer.
@@ -200,7 +202,7 @@ static LIMITS: [Row; 4] = [
     ),
 ];
 
-static REPORTS: [Row; 10] = [
+static REPORTS: [Row; 12] = [
     Row("its serial", ROAD, SerialText, "WB01"),
     Row("a copy of its serial", ROAD, SerialCopied, "WB01"),
     Row("the limit of its zero", ROAD, ZeroLimit, "600"),
@@ -221,6 +223,13 @@ static REPORTS: [Row; 10] = [
         "[20, 60000, 4, 2, 10, 20, 90, 1000]",
     ),
     Row("a serial with a hyphen", ROAD, IsSerial("WB-1"), "false"),
+    Row("a serial from a text", ROAD, SerialFrom("WB01"), "WB01"),
+    Row(
+        "a serial from another text",
+        ROAD,
+        SerialFrom("WB-1"),
+        "not such a code",
+    ),
 ];
 
 static PRESETS: [Row; 8] = [
@@ -317,6 +326,10 @@ fn answer_of_none(ask: Ask, answer: &mut String) -> Result<(), Fail> {
         Rounded(tenths) => note(&round_tenths(tenths), answer),
         Field(kg) => push(weight_field(kg).as_str(), answer),
         IsSerial(text) => note(&Serial::new(text).is_some(), answer),
+        SerialFrom(text) => match Serial::try_from(text) {
+            Ok(serial) => push(serial.as_str(), answer),
+            Err(error) => Ok(write!(answer, "{error}")?),
+        },
         _ => push("accepted", answer),
     }
 }
