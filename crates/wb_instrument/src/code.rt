@@ -1,7 +1,7 @@
 //! Codes: texts of bounded length over an alphabet.
 ghost use Rattle.std.specs.List.{list_all};
 ghost use Rattle.std.specs.Prelude.{◌≡◌, ◌≤◌, ◌↔◌, Bool, IfOk, IfSome, IsOk, is_some, length, true, ℕ};
-ghost use Rattle.wb_instrument.specs.Code.{is_code as is_code_text};
+ghost use Rattle.wb_instrument.specs.Code.{is_code_text};
 
 use arrayvec::ArrayString;
 use std::marker::{Model, PhantomData};
@@ -29,13 +29,13 @@ pub struct NotACode;
 
 impl<const LONGEST: usize, A: Alphabet> Model for Code<LONGEST, A> {
     ghost use Rattle.std.specs.Prelude.{◌≡◌, ℕ, List, true};
-    ghost use Rattle.wb_instrument.specs.Code.{is_code};
+    ghost use Rattle.wb_instrument.specs.Code.{is_code_text};
 
     ghost Value = { List ℕ };
 
     ghost view = { λ c. c.text.bytes };
 
-    ghost invariant = { λ c. is_code LONGEST A.holds c.text.bytes ≡ true };
+    ghost invariant = { λ c. is_code_text LONGEST A.holds c.text.bytes ≡ true };
 }
 
 impl<const LONGEST: usize, A: Alphabet> Code<LONGEST, A> {
