@@ -26,7 +26,7 @@ impl<W: Window> Scale<W> {
         indicated_of(&self.instrument, stable, self.tare, self.above_zero())
     }
 
-    /// Whether the scale is stable.
+    /// Whether the scale is stable. Here tests alone call it.
     pub fn is_stable(&self) -> bool
         ensures { (h : List Call) → ScaleStands self.now h
             → result ≡ is_stable self.now.setup.window self.now.setup.band

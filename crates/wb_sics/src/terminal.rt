@@ -79,7 +79,7 @@ impl<W: Window> Terminal<W> {
         &mut self.scale
     }
 
-    /// Takes a reading, and gives the replies at it.
+    /// Takes a reading, and gives the replies at it. Here tests alone call it.
     pub fn reading(&mut self, reading: Reading) -> Replies
         requires { IsReading reading }
         ensures takes { TerminalTakes self.old self.new (reading_event reading) }
@@ -105,7 +105,7 @@ impl<W: Window> Terminal<W> {
         repeat(&self.scale, self.repeating, room);
     }
 
-    /// Takes a byte of the stream, and gives the replies at it.
+    /// Takes a byte of the stream, and gives the replies at it. Here tests alone call it.
     pub fn byte(&mut self, byte: u8) -> Replies
         ensures takes { TerminalTakes self.old self.new (byte_event byte) }
         ensures replies { (h : List TerminalEvent) → TerminalStands self.old h
