@@ -6,19 +6,19 @@ use Rattle.wb_calibration.specs.declared.point.Point.{Point}
 use Rattle.wb_calibration.specs.declared.segment.Segment.{Segment}
 use Rattle.wb_calibration.specs.Calibration.{AreBehind, IsPoint}
 use Rattle.wb_calibration.specs.Laws.{AllInOrder, AllNear, AllOnLine, ExactAtPoints}
-use Rattle.wb_calibration.specs.Line.{IsRounded, is_before, past, rise, run, segment_from}
+use Rattle.wb_calibration.specs.Line.{IsRoundedOnLine, is_before, past, rise, run, segment_from}
 use Rattle.wb_calibration.specs.helpers.Neighbours.{IsSegment}
 use Rattle.wb_calibration.specs.Turned.{falls, turned}
-use Rattle.wb_calibration.proofs.Rounding.{IsNearest-quotient, IsRounded-lower, IsRounded-nearest, IsRounded-order, IsRounded-upper, positive_run}
-use Rattle.wb_calibration.proofs.Segments.{IsRounded-on_line, IsSegment-from}
+use Rattle.wb_calibration.proofs.Rounding.{IsNearest-quotient, IsRoundedOnLine-lower, IsRoundedOnLine-nearest, IsRoundedOnLine-order, IsRoundedOnLine-upper, positive_run}
+use Rattle.wb_calibration.proofs.Segments.{IsRoundedOnLine-on_line, IsSegment-from}
 
 -- ---- all counts are on the line
-all_rounded : (falling : Bool) (s : Segment) → IsSegment falling s → (counts : ℤ) → (tenths : ℤ) × IsRounded falling s counts tenths
+all_rounded : (falling : Bool) (s : Segment) → IsSegment falling s → (counts : ℤ) → (tenths : ℤ) × IsRoundedOnLine falling s counts tenths
 all_rounded falling s is counts =
     let product = past falling s counts *ℤ rise s in
     let q = int_div_euclid (pos 2 *ℤ product +ℤ run falling s) (pos 2 *ℤ run falling s) in
     let near = IsNearest-quotient product (run falling s) q (positive_run falling s is) refl in
-    (s.lower.tenths +ℤ q, IsRounded-nearest falling s counts q (s.lower.tenths +ℤ q) near refl)
+    (s.lower.tenths +ℤ q, IsRoundedOnLine-nearest falling s counts q (s.lower.tenths +ℤ q) near refl)
 
 pub all_on_line : AllOnLine
 all_on_line [] is counts = absurd (omega (arith, is.two))
@@ -46,21 +46,21 @@ behind_at falling p (n ∷ rest) is behind (suc place) q e =
 
 exact_at : (falling : Bool) (lower upper : Point) (above : List Point) → IsPoint lower → AreBehind falling lower (upper ∷ above)
     → (place : ℕ) (p : Point) → slice_get (lower ∷ upper ∷ above) place ≡ Some p
-    → IsRounded falling (segment_from falling lower upper above p.counts) p.counts p.tenths
+    → IsRoundedOnLine falling (segment_from falling lower upper above p.counts) p.counts p.tenths
 exact_at falling lower upper [] is behind nought p e =
     let s : Segment = record { lower = lower; upper = upper } in
     let k : p ≡ lower = same_point lower p e in
-    rw k (IsRounded-lower falling s (record { lower = is; upper = behind.0; apart = behind.1 }))
+    rw k (IsRoundedOnLine-lower falling s (record { lower = is; upper = behind.0; apart = behind.1 }))
 exact_at falling lower upper [] is behind (suc nought) p e =
     let s : Segment = record { lower = lower; upper = upper } in
     let k : p ≡ upper = same_point upper p e in
-    rw k (IsRounded-upper falling s (record { lower = is; upper = behind.0; apart = behind.1 }))
+    rw k (IsRoundedOnLine-upper falling s (record { lower = is; upper = behind.0; apart = behind.1 }))
 exact_at falling lower upper [] is behind (suc (suc place)) p e = absurd (cc)
 exact_at falling lower upper (next ∷ above) is behind nought p e =
     let s : Segment = record { lower = lower; upper = upper } in
     let k : p ≡ lower = same_point lower p e in
     let below : is_before falling lower.counts upper.counts ≡ true = sym (omega (arith, ints, behind.1.counts)) in
-    rw (k, below) (IsRounded-lower falling s (record { lower = is; upper = behind.0; apart = behind.1 }))
+    rw (k, below) (IsRoundedOnLine-lower falling s (record { lower = is; upper = behind.0; apart = behind.1 }))
 exact_at falling lower upper (next ∷ above) is behind (suc place) p e =
     let h = behind_at falling upper (next ∷ above) behind.0 behind.2 place p e in
     let reached : is_before falling p.counts upper.counts ≡ false = sym (omega (arith, ints, h.1)) in
@@ -86,38 +86,38 @@ first_cases false x y P f g k = g refl k
 
 -- counts at a point or past it have no less tenths
 from_first : (falling : Bool) (lower upper : Point) (above : List Point) → IsPoint lower → AreBehind falling lower (upper ∷ above)
-    → (counts tenths : ℤ) → turned falling lower.counts ≤ℤ turned falling counts → IsRounded falling (segment_from falling lower upper above counts) counts tenths
+    → (counts tenths : ℤ) → turned falling lower.counts ≤ℤ turned falling counts → IsRoundedOnLine falling (segment_from falling lower upper above counts) counts tenths
     → lower.tenths ≤ℤ tenths
 from_first falling lower upper [] is behind counts tenths h r =
     let s : Segment = record { lower = lower; upper = upper } in
     let segment : IsSegment falling s = record { lower = is; upper = behind.0; apart = behind.1 } in
-    IsRounded-order falling s segment lower.counts counts lower.tenths tenths h (IsRounded-lower falling s segment) r
+    IsRoundedOnLine-order falling s segment lower.counts counts lower.tenths tenths h (IsRoundedOnLine-lower falling s segment) r
 from_first falling lower upper (next ∷ above) is behind counts tenths h r =
     let s : Segment = record { lower = lower; upper = upper } in
     let segment : IsSegment falling s = record { lower = is; upper = behind.0; apart = behind.1 } in
-    first_cases (is_before falling counts upper.counts) s (segment_from falling upper next above counts) (λ t. IsRounded falling t counts tenths)
-    (λ e k. IsRounded-order falling s segment lower.counts counts lower.tenths tenths h (IsRounded-lower falling s segment) k)
+    first_cases (is_before falling counts upper.counts) s (segment_from falling upper next above counts) (λ t. IsRoundedOnLine falling t counts tenths)
+    (λ e k. IsRoundedOnLine-order falling s segment lower.counts counts lower.tenths tenths h (IsRoundedOnLine-lower falling s segment) k)
     (λ e k. let more = from_first falling upper next above behind.0 behind.2 counts tenths (omega (arith, ints, e)) k in omega (arith, ints, more, behind.1.loads))
     r
 
 order_from : (falling : Bool) (lower upper : Point) (above : List Point) → IsPoint lower → AreBehind falling lower (upper ∷ above)
     → (counts others tenths more : ℤ) → turned falling counts ≤ℤ turned falling others
-    → IsRounded falling (segment_from falling lower upper above counts) counts tenths
-    → IsRounded falling (segment_from falling lower upper above others) others more → tenths ≤ℤ more
+    → IsRoundedOnLine falling (segment_from falling lower upper above counts) counts tenths
+    → IsRoundedOnLine falling (segment_from falling lower upper above others) others more → tenths ≤ℤ more
 order_from falling lower upper [] is behind counts others tenths more h r q =
     let s : Segment = record { lower = lower; upper = upper } in
-    IsRounded-order falling s (record { lower = is; upper = behind.0; apart = behind.1 }) counts others tenths more h r q
+    IsRoundedOnLine-order falling s (record { lower = is; upper = behind.0; apart = behind.1 }) counts others tenths more h r q
 order_from falling lower upper (next ∷ above) is behind counts others tenths more h r q =
     let s : Segment = record { lower = lower; upper = upper } in
     let segment : IsSegment falling s = record { lower = is; upper = behind.0; apart = behind.1 } in
-    first_cases (is_before falling counts upper.counts) s (segment_from falling upper next above counts) (λ t. IsRounded falling t counts tenths)
-    (λ e k. first_cases (is_before falling others upper.counts) s (segment_from falling upper next above others) (λ t. IsRounded falling t others more)
-    (λ f j. IsRounded-order falling s segment counts others tenths more h k j)
-    (λ f j. let low = IsRounded-order falling s segment counts upper.counts tenths upper.tenths (omega (arith, ints, e)) k (IsRounded-upper falling s segment) in
+    first_cases (is_before falling counts upper.counts) s (segment_from falling upper next above counts) (λ t. IsRoundedOnLine falling t counts tenths)
+    (λ e k. first_cases (is_before falling others upper.counts) s (segment_from falling upper next above others) (λ t. IsRoundedOnLine falling t others more)
+    (λ f j. IsRoundedOnLine-order falling s segment counts others tenths more h k j)
+    (λ f j. let low = IsRoundedOnLine-order falling s segment counts upper.counts tenths upper.tenths (omega (arith, ints, e)) k (IsRoundedOnLine-upper falling s segment) in
     let high = from_first falling upper next above behind.0 behind.2 others more (omega (arith, ints, f)) j in
     omega (arith, ints, low, high))
     q)
-    (λ e k. first_cases (is_before falling others upper.counts) s (segment_from falling upper next above others) (λ t. IsRounded falling t others more)
+    (λ e k. first_cases (is_before falling others upper.counts) s (segment_from falling upper next above others) (λ t. IsRoundedOnLine falling t others more)
     (λ f j. absurd (omega (arith, ints, e, f, h)))
     (λ f j. order_from falling upper next above behind.0 behind.2 counts others tenths more h k j)
     q)
@@ -127,7 +127,7 @@ pub all_in_order : AllInOrder
 all_in_order [] is counts others tenths more h r q = absurd (omega (arith, is.two))
 all_in_order (a ∷ []) is counts others tenths more h r q = absurd (omega (arith, is.two))
 all_in_order (a ∷ b ∷ rest) is counts others tenths more h r q =
-    order_from (falls (a ∷ b ∷ rest)) a b rest is.in_order.0 is.in_order.1 counts others tenths more h (IsRounded-on_line a b rest counts tenths r) (IsRounded-on_line a b rest others more q)
+    order_from (falls (a ∷ b ∷ rest)) a b rest is.in_order.0 is.in_order.1 counts others tenths more h (IsRoundedOnLine-on_line a b rest counts tenths r) (IsRoundedOnLine-on_line a b rest others more q)
 
 -- ---- near
 pub all_near : AllNear

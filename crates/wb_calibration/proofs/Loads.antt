@@ -8,10 +8,10 @@ use Rattle.wb_window.specs.declared.reading.Reading.TheVariants.{Load, Lost}
 use Rattle.wb_calibration.specs.declared.point.Point.{Point}
 use Rattle.wb_calibration.specs.declared.segment.Segment.{Segment}
 use Rattle.wb_calibration.specs.Calibration.{IsCalibration}
-use Rattle.wb_calibration.specs.Line.{IsLoad, IsOnLine, IsRounded, segment_from, segment_of}
+use Rattle.wb_calibration.specs.Line.{IsLoadOf, IsOnLine, IsRoundedOnLine, segment_from, segment_of}
 use Rattle.wb_calibration.specs.helpers.Neighbours.{IsSegment}
 use Rattle.wb_calibration.specs.Turned.{falls}
-use Rattle.wb_calibration.proofs.Rounding.{IsRounded-order}
+use Rattle.wb_calibration.proofs.Rounding.{IsRoundedOnLine-order}
 use Rattle.wb_calibration.proofs.Segments.{IsSegment-from}
 
 -- the segment that the code finds
@@ -32,9 +32,9 @@ segment_of-passed points passed falling counts s d same n f fits e =
     let k = segment_of-found passed falling counts s d n f (rw (to_z-of_z fits) at e) in
     rw same at k
 
-pub IsRounded-passed : (points passed : List Point) (falling : Bool) (counts : ℤ) (s : Segment) (rounded : ℤ) → passed ≡ points → falling ≡ falls passed → SFits w32 counts
-    → IsRounded falling s (to_z w32 (of_z w32 counts)) rounded → IsRounded (falls points) s counts rounded
-IsRounded-passed points passed falling counts s rounded same f fits r =
+pub IsRoundedOnLine-passed : (points passed : List Point) (falling : Bool) (counts : ℤ) (s : Segment) (rounded : ℤ) → passed ≡ points → falling ≡ falls passed → SFits w32 counts
+    → IsRoundedOnLine falling s (to_z w32 (of_z w32 counts)) rounded → IsRoundedOnLine (falls points) s counts rounded
+IsRoundedOnLine-passed points passed falling counts s rounded same f fits r =
     let e : falling ≡ falls points = rw same at f in
     rw (to_z-of_z fits, e) at r
 
@@ -49,13 +49,13 @@ IsSegment-found (p ∷ q ∷ rest) counts s is e =
 
 -- tenths on the line are the rounded ones
 pub same_tenths : (points : List Point) (counts : ℤ) (s : Segment) (rounded tenths : ℤ) → IsCalibration points → segment_of points counts ≡ Some s
-    → IsRounded (falls points) s counts rounded → IsOnLine points counts tenths → tenths ≡ rounded
+    → IsRoundedOnLine (falls points) s counts rounded → IsOnLine points counts tenths → tenths ≡ rounded
 same_tenths points counts s rounded tenths is e r on =
     let k : on.segment ≡ s = ap (λ (o : Option Segment). unwrap_or o s) (sym on.neighbours ∙ e) in
-    let t : IsRounded (falls points) s counts tenths = rw k at on.rounded in
+    let t : IsRoundedOnLine (falls points) s counts tenths = rw k at on.rounded in
     let segment = IsSegment-found points counts s is e in
-    let a = IsRounded-order (falls points) s segment counts counts tenths rounded (omega (arith, ints)) t r in
-    let b = IsRounded-order (falls points) s segment counts counts rounded tenths (omega (arith, ints)) r t in
+    let a = IsRoundedOnLine-order (falls points) s segment counts counts tenths rounded (omega (arith, ints)) t r in
+    let b = IsRoundedOnLine-order (falls points) s segment counts counts rounded tenths (omega (arith, ints)) r t in
     omega (arith, ints, a, b)
 
 abbrev load_or : Reading → ℤ → ℤ
@@ -77,16 +77,16 @@ reading_cases tenths = go (int_le (neg_ℤ greatest_load) tenths) (int_le tenths
 
 -- what the reading of the rounded tenths says of the load
 pub load_clause : (points : List Point) (counts : ℤ) (s : Segment) (rounded tenths : ℤ) → IsCalibration points → segment_of points counts ≡ Some s
-    → IsRounded (falls points) s counts rounded → (read : ℤ) → Load read ≡ reading_of rounded → (Some read ≡ Some tenths) ↔ IsLoad points counts tenths
+    → IsRoundedOnLine (falls points) s counts rounded → (read : ℤ) → Load read ≡ reading_of rounded → (Some read ≡ Some tenths) ↔ IsLoadOf points counts tenths
 load_clause points counts s rounded tenths is e r read k =
-    elim (reading_cases rounded) as (λ _. (Some read ≡ Some tenths) ↔ IsLoad points counts tenths) [
+    elim (reading_cases rounded) as (λ _. (Some read ≡ Some tenths) ↔ IsLoadOf points counts tenths) [
       | inl h ↦
           let same : read ≡ rounded = ap (λ v. load_or v read) (k ∙ h.0) in
           let on : IsOnLine points counts rounded = record { segment = s; neighbours = e; rounded = r } in
-          let there : Some read ≡ Some tenths → IsLoad points counts tenths = λ t.
+          let there : Some read ≡ Some tenths → IsLoadOf points counts tenths = λ t.
           let is_rounded : tenths ≡ rounded = ap (λ o. unwrap_or o tenths) (sym t) ∙ same in
           rw is_rounded (record { on_line = on; least = h.1.0; most = h.1.1 }) in
-          let back : IsLoad points counts tenths → Some read ≡ Some tenths = λ load.
+          let back : IsLoadOf points counts tenths → Some read ≡ Some tenths = λ load.
           ap Some (same ∙ sym (same_tenths points counts s rounded tenths is e r load.on_line)) in
           (there, back)
       | inr h ↦ absurd (cc (k, h.0))
@@ -94,10 +94,10 @@ load_clause points counts s rounded tenths is e r read k =
 
 -- and what a lost one says
 pub lost_clause : (points : List Point) (counts : ℤ) (s : Segment) (rounded tenths : ℤ) → IsCalibration points → segment_of points counts ≡ Some s
-    → IsRounded (falls points) s counts rounded → Lost ≡ reading_of rounded → (None ≡ Some tenths) ↔ IsLoad points counts tenths
+    → IsRoundedOnLine (falls points) s counts rounded → Lost ≡ reading_of rounded → (None ≡ Some tenths) ↔ IsLoadOf points counts tenths
 lost_clause points counts s rounded tenths is e r k =
-    let there : None ≡ Some tenths → IsLoad points counts tenths = λ t. absurd (cc t) in
-    let back : IsLoad points counts tenths → None ≡ Some tenths = λ load.
+    let there : None ≡ Some tenths → IsLoadOf points counts tenths = λ t. absurd (cc t) in
+    let back : IsLoadOf points counts tenths → None ≡ Some tenths = λ load.
     let same = same_tenths points counts s rounded tenths is e r load.on_line in
     elim (reading_cases rounded) as (λ _. None ≡ Some tenths) [
       | inl h ↦ absurd (cc (k, h.0))

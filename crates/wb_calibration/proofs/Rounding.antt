@@ -3,7 +3,7 @@ use Rattle.std.proofs.Common.{◌≡◌, ◌*◌, Bool, ℤ, pos, negsuc, ◌+�
 use Rattle.std.proofs.lemmas.Int.{ints}
 use Rattle.std.specs.Int.{int_div_euclid}
 use Rattle.wb_calibration.specs.declared.segment.Segment.{Segment}
-use Rattle.wb_calibration.specs.Line.{IsNearest, IsRounded, past, rise, run}
+use Rattle.wb_calibration.specs.Line.{IsNearest, IsRoundedOnLine, past, rise, run}
 use Rattle.wb_calibration.specs.helpers.Neighbours.{IsSegment}
 use Rattle.wb_calibration.specs.Turned.{turned}
 use Rattle.wb_calibration.proofs.Products.{mul_keeps, mul_cancel, quotient_down}
@@ -33,9 +33,9 @@ pub positive_rise : (falling : Bool) (s : Segment) → IsSegment falling s → p
 positive_rise falling s is = omega (arith, ints, is.apart.loads)
 
 -- more counts are rounded to no less tenths
-pub IsRounded-order : (falling : Bool) (s : Segment) → IsSegment falling s → (counts others tenths more : ℤ) → turned falling counts ≤ℤ turned falling others
-    → IsRounded falling s counts tenths → IsRounded falling s others more → tenths ≤ℤ more
-IsRounded-order falling s is counts others tenths more h is_less is_more =
+pub IsRoundedOnLine-order : (falling : Bool) (s : Segment) → IsSegment falling s → (counts others tenths more : ℤ) → turned falling counts ≤ℤ turned falling others
+    → IsRoundedOnLine falling s counts tenths → IsRoundedOnLine falling s others more → tenths ≤ℤ more
+IsRoundedOnLine-order falling s is counts others tenths more h is_less is_more =
     let run_is = positive_run falling s is in
     let rise_is = positive_rise falling s is in
     let k : (tenths -ℤ s.lower.tenths) ≤ℤ (more -ℤ s.lower.tenths) =
@@ -43,21 +43,21 @@ IsRounded-order falling s is counts others tenths more h is_less is_more =
     omega (arith, ints, k)
 
 -- nothing is rounded at the points themselves
-pub IsRounded-lower : (falling : Bool) (s : Segment) → IsSegment falling s → IsRounded falling s s.lower.counts s.lower.tenths
-IsRounded-lower falling s is =
+pub IsRoundedOnLine-lower : (falling : Bool) (s : Segment) → IsSegment falling s → IsRoundedOnLine falling s s.lower.counts s.lower.tenths
+IsRoundedOnLine-lower falling s is =
     let counts : past falling s s.lower.counts ≡ pos 0 = omega (arith, ints) in
     let tenths : s.lower.tenths -ℤ s.lower.tenths ≡ pos 0 = omega (arith, ints) in
     let run_is = positive_run falling s is in
     record { below = rw (counts, tenths) (omega (arith, ints, run_is)); above = rw (counts, tenths) (omega (arith, ints, run_is)) }
 
-pub IsRounded-upper : (falling : Bool) (s : Segment) → IsSegment falling s → IsRounded falling s s.upper.counts s.upper.tenths
-IsRounded-upper falling s is =
+pub IsRoundedOnLine-upper : (falling : Bool) (s : Segment) → IsSegment falling s → IsRoundedOnLine falling s s.upper.counts s.upper.tenths
+IsRoundedOnLine-upper falling s is =
     let run_is = positive_run falling s is in
     record { below = omega (arith, ints, run_is); above = omega (arith, ints, run_is) }
 
 -- the nearest whole number from the lower point on is rounded
-pub IsRounded-nearest : (falling : Bool) (s : Segment) (counts q tenths : ℤ) → IsNearest (past falling s counts *ℤ rise s) (run falling s) q
-    → tenths ≡ s.lower.tenths +ℤ q → IsRounded falling s counts tenths
-IsRounded-nearest falling s counts q tenths near t =
+pub IsRoundedOnLine-nearest : (falling : Bool) (s : Segment) (counts q tenths : ℤ) → IsNearest (past falling s counts *ℤ rise s) (run falling s) q
+    → tenths ≡ s.lower.tenths +ℤ q → IsRoundedOnLine falling s counts tenths
+IsRoundedOnLine-nearest falling s counts q tenths near t =
     let d : tenths -ℤ s.lower.tenths ≡ q = omega (arith, ints, t) in
     rw d near

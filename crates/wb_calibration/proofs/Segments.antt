@@ -3,7 +3,7 @@ use Rattle.std.proofs.Common.{◌≡◌, ap, Bool, true, false, ℤ, List, [], �
 use Rattle.wb_calibration.specs.declared.point.Point.{Point}
 use Rattle.wb_calibration.specs.declared.segment.Segment.{Segment}
 use Rattle.wb_calibration.specs.Calibration.{AreBehind, IsPoint}
-use Rattle.wb_calibration.specs.Line.{IsOnLine, IsRounded, is_before, segment_from}
+use Rattle.wb_calibration.specs.Line.{IsOnLine, IsRoundedOnLine, is_before, segment_from}
 use Rattle.wb_calibration.specs.helpers.Neighbours.{IsSegment}
 use Rattle.wb_calibration.specs.Turned.{falls}
 
@@ -16,9 +16,9 @@ IsSegment-from falling lower upper (next ∷ above) counts is behind =
     [ true ↦ record { lower = is; upper = behind.0; apart = behind.1 } | false ↦ IsSegment-from falling upper next above counts behind.0 behind.2 ]
 
 -- tenths on the line are rounded on the segment that is found
-pub IsRounded-on_line : (lower upper : Point) (above : List Point) (counts tenths : ℤ) → IsOnLine (lower ∷ upper ∷ above) counts tenths
-    → let falling = falls (lower ∷ upper ∷ above) in IsRounded falling (segment_from falling lower upper above counts) counts tenths
-IsRounded-on_line lower upper above counts tenths on =
+pub IsRoundedOnLine-on_line : (lower upper : Point) (above : List Point) (counts tenths : ℤ) → IsOnLine (lower ∷ upper ∷ above) counts tenths
+    → let falling = falls (lower ∷ upper ∷ above) in IsRoundedOnLine falling (segment_from falling lower upper above counts) counts tenths
+IsRoundedOnLine-on_line lower upper above counts tenths on =
     let falling = falls (lower ∷ upper ∷ above) in
     let found = segment_from falling lower upper above counts in
     let e : found ≡ on.segment = ap (λ (o : Option Segment). unwrap_or o found) on.neighbours in

@@ -4,7 +4,7 @@ use Rattle.wb_calibration.specs.declared.point.Point.{Point}
 use Rattle.wb_calibration.specs.declared.segment.Segment.{Segment}
 use Rattle.wb_calibration.specs.Calibration.{IsCalibration}
 use Rattle.wb_calibration.specs.Fault.{fault_of}
-use Rattle.wb_calibration.specs.Line.{IsLoad, IsOnLine, past, rise, run, segment_of}
+use Rattle.wb_calibration.specs.Line.{IsLoadOf, IsOnLine, past, rise, run, segment_of}
 use Rattle.wb_calibration.specs.Turned.{falls, turned}
 
 -- points without a fault are those of a calibration
@@ -30,7 +30,7 @@ AllOnLine = (points : List Point) → IsCalibration points → (counts : ℤ) �
 -- at each point the load is that point's
 abbrev pub ExactAtPoints : Type 0
 ExactAtPoints = (points : List Point) → IsCalibration points
-    → (place : ℕ) (p : Point) → slice_get points place ≡ Some p → IsLoad points p.counts p.tenths
+    → (place : ℕ) (p : Point) → slice_get points place ≡ Some p → IsLoadOf points p.counts p.tenths
 
 -- more counts give no less load, or fewer counts, if they fall; the same counts give the same
 abbrev pub AllInOrder : Type 0

@@ -39,17 +39,17 @@ pub record IsNearest (product run q : ℤ) : Type 0 where
   pub above : (pos 2 *ℤ (run *ℤ q)) ≤ℤ (pos 2 *ℤ product +ℤ run)
 
 -- tenths are those on the line of two points, lower.tenths + past * rise / run, rounded
-abbrev pub IsRounded : Bool → Segment → ℤ → ℤ → Type 0
-IsRounded falling s counts tenths = IsNearest (past falling s counts *ℤ rise s) (run falling s) (tenths -ℤ s.lower.tenths)
+abbrev pub IsRoundedOnLine : Bool → Segment → ℤ → ℤ → Type 0
+IsRoundedOnLine falling s counts tenths = IsNearest (past falling s counts *ℤ rise s) (run falling s) (tenths -ℤ s.lower.tenths)
 
 -- tenths are those of counts on the line of the two neighbours, however far past the ends
 pub record IsOnLine (points : List Point) (counts tenths : ℤ) : Type 0 where
   pub segment : Segment
   pub neighbours : segment_of points counts ≡ Some segment
-  pub rounded : IsRounded (falls points) segment counts tenths
+  pub rounded : IsRoundedOnLine (falls points) segment counts tenths
 
 -- tenths are the load of counts: those on the line, if a converter may hand them in
-pub record IsLoad (points : List Point) (counts tenths : ℤ) : Type 0 where
+pub record IsLoadOf (points : List Point) (counts tenths : ℤ) : Type 0 where
   pub on_line : IsOnLine points counts tenths
   pub least : neg_ℤ greatest_load ≤ℤ tenths
   pub most : tenths ≤ℤ greatest_load

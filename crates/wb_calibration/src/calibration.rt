@@ -2,7 +2,7 @@
 ghost use Rattle.std.specs.Prelude.{◌≡◌, ◌↔◌, ℤ, IfErr, IfOk, Some, None};
 ghost use Rattle.wb_calibration.specs.Fault.{fault_of};
 ghost use Rattle.wb_calibration.specs.Calibration.{IsCalibration};
-ghost use Rattle.wb_calibration.specs.Line.{IsLoad};
+ghost use Rattle.wb_calibration.specs.Line.{IsLoadOf};
 ghost use Rattle.wb_calibration.specs.Turned.{falls};
 
 use crate::fault::{CalibrationFault, falls, fault_of};
@@ -68,7 +68,7 @@ impl Calibration {
 
     /// The load of these counts in tenths of the verification scale interval, if a converter may hand it in.
     pub fn load(&self, counts: i32) -> Option<i32>
-        ensures value { (tenths : ℤ) → (result ≡ Some tenths) ↔ IsLoad self.now counts tenths }
+        ensures value { (tenths : ℤ) → (result ≡ Some tenths) ↔ IsLoadOf self.now counts tenths }
         ensures calibration { IsCalibration self.now }
     {
         let points = self.points.as_slice();

@@ -1,6 +1,6 @@
 //! The straight line between two neighbouring points.
 ghost use Rattle.std.specs.Prelude.{◌≡◌, ◌≤◌, ◌^◌, pos, ◌≤ℤ◌, ◌<ℤ◌, unsigned_abs};
-ghost use Rattle.wb_calibration.specs.Line.{IsNearest, IsRounded, is_before, segment_from};
+ghost use Rattle.wb_calibration.specs.Line.{IsNearest, IsRoundedOnLine, is_before, segment_from};
 ghost use Rattle.wb_calibration.specs.helpers.Neighbours.{IsSegment};
 
 use crate::Point;
@@ -47,7 +47,7 @@ impl Segment {
     /// The load of these counts on the line, in tenths, an exact half rounded up.
     pub(crate) fn load(&self, falls: bool, counts: i32) -> i64
         requires { IsSegment falls self.now }
-        ensures { IsRounded falls self.now counts result }
+        ensures { IsRoundedOnLine falls self.now counts result }
     {
         let lowest = turned(falls, self.lower.counts);
         let run = turned(falls, self.upper.counts) - lowest;

@@ -3,7 +3,7 @@ ghost use Rattle.arrayvec.specs.ArrayString.{array_string_len};
 ghost use Rattle.std.specs.Fmt.{signed_decimal};
 ghost use Rattle.std.specs.Prelude.{◌≡◌, ◌≤◌, ◌++◌, ℤ, None, Some, codes};
 ghost use Rattle.wb_calibration.specs.Calibration.{IsCalibration};
-ghost use Rattle.wb_calibration.specs.Line.{IsLoad};
+ghost use Rattle.wb_calibration.specs.Line.{IsLoadOf};
 ghost use Rattle.wb_converter.specs.Answer.{line_of, lost_line};
 ghost use Rattle.wb_converter.specs.Counts.{counts_of};
 
@@ -15,10 +15,10 @@ use wb_calibration::Calibration;
 /// The line that is handed on for a line of counts, without its LF or CR LF: the load in tenths of the verification scale interval,
 /// or `lost` if the line has no counts, or these no load.
 pub fn answer(calibration: &Calibration, line: &[u8]) -> ArrayString<12>
-    ensures load { (counts tenths : ℤ) → counts_of line.now ≡ Some counts → IsLoad calibration.now counts tenths
+    ensures load { (counts tenths : ℤ) → counts_of line.now ≡ Some counts → IsLoadOf calibration.now counts tenths
         → result.bytes ≡ line_of tenths }
     ensures no_load { (counts : ℤ) → counts_of line.now ≡ Some counts
-        → ((tenths : ℤ) → ¬ IsLoad calibration.now counts tenths) → result.bytes ≡ lost_line }
+        → ((tenths : ℤ) → ¬ IsLoadOf calibration.now counts tenths) → result.bytes ≡ lost_line }
     ensures no_counts { counts_of line.now ≡ None → result.bytes ≡ lost_line }
 {
     match counts_line(line) {

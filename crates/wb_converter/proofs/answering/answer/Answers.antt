@@ -1,13 +1,13 @@
 use Rattle.std.proofs.Common.{◌≡◌, ◌∙◌, ap, subst, ℤ, List, Option, Some, unwrap_or, to_z-of_z, SFits, w32, rules}
 use Rattle.wb_calibration.specs.declared.point.Point.{Point}
-use Rattle.wb_calibration.specs.Line.{IsLoad}
+use Rattle.wb_calibration.specs.Line.{IsLoadOf}
 use Rattle.wb_converter.proofs.answering.answer.Goals as goal
 
-none_left : (points : List Point) (read counts tenths : ℤ) (found : Option ℤ) → Some read ≡ found → found ≡ Some counts → IsLoad points read tenths
-    → ((any : ℤ) → ¬ IsLoad points counts any) → ⊥
+none_left : (points : List Point) (read counts tenths : ℤ) (found : Option ℤ) → Some read ≡ found → found ≡ Some counts → IsLoadOf points read tenths
+    → ((any : ℤ) → ¬ IsLoadOf points counts any) → ⊥
 none_left points read counts tenths found r e is none =
     let same : read ≡ counts = ap (λ o. unwrap_or o counts) (r ∙ e) in
-    let P : ℤ → Type 0 = λ x. IsLoad points x tenths in
+    let P : ℤ → Type 0 = λ x. IsLoadOf points x tenths in
     none tenths (subst P same is)
 
 pub returns-in-Some-load-clause-no_load : goal.returns-in-Some-load-clause-no_load

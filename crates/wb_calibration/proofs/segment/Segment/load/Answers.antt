@@ -3,7 +3,7 @@ use Rattle.std.proofs.lemmas.Int.{ints}
 use Rattle.wb_calibration.specs.declared.segment.Segment.{Segment}
 use Rattle.wb_calibration.specs.Line.{IsNearest, past, rise, run}
 use Rattle.wb_calibration.specs.helpers.Neighbours.{IsSegment}
-use Rattle.wb_calibration.proofs.Rounding.{IsRounded-nearest, positive_run}
+use Rattle.wb_calibration.proofs.Rounding.{IsRoundedOnLine-nearest, positive_run}
 use Rattle.wb_calibration.proofs.Turning.{turned_apart}
 use Rattle.wb_calibration.proofs.Sizes.{run_small, rise_small, product_small, product_fits, product_passed}
 use Rattle.wb_calibration.proofs.segment.Segment.load.Goals as goal
@@ -52,4 +52,4 @@ returns c =
     let rise_is = rise_is falling s c.requires c.from-rise.result c.from-rise.ensures in
     let product_is = product_passed falling s c.args.counts c.requires lower c.ranges.counts in
     let near : IsNearest (past falling s c.args.counts *ℤ rise s) (run falling s) c.nearest.result = rw (past_is, rise_is, product_is, run_is) at c.nearest.ensures.nearest in
-    IsRounded-nearest falling s c.args.counts c.nearest.result _ near (sum_is s.lower.tenths c.nearest.result c.from.result c.requires.lower c.nearest.ensures.small c.from.ensures)
+    IsRoundedOnLine-nearest falling s c.args.counts c.nearest.result _ near (sum_is s.lower.tenths c.nearest.result c.from.result c.requires.lower c.nearest.ensures.small c.from.ensures)
