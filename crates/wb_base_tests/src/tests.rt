@@ -7,7 +7,6 @@ mod instrument;
 mod journal;
 mod nets;
 mod scale;
-mod sources;
 mod terminal;
 mod window;
 

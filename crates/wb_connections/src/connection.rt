@@ -1,31 +1,35 @@
 //! A connection of the office, from its first byte to its end. No call here waits.
-ghost use Rattle.std.specs.Prelude.{◌≤◌};
-
 use crate::limits::{
     LEAVING_SECONDS, READS_A_TURN, SILENT_SECONDS, UNTAKEN_SECONDS, WHOLE_WITHIN_SECONDS,
 };
 use crate::ready::{Ready, is_past, read_ready, write_ready};
 use std::alloc::Global;
-use std::fmt;
 use std::fmt::Display;
 use std::io::{Read, Write};
 use std::net::{OpenStream, Shutdown, SocketAddr};
 use std::time::Instant;
+use std::{fmt, mem};
 use wb_sources::REQUEST_ROOM;
 
-/// What requests are. A connection of the office asks nothing else of their bytes.
+/// How requests are judged. A connection of the office asks nothing else of their bytes.
 pub trait Requests {
-    /// Whether no further byte can change how a request is judged that begins with these.
-    fn is_whole(&self, bytes: &[u8]) -> bool;
+    /// A request with what it was judged as.
+    type Judged: Drop;
+
+    /// Judges a request once no further byte can change how it is judged. Before that it hands the bytes back.
+    fn once_whole(&self, bytes: Vec<u8>) -> Result<Self::Judged, Vec<u8>>;
+
+    /// Judges a request of which no more bytes come.
+    fn as_it_stands(&self, bytes: Vec<u8>) -> Self::Judged;
 }
 
 /// What a connection is doing.
 #[derive(Drop)]
-pub(crate) enum Stage {
+pub(crate) enum Stage<J: Drop> {
     /// Its request comes in.
     Asks,
-    /// Its request is to be judged; the number is its place among those that are.
-    Waits(u64),
+    /// Its request was judged and is to be answered; the number is its place among those that are.
+    Waits(u64, J),
     /// Its request was handed out.
     Asked,
     /// Its response goes out: what the socket didn't take at once, and how many bytes of it are written since.
@@ -69,17 +73,18 @@ impl Display for Why {
 
 /// A connection of the office.
 #[derive(Drop)]
-pub(crate) struct Connection<S: Drop> {
+pub(crate) struct Connection<S: Drop, J: Drop> {
     stream: S,
     pub(crate) peer: SocketAddr,
-    pub(crate) stage: Stage,
+    pub(crate) stage: Stage<J>,
+    /// What came of its request, until that is judged.
     request: Vec<u8>,
     accepted: Instant,
     /// When a byte last came, or its socket last took one, or it was shut for writing.
     moved: Instant,
 }
 
-impl<S: Read + Write + OpenStream + Drop> Connection<S> {
+impl<S: Read + Write + OpenStream + Drop, J: Drop> Connection<S, J> {
     /// Over a stream that was accepted now.
     pub(crate) fn new(alloc: Global, stream: S, peer: SocketAddr, now: Instant) -> Self {
         Connection {
@@ -97,18 +102,19 @@ impl<S: Read + Write + OpenStream + Drop> Connection<S> {
         self.stream.set_nonblocking(true).is_ok()
     }
 
-    /// A turn of it. True once its request is to be judged.
-    pub(crate) fn turn<Q: Requests>(
+    /// A turn of it. It gives its request once that is judged.
+    pub(crate) fn turn<Q: Requests<Judged = J>>(
         &mut self,
+        alloc: Global,
         requests: &Q,
         now: Instant,
         room: &mut [u8; REQUEST_ROOM],
-    ) -> bool {
+    ) -> Option<J> {
         if matches!(self.stage, Stage::Asks) {
-            return self.read(requests, now, room);
+            return self.read(alloc, requests, now, room);
         }
         self.go_on(now, room);
-        false
+        None
     }
 
     /// Goes on with its response, if it has one: writes it, or reads what still comes after it.
@@ -116,23 +122,24 @@ impl<S: Read + Write + OpenStream + Drop> Connection<S> {
         match &self.stage {
             Stage::Takes(_, _) => self.write(now),
             Stage::Leaves => self.leave(now, room),
-            Stage::Asks | Stage::Waits(_) | Stage::Asked | Stage::Closed(_) => {}
+            Stage::Asks | Stage::Waits(_, _) | Stage::Asked | Stage::Closed(_) => {}
         }
     }
 
-    /// Hands out its request, of at most 9,216 bytes.
-    pub(crate) fn hand_out(&mut self, room: &mut [u8; REQUEST_ROOM]) -> usize
-        ensures { result ≤ 9216 }
-    {
-        self.stage = Stage::Asked;
-        let count = self.request.len().min(REQUEST_ROOM);
-        room[..count].copy_from_slice(&self.request[..count]);
-        count
+    /// Hands out its request, if that was judged.
+    pub(crate) fn hand_out(&mut self) -> Option<J> {
+        match mem::replace(&mut self.stage, Stage::Asked) {
+            Stage::Waits(_, request) => Some(request),
+            other => {
+                self.stage = other;
+                None
+            }
+        }
     }
 
     /// Closes it if it has no response.
     pub(crate) fn refuse(&mut self) {
-        if matches!(self.stage, Stage::Asks | Stage::Waits(_) | Stage::Asked) {
+        if matches!(self.stage, Stage::Asks | Stage::Waits(_, _) | Stage::Asked) {
             self.close(Why::ServiceEnds);
         }
     }
@@ -142,13 +149,14 @@ impl<S: Read + Write + OpenStream + Drop> Connection<S> {
         self.stage = Stage::Closed(why);
     }
 
-    /// Reads what came of the request. True once it is to be judged: it is whole, or nothing more of it will come.
-    fn read<Q: Requests>(
+    /// Reads what came of the request. It is judged once it is whole, or nothing more of it will come.
+    fn read<Q: Requests<Judged = J>>(
         &mut self,
+        alloc: Global,
         requests: &Q,
         now: Instant,
         room: &mut [u8; REQUEST_ROOM],
-    ) -> bool {
+    ) -> Option<J> {
         for _ in 0..READS_A_TURN {
             let left = REQUEST_ROOM.saturating_sub(self.request.len());
             match read_ready(&mut self.stream, &mut room[..left]) {
@@ -156,35 +164,46 @@ impl<S: Read + Write + OpenStream + Drop> Connection<S> {
                     self.moved = now;
                     if self.request.extend_from_slice(&room[..count]).is_err() {
                         self.close(Why::Memory);
-                        return false;
+                        return None;
                     }
-                    if self.is_whole(requests) {
-                        return true;
+                    if let Some(judged) = self.once_whole(alloc, requests) {
+                        return Some(judged);
                     }
                 }
                 Ready::Nothing => break,
-                Ready::End | Ready::Fault => return self.is_judged_as_it_stands(),
+                Ready::End | Ready::Fault => return self.as_it_stands(alloc, requests),
             }
         }
         if is_past(self.moved, SILENT_SECONDS, now)
             || is_past(self.accepted, WHOLE_WITHIN_SECONDS, now)
         {
-            return self.is_judged_as_it_stands();
+            return self.as_it_stands(alloc, requests);
         }
-        false
+        None
     }
 
-    fn is_whole<Q: Requests>(&self, requests: &Q) -> bool {
-        self.request.len() >= REQUEST_ROOM || requests.is_whole(self.request.as_slice())
+    /// Judges the request, if it is whole or as long as a request can be.
+    fn once_whole<Q: Requests<Judged = J>>(&mut self, alloc: Global, requests: &Q) -> Option<J> {
+        let bytes = mem::replace(&mut self.request, Vec::new(alloc));
+        if bytes.len() >= REQUEST_ROOM {
+            return Some(requests.as_it_stands(bytes));
+        }
+        match requests.once_whole(bytes) {
+            Ok(judged) => Some(judged),
+            Err(bytes) => {
+                self.request = bytes;
+                None
+            }
+        }
     }
 
-    /// True if a byte came; otherwise it is closed.
-    fn is_judged_as_it_stands(&mut self) -> bool {
+    /// Judges the request if a byte came of it; otherwise the connection is closed.
+    fn as_it_stands<Q: Requests<Judged = J>>(&mut self, alloc: Global, requests: &Q) -> Option<J> {
         if self.request.is_empty() {
             self.close(Why::NoRequest);
-            return false;
+            return None;
         }
-        true
+        Some(requests.as_it_stands(mem::replace(&mut self.request, Vec::new(alloc))))
     }
 
     /// Takes its response, and writes what the socket takes at once. The rest alone takes memory.

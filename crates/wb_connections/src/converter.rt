@@ -1,6 +1,6 @@
 //! The converter, which alone is waited for.
 ghost use Rattle.std.specs.Prelude.{IfSome};
-ghost use Rattle.wb_sources.specs.SourceAnswers.{IsConverted};
+ghost use Rattle.wb_sources.specs.Converted.{IsConverted};
 ghost use Rattle.wb_window.specs.Reading.{IsReading};
 
 use crate::limits::{ENDLESS_LINE, FRESH_SECONDS, LOOK_MILLIS};

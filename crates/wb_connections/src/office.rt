@@ -1,6 +1,4 @@
 //! The connections of the office, kept over turns. No call here waits.
-ghost use Rattle.std.specs.Prelude.{◌≤◌, IfSome};
-
 use crate::connection::{Connection, Requests, Stage, Why};
 use crate::limits::CONNECTIONS;
 use crate::report::Report;
@@ -10,21 +8,21 @@ use std::net::{OpenListener, OpenStream, SocketAddr};
 use std::time::Instant;
 use wb_sources::REQUEST_ROOM;
 
-/// The listener and its connections.
+/// The listener and its connections, with requests that are judged as `J`.
 #[derive(Drop)]
-pub struct Office<L: OpenListener + Drop>
+pub struct Office<L: OpenListener + Drop, J: Drop>
 where
     L::Stream: Read + Write + OpenStream,
 {
     listener: L,
-    connections: Vec<Connection<L::Stream>>,
-    /// The place of the next request that is to be judged.
+    connections: Vec<Connection<L::Stream, J>>,
+    /// The place of the next request that is judged.
     next_place: u64,
     /// How many connections were closed without a byte of a request.
     without_request: u64,
 }
 
-impl<L: OpenListener + Drop> Office<L>
+impl<L: OpenListener + Drop, J: Drop> Office<L, J>
 where
     L::Stream: Read + Write + OpenStream,
 {
@@ -49,7 +47,7 @@ where
     }
 
     /// A turn of all connections: each is accepted, read, written and closed as far as goes without waiting.
-    pub fn step<Q: Requests, R: Eprint>(
+    pub fn step<Q: Requests<Judged = J>, R: Eprint>(
         &mut self,
         alloc: Global,
         requests: &Q,
@@ -59,20 +57,18 @@ where
         self.accept(alloc, now, report);
         let mut room = [0u8; REQUEST_ROOM];
         for connection in self.connections.iter_mut() {
-            if connection.turn(requests, now, &mut room) {
-                connection.stage = Stage::Waits(self.next_place);
+            if let Some(judged) = connection.turn(alloc, requests, now, &mut room) {
+                connection.stage = Stage::Waits(self.next_place, judged);
                 self.next_place = self.next_place.saturating_add(1);
             }
         }
         self.close(report);
     }
 
-    /// Hands out the request that was to be judged first.
-    pub fn take(&mut self, room: &mut [u8; REQUEST_ROOM]) -> Option<usize>
-        ensures { IfSome result (λ count. count ≤ 9216) }
-    {
+    /// Hands out the request that was judged first.
+    pub fn take(&mut self) -> Option<J> {
         let first = self.first()?;
-        Some(self.connections.get_mut(first)?.hand_out(room))
+        self.connections.get_mut(first)?.hand_out()
     }
 
     /// Takes the response to the request that was handed out, and gives who it goes to.
@@ -149,7 +145,7 @@ where
     }
 
     /// Keeps a connection that was accepted.
-    fn keep<R: Eprint>(&mut self, connection: Connection<L::Stream>, report: &Report<'_, R>) {
+    fn keep<R: Eprint>(&mut self, connection: Connection<L::Stream, J>, report: &Report<'_, R>) {
         let peer = connection.peer;
         if !connection.stops_waiting() {
             tell_closed(report, peer, Why::Broken);
@@ -161,11 +157,11 @@ where
         }
     }
 
-    /// The index of the request that was to be judged first.
+    /// The index of the request that was judged first.
     fn first(&self) -> Option<usize> {
         let mut first: Option<(u64, usize)> = None;
         for (index, connection) in self.connections.iter().enumerate() {
-            if let Stage::Waits(place) = &connection.stage {
+            if let Stage::Waits(place, _) = &connection.stage {
                 match first {
                     Some((earlier, _)) if earlier <= *place => {}
                     _ => first = Some((*place, index)),

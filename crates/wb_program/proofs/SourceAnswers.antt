@@ -1,7 +1,7 @@
 -- What sources told, piece by piece.
 use Rattle.std.proofs.Common.{◌≡◌, List, [], ◌∷◌, ◌++◌, Option, None, Some, inl, inr, refl, sym, ap, ◌∙◌, append_assoc}
 use Rattle.std.specs.Prelude.{option_map}
-use Rattle.wb_sources.specs.SourceAnswers.{Answer, Handed, Tells, Told, tells_more}
+use Rattle.wb_station.specs.SourceAnswers.{Answer, Handed, Tells, Told, tells_more}
 use Rattle.wb_program.specs.Turns.{all_handed_on, handed_on}
 use Rattle.wb_station.specs.Account.{Out}
 

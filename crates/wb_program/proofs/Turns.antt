@@ -1,5 +1,5 @@
 -- Events handled, one after the other, and turns of them.
-use Rattle.std.proofs.Common.{◌≡◌, ℕ, ◌+◌, ◌<◌, Bool, false, List, [], ◌∷◌, ◌++◌, length, map, Option, inl, inr, refl, sym, ap, subst, ◌∙◌, arith}
+use Rattle.std.proofs.Common.{◌≡◌, ℕ, ◌+◌, ◌<◌, Bool, false, List, [], ◌∷◌, ◌++◌, length, map, Option, Some, inl, inr, refl, sym, ap, subst, ◌∙◌, arith}
 use Rattle.std.specs.Prelude.{⊤, Ok, Err}
 use Rattle.std.specs.declared.result.Result.{Result}
 use Rattle.std.proofs.lemmas.List.{append-nil, map-append}
@@ -10,14 +10,15 @@ use Rattle.wb_program.specs.declared.serving.Stop.TheVariants as stop
 use Rattle.wb_sources.specs.declared.sources.Converter.TheVariants.{Line}
 use Rattle.wb_program.specs.Served.{EndsAfter, Handled, Served}
 use Rattle.wb_program.specs.helpers.TurnParts.{ExchangeEnds, ExchangeServed, StretchServed, end_of, TurnEnds, TurnServed}
-use Rattle.wb_sources.specs.SourceAnswers.{Answer, Tells, Told, converted, took}
-use Rattle.wb_program.specs.Turns.{Begun, Turn, all_handed_on, answers_begun, answers_of, handed_on, happenings_begun, happenings_of, stretch}
+use Rattle.wb_station.specs.SourceAnswers.{Answer, Tells, Told, asked, bytes_asked, converted, exchanged, timed, took}
+use Rattle.wb_station.specs.declared.sources.Exchange.{Exchange}
+use Rattle.wb_program.specs.Turns.{Begun, Turn, all_handed_on, answers_begun, answers_of, answers_of_request, handed_on, happenings_of_request, happenings_begun, happenings_of, stretch}
 use Rattle.wb_program.proofs.SourceAnswers.{all_handed_on_append, tells_append, tells_none}
 use Rattle.wb_sics.specs.Stands.{TerminalState}
 use Rattle.wb_station.proofs.offered.Runs.{ran_append, ran_more, ran_none, unmarked_happening}
 use Rattle.wb_station.specs.Account.{Out}
 use Rattle.wb_station.specs.declared.event.Event.{Event}
-use Rattle.wb_station.specs.Happening.{Happening, happening, reading, unmarked}
+use Rattle.wb_station.specs.Happening.{Happening, happening, office, reading, unmarked}
 use Rattle.wb_station.specs.Stands.{Took}
 use Rattle.wb_store.specs.Journal.{StoreView}
 use Rattle.wb_window.specs.declared.reading.Reading.{Reading}
@@ -27,16 +28,22 @@ module _ {D : Type 0} (g : Ghosts D) where
   pub handled_none : (t : TerminalState) (j : StoreView D) (a b : Option Told) (answers : List Answer) → Tells answers [] a b → Handled g t j t j a b answers []
   handled_none t j a b answers told = record { happenings = []; outs = []; as_happened = refl; ran = ran_none g t j; told = told }
 
-  -- an event was taken, and what was put out was handed on
-  pub handled_one : (e : Event) (unmade : Bool) (out : Out) (t : TerminalState) (j : StoreView D) (t' : TerminalState) (j' : StoreView D) (a b : Option Told)
-      → Took g (happening unmade e) out t j t' j' → Tells [] (handed_on out) a b → Handled g t j t' j' a b [] (happening false e ∷ [])
-  handled_one e unmade out t j t' j' a b taken told = record {
-    happenings = happening unmade e ∷ [];
+  -- something happened, and what was put out was handed on
+  pub handled_one : (p : Happening) (out : Out) (t : TerminalState) (j : StoreView D) (t' : TerminalState) (j' : StoreView D) (a b : Option Told)
+      → Took g p out t j t' j' → Tells [] (handed_on out) a b → Handled g t j t' j' a b [] (unmarked p ∷ [])
+  handled_one p out t j t' j' a b taken told = record {
+    happenings = p ∷ [];
     outs = out ∷ [];
-    as_happened = ap (λ p. p ∷ []) (unmarked_happening unmade e);
-    ran = ran_more g [] [] (happening unmade e) out t j t j t' j' (ran_none g t j) taken;
+    as_happened = refl;
+    ran = ran_more g [] [] p out t j t j t' j' (ran_none g t j) taken;
     told = subst (λ hs. Tells [] hs a b) (sym (append-nil (handed_on out))) told;
   }
+
+  -- an event was taken
+  pub handled_event : (e : Event) (unmade : Bool) (out : Out) (t : TerminalState) (j : StoreView D) (t' : TerminalState) (j' : StoreView D) (a b : Option Told)
+      → Took g (happening unmade e) out t j t' j' → Tells [] (handed_on out) a b → Handled g t j t' j' a b [] (happening false e ∷ [])
+  handled_event e unmade out t j t' j' a b taken told =
+      subst (λ p. Handled g t j t' j' a b [] (p ∷ [])) (unmarked_happening unmade e) (handled_one (happening unmade e) out t j t' j' a b taken told)
 
   pub handled_append : (xs bs : List Answer) (ps qs : List Happening) (t : TerminalState) (j : StoreView D) (t' : TerminalState) (j' : StoreView D) (t'' : TerminalState) (j'' : StoreView D) (a b c : Option Told)
       → Handled g t j t' j' a b xs ps → Handled g t' j' t'' j'' b c bs qs → Handled g t j t'' j'' a c (bs ++ xs) (qs ++ ps)
@@ -58,6 +65,20 @@ module _ {D : Type 0} (g : Ghosts D) where
     ran = next.ran;
     told = subst (λ hs. Tells answers hs a c) (append-nil (all_handed_on next.outs)) (tells_append answers [] [] (all_handed_on next.outs) a b c told next.told);
   }
+
+  -- ---- an exchange
+
+  pub exchange_served : (e : Exchange) (room : List ℕ) (moment : ℕ) (t : TerminalState) (j : StoreView D) (t' : TerminalState) (j' : StoreView D) (a b c : Option Told)
+      → e.moment ≡ Some moment → Tells (exchanged (Some e) room) [] a b → Handled g t j t' j' b c [] (office moment (bytes_asked e.asked room) false ∷ [])
+      → ExchangeServed g t j t' j' a c (Ok tt)
+  exchange_served e room moment t j t' j' a b c is told handled =
+      let request = Some (record { bytes = bytes_asked e.asked room; moment = moment }) in record {
+        answers = answers_of_request request;
+        happened = happenings_of_request request;
+        handled = handled_answer (answers_of_request request) (happenings_of_request request) t j t' j' a b c
+            (subst (λ m. Tells (timed m ∷ asked (Some (bytes_asked e.asked room)) ∷ []) [] a b) is told) handled;
+        ends = (request, refl, refl);
+      }
 
   -- ---- a turn
 

@@ -2,15 +2,16 @@
 ghost use Rattle.std.specs.Prelude.{◌≡◌, ◌∷◌, [], false, map, reverse};
 ghost use Rattle.wb_program.specs.Served.{Handled, Served};
 ghost use Rattle.wb_program.specs.helpers.TurnParts.{ExchangeServed, StretchServed, end_of, TurnServed};
-ghost use Rattle.wb_sources.specs.SourceAnswers.{Tells};
+ghost use Rattle.wb_station.specs.SourceAnswers.{Tells};
 ghost use Rattle.wb_program.specs.Turns.{handed_on};
-ghost use Rattle.wb_station.specs.Happening.{IsTaken, byte as byte_happening, happening};
+ghost use Rattle.wb_station.specs.Happening.{IsTaken, byte as byte_happening, happening, office as office_happening};
 ghost use Rattle.wb_station.specs.OutputShows.{out_shown};
 
 use sqlite::Alter;
 use thiserror::Error;
-use wb_sources::{Converter, REQUEST_ROOM, Sources, TERMINAL_ROOM};
-use wb_station::{Event, Output, Station, reply_bytes};
+use wb_journal::Moment;
+use wb_sources::{Converter, REQUEST_ROOM, TERMINAL_ROOM};
+use wb_station::{Asked, Event, Judged, Output, Sources, Station, reply_bytes};
 use wb_window::Window;
 
 /// How serving ended.
@@ -132,15 +133,35 @@ fn serve_office<W: Window, D: Alter, S: Sources>(
         station.new.terminal station.new.office (S.told sources.old) (S.told sources.new) result }
 {
     let mut room = [0u8; REQUEST_ROOM];
-    let Some(count) = sources.office(&mut room) else {
+    let Some(exchange) = sources.exchange(&mut room) else {
         return Ok(());
     };
-    let Some(moment) = sources.moment() else {
+    let Some(moment) = exchange.moment else {
         return Err(Stop::ClockFault);
     };
-    let bytes = &room[..count];
-    handle(station, sources, &Event::Office { moment, bytes });
+    match exchange.asked {
+        Asked::Bytes(count) => {
+            let bytes = &room[..count];
+            handle(station, sources, &Event::Office { moment, bytes });
+        }
+        Asked::Judged(request) => handle_judged(station, sources, moment, request),
+    }
     Ok(())
+}
+
+/// Hands a request that was judged to the station, and hands on its response.
+fn handle_judged<W: Window, D: Alter, S: Sources>(
+    station: &mut Station<W, D>,
+    sources: &mut S,
+    moment: Moment,
+    request: Judged,
+)
+    ensures { Handled D.Store station.old.terminal station.old.office
+        station.new.terminal station.new.office (S.told sources.old) (S.told sources.new)
+        [] (office_happening moment request false ∷ []) }
+{
+    let output = station.answer(moment, request);
+    hand_on(output, sources);
 }
 
 /// Hands an event to the station, and hands on what it puts out.

@@ -5,6 +5,7 @@ use std::io::{Read, Write};
 use std::net::{OpenListener, OpenStream};
 use std::time::Instant;
 use wb_connections::{Office, Report, Terminal};
+use wb_station::Judged;
 
 /// A terminal and an office, and what requests to the office are.
 #[derive(Drop)]
@@ -14,7 +15,7 @@ where
 {
     requests: StationRequests,
     pub(crate) terminal: Terminal<L>,
-    pub(crate) office: Office<L>,
+    pub(crate) office: Office<L, Judged>,
 }
 
 impl<L: OpenListener + Drop> Clients<L>

@@ -1,15 +1,12 @@
-//! What requests are, as the station judges them.
+//! How requests are judged, as the station does it.
 use std::alloc::{AllocError, Global};
 use wb_connections::Requests;
-use wb_sources::REQUEST_ROOM;
-use wb_station::{MOST_REQUEST_BYTES, Routes, is_whole};
-
-// The room of a source's request is as much as the station reads of one.
-const _: () = prove!(REQUEST_ROOM == MOST_REQUEST_BYTES);
+use wb_station::{Judged, Routes};
 
 /// Requests to a station.
 #[derive(Drop)]
 pub struct StationRequests {
+    alloc: Global,
     routes: Routes,
 }
 
@@ -17,13 +14,20 @@ impl StationRequests {
     /// By the station's routes. Refuses for want of memory alone.
     pub fn new(alloc: Global) -> Result<Self, AllocError> {
         Ok(StationRequests {
+            alloc,
             routes: Routes::new(alloc)?,
         })
     }
 }
 
 impl Requests for StationRequests {
-    fn is_whole(&self, bytes: &[u8]) -> bool {
-        is_whole(&self.routes, bytes)
+    type Judged = Judged;
+
+    fn once_whole(&self, bytes: Vec<u8>) -> Result<Judged, Vec<u8>> {
+        Judged::once_whole(self.alloc, &self.routes, bytes)
+    }
+
+    fn as_it_stands(&self, bytes: Vec<u8>) -> Judged {
+        Judged::as_it_stands(self.alloc, &self.routes, bytes)
     }
 }

@@ -1,6 +1,6 @@
 //! The sources of a service, over real sockets and files.
-ghost use Rattle.std.specs.Prelude.{◌≤◌, IfSome, None};
-ghost use Rattle.wb_sources.specs.SourceAnswers.{IsConverted};
+ghost use Rattle.std.specs.Prelude.{None};
+ghost use Rattle.wb_sources.specs.Converted.{IsConverted};
 
 use crate::clients::Clients;
 use std::alloc::AllocError;
@@ -14,7 +14,8 @@ use wb_connections::{
     is_past,
 };
 use wb_journal::Moment;
-use wb_sources::{Converter as Said, REQUEST_ROOM, Sources, TERMINAL_ROOM, Taken};
+use wb_sources::{Converter as Said, REQUEST_ROOM, TERMINAL_ROOM, Taken};
+use wb_station::{Asked, Exchange, Judged, Sources};
 use wb_window::Reading;
 
 /// How often what waits for clients is looked at at the end.
@@ -151,13 +152,15 @@ where
         self.clients.step(self.rt.alloc(), now, &self.report);
     }
 
-    /// Hands out the next request, with which an exchange begins.
-    fn hand_out(&mut self, room: &mut [u8; REQUEST_ROOM]) -> Option<usize>
-        ensures { IfSome result (λ count. count ≤ 9216) }
-    {
-        let count = self.clients.office.take(room)?;
+    /// The next request, with which an exchange begins, unless the reading before it is old.
+    fn next_request(&mut self) -> Option<Judged> {
+        self.step();
+        if !self.is_current() {
+            return None;
+        }
+        let request = self.clients.office.take()?;
         self.asked = Some(self.look_at_clock());
-        Some(count)
+        Some(request)
     }
 
     /// How long the exchange took that has ended.
@@ -203,17 +206,23 @@ where
     }
 
     fn office(&mut self, room: &mut [u8; REQUEST_ROOM]) -> Option<usize> {
-        self.step();
-        if self.is_current() {
-            self.hand_out(room)
-        } else {
-            None
-        }
+        let request = self.next_request()?;
+        let count = request.bytes().len().min(REQUEST_ROOM);
+        room[..count].copy_from_slice(&request.bytes()[..count]);
+        Some(count)
     }
 
     fn moment(&mut self) -> Option<Moment> {
         let now = SystemTime::now(self.rt).ok()?;
         Moment::new(now.duration_since(UNIX_EPOCH).ok()?.as_secs())
+    }
+
+    fn exchange(&mut self, _room: &mut [u8; REQUEST_ROOM]) -> Option<Exchange> {
+        let request = self.next_request()?;
+        Some(Exchange {
+            asked: Asked::Judged(request),
+            moment: self.moment(),
+        })
     }
 
     fn respond(&mut self, bytes: &[u8]) {

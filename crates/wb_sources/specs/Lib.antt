@@ -1,7 +1,4 @@
--- What a source answers and is handed.
-pub mod SourceAnswers
--- Lines of a converter.
+-- What a converter gives, and its lines.
+pub mod Converted
 pub mod Number
 pub mod ConverterLines
--- Sources in memory.
-pub mod SourcesInMemory

@@ -1,6 +1,5 @@
 -- Accounts: one of a history, and what each event makes of it.
 use Rattle.std.proofs.Common.{◌≡◌, ℕ, ◌⊎◌, inl, inr, refl, sym, ap, subst, ◌∙◌, Bool, true, false, List, [], ◌∷◌, ◌++◌, Result, Ok, Err, OnOk, IsOk, is_err}
-use Rattle.sqlite.specs.Held.{state}
 use Rattle.sqlite.specs.Store.{Ghosts}
 use Rattle.sqlite.specs.Tree.{Trees}
 use Rattle.wb_instrument.specs.Setup.{Setup}
@@ -11,15 +10,15 @@ use Rattle.wb_sics.specs.Heard.{heard}
 use Rattle.wb_sics.specs.Replies.{replies}
 use Rattle.wb_sics.specs.Stands.{TerminalTakesAll, TerminalState, TerminalStands}
 use Rattle.wb_journal.specs.declared.entry.EntryParts.{EntryParts}
-use Rattle.wb_store.specs.Journal.{IsHonest, Reopens, StoreView, StoreStands}
+use Rattle.wb_store.specs.Journal.{Reopens, StoreView, StoreStands}
 use Rattle.wb_store.specs.Keeping.{LeavesOnly}
 use Rattle.wb_store.specs.Rows.{SpentKey}
 use Rattle.wb_store.specs.Lists.{AreLists}
 use Rattle.wb_sics.proofs.Theorems.{law_of_replies}
-use Rattle.wb_station.specs.Account.{Account, Comes, IsAccount, IsOut, IsResponseOut, Out, hears, nothing, opened, replied, responded}
+use Rattle.wb_station.specs.Account.{Account, Comes, IsAccount, IsResponseOut, Out, hears, nothing, opened, replied, responded}
 use Rattle.wb_station.specs.Response.{IsDateOf, ResponseContent, response_text}
-use Rattle.wb_station.specs.Happening.{Happening, heard_of, reading, byte, hang_up, office, unmarked}
-use Rattle.wb_station.specs.Stands.{Hears, IsAnsweredOutright, IsButForOne, IsOfHistory, IsReplied, KeepsLists, LeavesSoon, MustBeUnmade, StationStands, Took}
+use Rattle.wb_station.specs.Happening.{Happening, heard_of, reading, byte, hang_up, office}
+use Rattle.wb_station.specs.Stands.{Hears, IsAnsweredOutright, IsButForOne, IsOfHistory, IsReplied, LeavesSoon, MustBeUnmade, StationStands, Took}
 use Rattle.wb_station.specs.Unmade.{MayBeUnmade}
 use Rattle.wb_window.specs.declared.reading.Reading.{Reading as Load}
 

@@ -1,5 +1,5 @@
 -- The bytes of replies, one after the other.
-use Rattle.std.proofs.Common.{◌≡◌, ℕ, ◌+◌, ◌<◌, refl, sym, ap, ◌∙◌, List, [], ◌∷◌, ◌++◌, append_assoc, append-nil, get_or, length, take}
+use Rattle.std.proofs.Common.{◌≡◌, ℕ, ◌+◌, ◌<◌, sym, ap, ◌∙◌, List, [], ◌∷◌, ◌++◌, append_assoc, append-nil, get_or, length, take}
 use Rattle.std.proofs.lemmas.List.{take_more}
 use Rattle.wb_sics.specs.declared.reply.Reply.{Reply}
 use Rattle.wb_sics.specs.ReplyText.{reply_bytes}

@@ -1,15 +1,12 @@
 -- The requests of a history as a course of the office.
-use Rattle.std.proofs.Common.{◌≡◌, ℕ, ◌⊎◌, inl, inr, refl, sym, ap, subst, subst₂, ◌∙◌, Bool, true, false, List, [], ◌∷◌, ◌++◌, Option, Some, Result, Ok, Err}
+use Rattle.std.proofs.Common.{◌≡◌, ℕ, ◌⊎◌, inl, inr, refl, sym, ap, subst, subst₂, ◌∙◌, true, false, List, [], ◌∷◌, Some, Result, Ok, Err}
 use Rattle.wb_instrument.specs.Setup.{Setup}
 use Rattle.wb_journal.specs.declared.entry.EntryParts.{EntryParts}
-use Rattle.wb_office.specs.declared.refusal.Refusal.{Refusal}
-use Rattle.wb_office.specs.declared.refusal.Refusal.TheVariants.{Gone}
-use Rattle.wb_office.specs.Answer.{Content}
 use Rattle.wb_office.specs.declared.request.Request.{Request}
 use Rattle.wb_office.specs.CourseOfRequests as course
 use Rattle.wb_office.specs.CourseOfRequests.{AreBounds, Journal, RequestTurn, after, answer_in, left}
 use Rattle.wb_office.specs.Laws.{IsGone, IsKeptEntry}
-use Rattle.wb_office.specs.Wanted.{Wanted, HasBound, IsWanted, wanted}
+use Rattle.wb_office.specs.Wanted.{Wanted, HasBound, IsWanted}
 use Rattle.wb_store.specs.Lists.{entry_by_key, is_spent}
 use Rattle.wb_office.proofs.Theorems.{law_of_repeated_requests}
 use Rattle.wb_station.specs.declared.fault.HttpFault.{HttpFault}

@@ -6,6 +6,7 @@ mod HeardEvents
 mod OfficeRequests
 mod OneHistory
 mod RunsSoFar
+mod SourcesInMemory
 pub mod Theorems
 mod judgement
 pub mod RefusalNames

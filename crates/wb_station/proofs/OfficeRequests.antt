@@ -1,5 +1,5 @@
 -- Requests to the office: what each leaves.
-use Rattle.std.proofs.Common.{◌≡◌, ℕ, ◌⊎◌, ◌↔◌, inl, inr, refl, sym, ap, subst, subst₂, ◌∙◌, Bool, true, false, true≢false, ◌==◌, not, List, [], ◌∷◌, ◌++◌, Option, Some, None, is_some, Result, Ok, Err, if◌then◌else◌, IsErrOf, arith}
+use Rattle.std.proofs.Common.{◌≡◌, ℕ, ◌⊎◌, inl, inr, refl, sym, ap, subst, subst₂, ◌∙◌, Bool, true, false, true≢false, ◌==◌, not, List, [], ◌∷◌, ◌++◌, Option, Some, None, Result, Ok, Err, if◌then◌else◌, IsErrOf, arith}
 use Rattle.std.proofs.lemmas.Bool.{eqb-true}
 use Rattle.std.specs.List.{AllByRecursion}
 use Rattle.sqlite.specs.Held.{state}
@@ -20,11 +20,11 @@ use Rattle.wb_office.specs.declared.refusal.Refusal.{Refusal}
 use Rattle.wb_office.specs.declared.refusal.Refusal.TheVariants.{KeyReused, Gone, ClockBack, NoLoad, Overload, Underload, Unstable, BelowMin, TareActive, NoPreset, NotCleared, AlreadyOpen, NoOpen, JournalFull, Store, NoTicket, Damaged}
 use Rattle.wb_office.specs.declared.request.Request.{Request}
 use Rattle.wb_office.specs.declared.request.Request.TheVariants.{Weigh, VoidOpen, Ticket, Indication, JournalCsv, TicketsCsv, Purge, Check}
-use Rattle.wb_office.specs.Answer.{Content, text_of_indication, text_content, answer_by_verdict, asking, has_ticket, if_sound, entry_content, ticket_of, tickets_answer}
+use Rattle.wb_office.specs.Answer.{Content, text_of_indication, text_content, answer_by_verdict, asking, has_ticket, if_sound, entry_content, ticket_of}
 use Rattle.wb_office.specs.Situation.{Situation}
 use Rattle.wb_office.specs.WithoutStore.{Outright}
 use Rattle.wb_office.specs.Conditions.{is_damaged}
-use Rattle.wb_office.specs.Serves.{IsNow, LeavesWanted, Marks, Serves, contents_of, is_store_refusal}
+use Rattle.wb_office.specs.Serves.{IsNow, Marks, Serves, contents_of, is_store_refusal}
 use Rattle.wb_office.specs.Wanted.{Wanted, IsWanted, asks_store, wanted}
 use Rattle.wb_office.specs.Verdict.{Verdict, accepted, refused, repeated, verdict}
 use Rattle.wb_scale.specs.History.{moments}
@@ -43,7 +43,7 @@ use Rattle.wb_journal.proofs.Theorems.{law_of_one_bound}
 use Rattle.wb_sics.proofs.Theorems.{law_of_stored_weighings}
 use Rattle.wb_station.specs.declared.fault.HttpFault.{HttpFault}
 use Rattle.wb_station.specs.declared.fault.HttpFault.TheVariants.{BadField, HeadTooLarge, Malformed, Memory, NoLength, NoRoute, TooLarge, WrongMethod}
-use Rattle.wb_station.specs.Account.{Account, Comes, IsAccount, IsResponseOut, Out, account_left, responded, situation_at}
+use Rattle.wb_station.specs.Account.{Account, Comes, IsResponseOut, Out, account_left, responded, situation_at}
 use Rattle.wb_station.specs.Happening.{Happening, heard_of, office}
 use Rattle.wb_station.specs.HttpJudgement.{IsJudged, MayWantMemory}
 use Rattle.wb_station.specs.UnlessMemoryRefused.{IsOf}

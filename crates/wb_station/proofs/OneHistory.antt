@@ -1,5 +1,5 @@
 -- One account, and one output.
-use Rattle.std.proofs.Common.{◌≡◌, ℕ, ◌≤◌, ◌==◌, refl, sym, ap, ap₂, subst, ◌∙◌, arith, Bool, true, false, List, [], ◌∷◌, ◌++◌, if◌then◌else◌, Result, Ok, Err}
+use Rattle.std.proofs.Common.{◌≡◌, ℕ, refl, sym, ap, subst, ◌∙◌, arith, Bool, true, false, List, [], ◌∷◌, if◌then◌else◌, Result, Ok, Err}
 use Rattle.httpdate.proofs.Theorems.{unix_secs_injective}
 use Rattle.httpdate.specs.Text.{imf_fixdate}
 use Rattle.wb_instrument.specs.Setup.{Setup}
@@ -13,12 +13,10 @@ use Rattle.wb_sics.specs.Heard.{heard}
 use Rattle.wb_sics.specs.Replies.{replies}
 use Rattle.wb_sics.proofs.Theorems.{law_of_replies}
 use Rattle.wb_station.specs.declared.fault.HttpFault.{HttpFault}
-use Rattle.wb_station.specs.Account.{Account, Comes, ComesOf, IsAccount, IsOut, IsResponseOut, Out, account_left, replied, responded, situation_at}
+use Rattle.wb_station.specs.Account.{Account, Comes, ComesOf, IsAccount, IsResponseOut, Out, account_left, replied, responded, situation_at}
 use Rattle.wb_station.specs.Happening.{Happening, heard_of, reading, byte, hang_up, office}
-use Rattle.wb_station.specs.HttpJudgement.{IsJudged}
 use Rattle.wb_station.specs.Laws.{OneHistory, RepliesAlone}
 use Rattle.wb_station.specs.Response.{ResponseContent, response_text, told_result}
-use Rattle.wb_station.specs.Stands.{IsReplied}
 use Rattle.wb_station.proofs.judgement.WholeRequests.{one_judgement}
 
 one_response : (at : ℕ) (told : ResponseContent) (x y : Out) → IsResponseOut at told x → IsResponseOut at told y → x ≡ y

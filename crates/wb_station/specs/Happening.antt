@@ -1,5 +1,5 @@
 -- What happens at a station.
-use Rattle.std.specs.Prelude.{ℕ, Bool, true, false, List, [], ◌∷◌}
+use Rattle.std.specs.Prelude.{ℕ, Bool, false, List, [], ◌∷◌}
 use Rattle.wb_sics.specs.Event as terminal
 use Rattle.wb_sics.specs.Event.{TerminalEvent}
 use Rattle.wb_window.specs.Reading.{IsReading}

@@ -16,6 +16,9 @@ pub mod WholeRequests
 -- The bytes of a response.
 pub mod Faults
 pub mod Response
+-- What the sources of a service answer and are handed, and sources in memory.
+pub mod SourceAnswers
+pub mod SourcesInMemory
 -- What the calls say besides: of an output that is lent or kept, of the router, of want of memory.
 pub mod OutputShows
 pub mod AfterBorrow

@@ -1,5 +1,5 @@
 -- Which requests may count as never made, because they are answered 503.
-use Rattle.std.specs.Prelude.{◌≡◌, ◌⊎◌, Bool, true, false, List, [], ◌∷◌, Ok}
+use Rattle.std.specs.Prelude.{◌≡◌, ◌⊎◌, true, false, List, [], ◌∷◌, Ok}
 use Rattle.wb_office.specs.declared.request.Request.{Request}
 use Rattle.wb_office.specs.Wanted.{asks_store}
 use Rattle.wb_station.specs.Happening.{Happening, reading, byte, hang_up, office}

@@ -5,13 +5,12 @@ ghost use Rattle.wb_station.specs.Happening.{office as office_happening};
 ghost use Rattle.wb_station.specs.HttpJudgement.{IsJudged};
 ghost use Rattle.wb_station.specs.Response.{told_fault};
 ghost use Rattle.wb_station.specs.Stands.{Took};
+ghost use Rattle.wb_station.specs.UnlessMemoryRefused.{WasJudged};
 
 use crate::fault::HttpFault;
 use crate::outcome::Outcome;
-use crate::request::request_of;
 use crate::response::response_bytes;
 use crate::room::ResponseRoom;
-use crate::routes::Routes;
 use sqlite::Alter;
 use std::alloc::Global;
 use wb_journal::Moment;
@@ -19,20 +18,20 @@ use wb_office::{Office, Request};
 use wb_sics::Terminal;
 use wb_window::Window;
 
-/// Asks the office what the bytes ask, and leaves the response in the room.
+/// Asks the office what a request's bytes were judged as, and leaves the response in the room.
 pub(crate) fn ask<W: Window, D: Alter>(
     alloc: Global,
-    routes: &Routes,
     terminal: &mut Terminal<W>,
     office: &mut Office<D>,
     room: &mut ResponseRoom,
     moment: &Moment,
-    bytes: &[u8],
+    judged: Result<Request, HttpFault>,
 )
-    ensures { (unmade : Bool) × Took D.Store (office_happening moment.now bytes.now unmade)
+    ensures { (bytes : List ℕ) → WasJudged bytes judged → (unmade : Bool)
+        × Took D.Store (office_happening moment.now bytes unmade)
         (responded room.new) terminal.old office.old terminal.new office.new }
 {
-    match request_of(alloc, routes, bytes) {
+    match judged {
         Ok(request) => answer(alloc, terminal, office, room, moment, request),
         Err(fault) => put_fault(room, moment, fault),
     }

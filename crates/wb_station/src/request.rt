@@ -82,7 +82,8 @@ pub(crate) fn sought_by(routes: &Routes, head: &Head<'_>) -> Result<Sought, Http
     }
 }
 
-fn request_in<A: Allocator + Copy + Drop>(
+/// What is asked by what a head asks for, with what follows the head.
+pub(crate) fn request_in<A: Allocator + Copy + Drop>(
     alloc: A,
     head: &Head<'_>,
     sought: Sought,

@@ -1,26 +1,31 @@
 //! The station: a terminal and an office over one scale, and what it puts out at each event.
 ghost use Rattle.std.specs.Borrow.{sem};
-ghost use Rattle.std.specs.Prelude.{◌≡◌, [], Bool, IfErr, IfOk, List};
+ghost use Rattle.std.specs.Prelude.{◌≡◌, [], Bool, IfErr, IfOk, List, ℕ};
 ghost use Rattle.wb_journal.specs.declared.entry.EntryParts.{EntryParts};
 ghost use Rattle.wb_station.specs.Account.{opened, replied};
-ghost use Rattle.wb_station.specs.Happening.{IsTaken, happening, reading as reading_happening};
+ghost use Rattle.wb_station.specs.Happening.{IsTaken, happening, office as office_happening, reading as reading_happening};
 ghost use Rattle.wb_station.specs.AfterBorrow.{HoldsAfterBorrow};
 ghost use Rattle.wb_station.specs.OutputShows.{out_shown};
 ghost use Rattle.wb_station.specs.helpers.RoomShows.{shown_in};
 ghost use Rattle.wb_station.specs.Stands.{Hears, StationStands, Took};
+ghost use Rattle.wb_station.specs.UnlessMemoryRefused.{WasJudged};
 ghost use Rattle.wb_store.specs.Journal.{StoreStands};
 ghost use Rattle.wb_store.specs.Rows.{SpentKey};
 ghost use Rattle.wb_window.specs.Reading.{IsReading};
 
 use crate::asking::ask;
 use crate::event::{AtTerminal, Event, Output, Room};
+use crate::fault::HttpFault;
 use crate::hearing::hear;
+use crate::judged::Judged;
+use crate::request::request_of;
 use crate::room::ResponseRoom;
 use crate::routes::Routes;
 use sqlite::Alter;
 use std::alloc::Global;
 use wb_instrument::Instrument;
-use wb_office::Office;
+use wb_journal::Moment;
+use wb_office::{Office, Request};
 use wb_scale::Scale;
 use wb_sics::{Replies, Terminal};
 use wb_store::Store;
@@ -111,6 +116,16 @@ impl<W: Window, D: Alter> Station<W, D> {
         &self.replies
     }
 
+    /// Answers a request that was judged, as `turn` does at its bytes.
+    pub fn answer(&mut self, moment: Moment, request: Judged) -> Output<'_>
+        ensures* leaves { sem 𝓛 (HoldsAfterBorrow (the_row W.row D.row W.Window D.Store) self.entry (λ new. (unmade : Bool)
+            × Took D.Store (office_happening moment request unmade) (out_shown result)
+            self.old.terminal self.old.office new.terminal new.office)) }
+    {
+        let room = self.ask(&moment, request.into_result());
+        self.output(room)
+    }
+
     /// Takes an event, and makes what it puts out in a room.
     pub(crate) fn take(&mut self, event: &Event<'_>) -> Room
         requires { IsTaken event.now }
@@ -130,18 +145,28 @@ impl<W: Window, D: Alter> Station<W, D> {
             ),
             Event::Hangup => hear(&mut self.terminal, &mut self.replies, AtTerminal::Hangup),
             Event::Office { moment, bytes } => {
-                ask(
-                    self.alloc,
-                    &self.routes,
-                    &mut self.terminal,
-                    &mut self.office,
-                    &mut self.response,
-                    moment,
-                    bytes,
-                );
-                Room::Response
+                let judged = request_of(self.alloc, &self.routes, bytes);
+                self.ask(moment, judged)
             }
         }
+    }
+
+    /// Takes what a request's bytes were judged as, and makes the response in its room.
+    fn ask(&mut self, moment: &Moment, judged: Result<Request, HttpFault>) -> Room
+        ensures { (bytes : List ℕ) → WasJudged bytes judged → (unmade : Bool)
+            × Took D.Store (office_happening moment.now bytes unmade)
+            (shown_in result self.new.replies.items self.new.response)
+            self.old.terminal self.old.office self.new.terminal self.new.office }
+    {
+        ask(
+            self.alloc,
+            &mut self.terminal,
+            &mut self.office,
+            &mut self.response,
+            moment,
+            judged,
+        );
+        Room::Response
     }
 
     /// Takes a reading, and leaves the replies at it in their room.

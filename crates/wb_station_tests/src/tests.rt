@@ -2,12 +2,14 @@
 mod days;
 mod forms;
 mod heads;
+mod judged;
 mod lengths;
 mod long;
 mod memory;
 mod orders;
 mod responses;
 mod runs;
+mod sources;
 mod station;
 mod stops;
 mod targets;

@@ -7,7 +7,7 @@ use Rattle.wb_program.specs.declared.serving.ServeEnd.TheVariants as end
 use Rattle.wb_program.specs.declared.serving.Stop.{Stop}
 use Rattle.wb_program.specs.declared.serving.Stop.TheVariants as stop
 use Rattle.wb_program.specs.Served.{Handled}
-use Rattle.wb_sources.specs.SourceAnswers.{Answer, Told, asked, timed, took, converted}
+use Rattle.wb_station.specs.SourceAnswers.{Answer, Told, asked, timed, took, converted}
 use Rattle.wb_program.specs.Turns.{Request, answers_of_request, happenings_of_request, stretch, Begun, Turn, answers_begun, answers_of_turn, happenings_begun, happenings_of_turn}
 use Rattle.wb_sics.specs.Stands.{TerminalState}
 use Rattle.wb_station.specs.Happening.{Happening}

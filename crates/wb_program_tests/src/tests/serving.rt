@@ -7,8 +7,8 @@ use wb_instrument::Instrument;
 use wb_journal::Moment;
 use wb_program::{ServeEnd, serve};
 use wb_road::{MORNING, ROAD};
-use wb_sources::{Answered, Converter, HandedIn, ListSources, ListTurn};
-use wb_station::Station;
+use wb_sources::Converter;
+use wb_station::{Answered, HandedIn, ListSources, ListTurn, Station};
 use wb_window::{DequeWindow, Reading};
 
 const FIRST: &str =

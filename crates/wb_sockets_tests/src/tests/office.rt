@@ -12,7 +12,7 @@ use std::test::Fail;
 use std::time::Instant;
 use wb_connections::{Office, Report};
 use wb_sockets::StationRequests;
-use wb_sources::REQUEST_ROOM;
+use wb_station::Judged;
 
 const ANSWER: &[u8] = b"HTTP/1.1 200 OK\r\n\r\nNO LOAD\n";
 
@@ -172,7 +172,7 @@ struct Desk<'a> {
     alloc: Global,
     start: Instant,
     requests: StationRequests,
-    office: Office<Door<'a>>,
+    office: Office<Door<'a>, Judged>,
     wires: &'a [Wire<'a>],
     report: Report<'a, Bench>,
 }
@@ -204,8 +204,8 @@ impl<'a> Desk<'a> {
         let now = after(self.start, seconds);
         self.office
             .step(self.alloc, &self.requests, now, &self.report);
-        let mut room = [0u8; REQUEST_ROOM];
-        let count = self.office.take(&mut room).unwrap_or(0);
+        let request = self.office.take();
+        let count = request.map_or(0, |request| request.bytes().len());
         (count, self.office.len())
     }
 

@@ -8,7 +8,8 @@ use std::test::Fail;
 use std::time::Instant;
 use wb_connections::{Converter, Source};
 use wb_sockets::Sockets;
-use wb_sources::{Converter as Said, REQUEST_ROOM, Sources, TERMINAL_ROOM};
+use wb_sources::{Converter as Said, REQUEST_ROOM, TERMINAL_ROOM};
+use wb_station::Sources;
 use wb_window::Reading;
 use wb_window::Reading::{Load, Lost};
 
@@ -179,6 +180,8 @@ struct Desk<'a> {
     bench: &'a Bench,
     wires: &'a [Wire<'a>],
     sockets: Sockets<'a, Bench, Door<'a>>,
+    /// Whether the next request is asked for by its bytes alone, as every second one is.
+    is_by_bytes: bool,
 }
 
 impl<'a> Desk<'a> {
@@ -195,6 +198,7 @@ impl<'a> Desk<'a> {
             bench,
             wires,
             sockets: Sockets::new(bench, terminal, office, converter, course.is_verbose)?,
+            is_by_bytes: false,
         })
     }
 
@@ -231,8 +235,19 @@ impl<'a> Desk<'a> {
     /// How many bytes the terminal gives, and whether a request is handed out.
     fn ask(&mut self) -> (usize, bool) {
         let taken = self.sockets.terminal(&mut [0u8; TERMINAL_ROOM]);
-        let request = self.sockets.office(&mut [0u8; REQUEST_ROOM]);
-        (taken.count, request.is_some())
+        (taken.count, self.is_asked())
+    }
+
+    /// Whether a request is handed out.
+    fn is_asked(&mut self) -> bool {
+        let mut room = [0u8; REQUEST_ROOM];
+        let is_asked = if self.is_by_bytes {
+            self.sockets.office(&mut room).is_some()
+        } else {
+            self.sockets.exchange(&mut room).is_some()
+        };
+        self.is_by_bytes = self.is_by_bytes != is_asked;
+        is_asked
     }
 
     /// A turn in which the process stands still for so many milliseconds.

@@ -1,19 +1,26 @@
 //! Whole requests.
 use super::joined;
+use std::alloc::{AllocError, Global};
 use std::test::Fail;
-use wb_station::{Routes, is_whole};
+use wb_station::{Judged, Routes};
+
+/// Whether these bytes are judged, and not handed back.
+fn is_whole(alloc: Global, routes: &Routes, bytes: &[u8]) -> Result<bool, AllocError> {
+    let bytes = Vec::from_slice(alloc, bytes)?;
+    Ok(Judged::once_whole(alloc, routes, bytes).is_ok())
+}
 
 /// How many of the first bytes make a whole request; one more than there are if none do.
-fn whole_at(routes: &Routes, bytes: &[u8]) -> usize {
+fn whole_at(alloc: Global, routes: &Routes, bytes: &[u8]) -> Result<usize, AllocError> {
     for count in 0..bytes.len() {
-        if is_whole(routes, &bytes[..count]) {
-            return count;
+        if is_whole(alloc, routes, &bytes[..count])? {
+            return Ok(count);
         }
     }
-    if is_whole(routes, bytes) {
-        bytes.len()
+    if is_whole(alloc, routes, bytes)? {
+        Ok(bytes.len())
     } else {
-        bytes.len().saturating_add(1)
+        Ok(bytes.len().saturating_add(1))
     }
 }
 
@@ -34,7 +41,11 @@ const ENDS: &[(&str, usize)] = &[
 fn tells_where_a_request_ends(rt: HostRuntime) -> Result<(), Fail> {
     let routes = Routes::new(rt.alloc())?;
     for (request, count) in ENDS {
-        assert_eq!(rt; whole_at(&routes, request.as_bytes()), *count, "{request}");
+        assert_eq!(rt;
+            whole_at(rt.alloc(), &routes, request.as_bytes())?,
+            *count,
+            "{request}"
+        );
     }
     Ok(())
 }
@@ -46,7 +57,11 @@ fn gives_up_on_a_head_past_8192_bytes(rt: HostRuntime) -> Result<(), Fail> {
     for (count, whole) in RUBBISH {
         let routes = Routes::new(rt.alloc())?;
         let rubbish = joined(rt.alloc(), "", "a", *count, "")?;
-        assert_eq!(rt; is_whole(&routes, rubbish.as_slice()), *whole, "{count}");
+        assert_eq!(rt;
+            is_whole(rt.alloc(), &routes, rubbish.as_slice())?,
+            *whole,
+            "{count}"
+        );
     }
     Ok(())
 }

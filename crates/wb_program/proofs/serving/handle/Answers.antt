@@ -1,7 +1,7 @@
-use Rattle.wb_program.proofs.Turns.{handled_one}
+use Rattle.wb_program.proofs.Turns.{handled_event}
 use Rattle.wb_program.proofs.serving.handle.Goals as goal
 
 pub returns : goal.returns
 returns g c =
     let took = c.turn-output.follows.holds-at-none in
-    handled_one g.D.Store c.args.event.now took.0 _ _ _ _ _ _ _ took.1 c.hand_on.ensures
+    handled_event g.D.Store c.args.event.now took.0 _ _ _ _ _ _ _ took.1 c.hand_on.ensures

@@ -1,8 +1,8 @@
-use Rattle.std.proofs.Common.{[], ◌∷◌, None, Some, refl, take}
-use Rattle.wb_sources.specs.SourceAnswers.{asked, timed}
-use Rattle.wb_program.specs.Turns.{answers_of_request, happenings_of_request}
-use Rattle.wb_program.proofs.SourceAnswers.{tells_append}
-use Rattle.wb_program.proofs.Turns.{handled_answer, handled_none}
+use Rattle.std.proofs.Common.{[], ◌∷◌, ◌∙◌, None, Some, ap, false, refl, subst, sym}
+use Rattle.wb_program.specs.Served.{Handled}
+use Rattle.wb_station.specs.Happening.{office}
+use Rattle.wb_station.specs.SourceAnswers.{Tells, asked, bytes_asked, timed}
+use Rattle.wb_program.proofs.Turns.{exchange_served, handled_none}
 use Rattle.wb_program.proofs.serving.serve_office.Goals as goal
 
 pub returns-in_default : goal.returns-in_default
@@ -15,22 +15,22 @@ returns-in_default g c = record {
 
 pub returns-in_default-moment : goal.returns-in_default-moment
 returns-in_default-moment g c =
-    let bytes = take c.in-Some.count c.office.new.room in record {
+    let bytes = bytes_asked c.in-Some.exchange.asked c.exchange.new.room in record {
       answers = timed None ∷ asked (Some bytes) ∷ [];
       happened = [];
       handled = handled_none g.D.Store _ _ _ _ (timed None ∷ asked (Some bytes) ∷ [])
-          (tells_append (asked (Some bytes) ∷ []) (timed None ∷ []) [] [] _ _ _ c.in-Some.ensures.told c.in_default-moment.ensures.told);
+          (subst (λ m. Tells (timed m ∷ asked (Some bytes) ∷ []) [] (g.S.Sources.told c.args.sources.now) (g.S.Sources.told c.exchange.new.self)) c.in_default-moment.is c.in-Some.ensures.told);
       ends = (bytes, refl, refl);
     }
 
-pub returns : goal.returns
-returns g c =
-    let bytes = take c.in-Some.count c.office.new.room in
-    let moment = c.in-Some-moment.moment in
-    let request = Some (record { bytes = bytes; moment = moment }) in record {
-      answers = answers_of_request request;
-      happened = happenings_of_request request;
-      handled = handled_answer g.D.Store (answers_of_request request) (happenings_of_request request) _ _ _ _ _ _ _
-          (tells_append (asked (Some bytes) ∷ []) (timed (Some moment) ∷ []) [] [] _ _ _ c.in-Some.ensures.told c.in-Some-moment.ensures.told) c.handle.ensures;
-      ends = (request, refl, refl);
-    }
+pub returns-in-Bytes : goal.returns-in-Bytes
+returns-in-Bytes g c =
+    exchange_served g.D.Store c.in-Some.exchange c.exchange.new.room c.in-Some-moment.moment _ _ _ _ _ _ _ c.in-Some-moment.is c.in-Some.ensures.told
+    (subst (λ e. Handled g.D.Store c.args.station.now.terminal c.args.station.now.office c.handle.new.station.terminal c.handle.new.station.office (g.S.Sources.told c.exchange.new.self)
+    (g.S.Sources.told c.handle.new.sources) [] (office c.in-Some-moment.moment (bytes_asked e c.exchange.new.room) false ∷ [])) (sym c.in-Bytes.is) c.handle.ensures)
+
+pub returns-in-Judged : goal.returns-in-Judged
+returns-in-Judged g c =
+    exchange_served g.D.Store c.in-Some.exchange c.exchange.new.room c.in-Some-moment.moment _ _ _ _ _ _ _ c.in-Some-moment.is c.in-Some.ensures.told
+    (subst (λ bytes. Handled g.D.Store c.args.station.now.terminal c.args.station.now.office c.handle_judged.new.station.terminal c.handle_judged.new.station.office (g.S.Sources.told c.exchange.new.self)
+    (g.S.Sources.told c.handle_judged.new.sources) [] (office c.in-Some-moment.moment bytes false ∷ [])) (c.in-Judged.request-is ∙ ap (λ e. bytes_asked e c.exchange.new.room) (sym c.in-Judged.is)) c.handle_judged.ensures)

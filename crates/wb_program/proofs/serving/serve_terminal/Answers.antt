@@ -1,7 +1,7 @@
 use Rattle.std.proofs.Common.{[], ◌∷◌, map, sym, subst, take}
 use Rattle.std.specs.Prelude.{reverse}
 use Rattle.wb_program.specs.Served.{Handled}
-use Rattle.wb_sources.specs.SourceAnswers.{took}
+use Rattle.wb_station.specs.SourceAnswers.{took}
 use Rattle.wb_program.specs.Turns.{stretch}
 use Rattle.wb_program.proofs.Turns.{handled_answer, handled_append}
 use Rattle.wb_station.specs.Happening.{byte, hang_up}

@@ -1,9 +1,9 @@
-use Rattle.std.proofs.Common.{◌≡◌, ap, refl, subst, subst₂, sym, ◌∙◌, Bool, true, false, true≢false, Result, Ok, Err}
+use Rattle.std.proofs.Common.{◌≡◌, ap, subst, subst₂, sym, ◌∙◌}
 use Rattle.wb_office.specs.WithoutStore.{Outright}
 use Rattle.wb_office.specs.Serves.{Serves, contents_of}
 use Rattle.wb_office.specs.Wanted.{IsWanted}
 use Rattle.wb_station.specs.Account.{responded}
-use Rattle.wb_station.specs.Response.{IsDateOf, is_export, told_result}
+use Rattle.wb_station.specs.Response.{is_export, told_result}
 use Rattle.wb_station.proofs.Accounts.{response_is, when_err, when_not_err}
 use Rattle.wb_station.proofs.OfficeRequests.{answered_took, failed_took}
 use Rattle.wb_station.proofs.asking.answer.Goals as goal

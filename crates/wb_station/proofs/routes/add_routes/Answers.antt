@@ -1,4 +1,4 @@
-use Rattle.std.proofs.Common.{◌≡◌, ◌∙◌, Err, IfErr, List, [], ◌∷◌, None, codes, ℕ, refl, rules}
+use Rattle.std.proofs.Common.{◌≡◌, Err, List, [], ◌∷◌, None, codes, ℕ, refl, rules}
 use Rattle.matchit.proofs.OnLiterals.{matchit_on_literals}
 use Rattle.matchit.specs.Router.{Refused, RouteOf, nearest}
 use Rattle.matchit.specs.Rows.{RowsOf}

@@ -1,10 +1,10 @@
 -- What sources in memory kept.
 use Rattle.std.specs.Prelude.{Bool, true, false, List, map, reverse, Option, Some, None}
-use Rattle.wb_sources.specs.declared.list_sources.Answered.{Answered}
-use Rattle.wb_sources.specs.declared.list_sources.Answered.TheVariants as kept
-use Rattle.wb_sources.specs.declared.list_sources.HandedIn.{HandedIn}
-use Rattle.wb_sources.specs.declared.list_sources.HandedIn.TheVariants.{Reply, Response}
-use Rattle.wb_sources.specs.SourceAnswers.{Answer, Handed, Told, asked, converted, timed, to_office, to_terminal, took}
+use Rattle.wb_station.specs.declared.list_sources.Answered.{Answered}
+use Rattle.wb_station.specs.declared.list_sources.Answered.TheVariants as kept
+use Rattle.wb_station.specs.declared.list_sources.HandedIn.{HandedIn}
+use Rattle.wb_station.specs.declared.list_sources.HandedIn.TheVariants.{Reply, Response}
+use Rattle.wb_station.specs.SourceAnswers.{Answer, Handed, Told, asked, converted, timed, to_office, to_terminal, took}
 
 abbrev pub answer_of : Answered → Answer
 answer_of (kept.Converter converter) = converted converter

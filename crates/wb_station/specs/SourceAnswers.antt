@@ -1,8 +1,9 @@
 -- What sources of events answer, and what they are handed.
-use Rattle.std.specs.Prelude.{◌≡◌, ◌⊎◌, ℕ, Bool, List, ◌++◌, Option, None, option_map}
-use Rattle.wb_window.specs.Reading.{IsReading}
+use Rattle.std.specs.Prelude.{◌≡◌, ◌≤◌, ◌⊎◌, ℕ, Bool, List, [], ◌∷◌, ◌++◌, take, Option, Some, None, option_map}
 use Rattle.wb_sources.specs.declared.sources.Converter.{Converter}
-use Rattle.wb_sources.specs.declared.sources.Converter.TheVariants.{Line, End, Fault}
+use Rattle.wb_station.specs.declared.sources.Asked.{Asked}
+use Rattle.wb_station.specs.declared.sources.Asked.TheVariants.{Bytes, Judged}
+use Rattle.wb_station.specs.declared.sources.Exchange.{Exchange}
 
 -- the answer of a call
 pub data Answer : Type 0 where
@@ -32,8 +33,19 @@ tells_more answers handed told = record { answers = answers ++ told.answers; han
 abbrev pub Tells : List Answer → List Handed → Option Told → Option Told → Type 0
 Tells answers handed old new = (new ≡ None) ⊎ (new ≡ option_map (tells_more answers handed) old)
 
--- the load of a line's reading is in its range
-abbrev pub IsConverted : Converter → Type 0
-IsConverted (Line reading) = IsReading reading
-IsConverted End = Unit {0}
-IsConverted Fault = Unit {0}
+-- ---- a request with its moment
+
+-- the bytes of a request, of which some are in a room
+abbrev pub bytes_asked : Asked → List ℕ → List ℕ
+bytes_asked (Bytes count) room = take count room
+bytes_asked (Judged request) room = request
+
+-- there are no more of them than there is room for
+abbrev pub IsInRoom : Asked → Type 0
+IsInRoom (Bytes count) = count ≤ 9216
+IsInRoom (Judged request) = Unit {0}
+
+-- that there is a request, and then its moment
+abbrev pub exchanged : Option Exchange → List ℕ → List Answer
+exchanged None room = asked None ∷ []
+exchanged (Some e) room = timed e.moment ∷ asked (Some (bytes_asked e.asked room)) ∷ []

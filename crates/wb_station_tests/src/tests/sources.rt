@@ -4,9 +4,8 @@ use std::process::Abort;
 use std::test::Fail;
 use wb_journal::Moment;
 use wb_road::MORNING;
-use wb_sources::{
-    Answered, Converter, ListSources, ListTurn, REQUEST_ROOM, Sources, TERMINAL_ROOM,
-};
+use wb_sources::{Converter, REQUEST_ROOM, TERMINAL_ROOM};
+use wb_station::{Answered, ListSources, ListTurn, Sources};
 use wb_window::Reading;
 
 /// 2025-03-10 08:00:00.

@@ -2,10 +2,10 @@
 use Rattle.std.proofs.Common.{◌≡◌, Bool, true, false, List, [], ◌∷◌, ◌++◌, map, Some, inl, inr, refl, ap, ◌∙◌}
 use Rattle.std.specs.Prelude.{reverse}
 use Rattle.std.proofs.lemmas.List.{map-append, reverse-append}
-use Rattle.wb_sources.specs.declared.list_sources.Answered.{Answered}
-use Rattle.wb_sources.specs.declared.list_sources.HandedIn.{HandedIn}
-use Rattle.wb_sources.specs.SourcesInMemory.{answer_of, handed_of, told_of}
-use Rattle.wb_sources.specs.SourceAnswers.{Tells}
+use Rattle.wb_station.specs.declared.list_sources.Answered.{Answered}
+use Rattle.wb_station.specs.declared.list_sources.HandedIn.{HandedIn}
+use Rattle.wb_station.specs.SourcesInMemory.{answer_of, handed_of, told_of}
+use Rattle.wb_station.specs.SourceAnswers.{Tells}
 
 -- the newest comes first
 newest : {A B : Type 0} (f : A → B) (xs : List A) (x : A) → reverse (map f (xs ++ x ∷ [])) ≡ f x ∷ reverse (map f xs)
