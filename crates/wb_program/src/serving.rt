@@ -11,7 +11,7 @@ use sqlite::Alter;
 use thiserror::Error;
 use wb_journal::Moment;
 use wb_sources::{Converter, REQUEST_ROOM, TERMINAL_ROOM};
-use wb_station::{Asked, Event, Judged, Output, Sources, Station, reply_bytes};
+use wb_station::{Event, Incoming, Judged, Output, Sources, Station, reply_bytes};
 use wb_window::Window;
 
 /// How serving ended.
@@ -140,11 +140,11 @@ fn serve_office<W: Window, D: Alter, S: Sources>(
         return Err(Stop::ClockFault);
     };
     match exchange.asked {
-        Asked::Bytes(count) => {
+        Incoming::Bytes(count) => {
             let bytes = &room[..count];
             handle(station, sources, &Event::Office { moment, bytes });
         }
-        Asked::Judged(request) => handle_judged(station, sources, moment, request),
+        Incoming::Judged(request) => handle_judged(station, sources, moment, request),
     }
     Ok(())
 }

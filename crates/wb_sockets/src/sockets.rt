@@ -15,7 +15,7 @@ use wb_connections::{
 };
 use wb_journal::Moment;
 use wb_sources::{Converter as Said, REQUEST_ROOM, TERMINAL_ROOM, Taken};
-use wb_station::{Asked, Exchange, Judged, Sources};
+use wb_station::{Exchange, Incoming, Judged, Sources};
 use wb_window::Reading;
 
 /// How often what waits for clients is looked at at the end.
@@ -220,7 +220,7 @@ where
     fn exchange(&mut self, _room: &mut [u8; REQUEST_ROOM]) -> Option<Exchange> {
         let request = self.next_request()?;
         Some(Exchange {
-            asked: Asked::Judged(request),
+            asked: Incoming::Judged(request),
             moment: self.moment(),
         })
     }

@@ -1,8 +1,8 @@
 -- What sources of events answer, and what they are handed.
 use Rattle.std.specs.Prelude.{◌≡◌, ◌≤◌, ◌⊎◌, ℕ, Bool, List, [], ◌∷◌, ◌++◌, take, Option, Some, None, option_map}
 use Rattle.wb_sources.specs.declared.sources.Converter.{Converter}
-use Rattle.wb_station.specs.declared.sources.Asked.{Asked}
-use Rattle.wb_station.specs.declared.sources.Asked.TheVariants.{Bytes, Judged}
+use Rattle.wb_station.specs.declared.sources.Incoming.{Incoming}
+use Rattle.wb_station.specs.declared.sources.Incoming.TheVariants.{Bytes, Judged}
 use Rattle.wb_station.specs.declared.sources.Exchange.{Exchange}
 
 -- the answer of a call
@@ -36,12 +36,12 @@ Tells answers handed old new = (new ≡ None) ⊎ (new ≡ option_map (tells_mor
 -- ---- a request with its moment
 
 -- the bytes of a request, of which some are in a room
-abbrev pub bytes_asked : Asked → List ℕ → List ℕ
+abbrev pub bytes_asked : Incoming → List ℕ → List ℕ
 bytes_asked (Bytes count) room = take count room
 bytes_asked (Judged request) room = request
 
 -- there are no more of them than there is room for
-abbrev pub IsInRoom : Asked → Type 0
+abbrev pub IsInRoom : Incoming → Type 0
 IsInRoom (Bytes count) = count ≤ 9216
 IsInRoom (Judged request) = Unit {0}
 

@@ -42,5 +42,5 @@ pub use response::response_bytes;
 pub use room::ResponseRoom;
 pub use routes::Routes;
 pub use run::{ReplyBytes, RunStopped, reply_bytes};
-pub use sources::{Asked, Exchange, Sources};
+pub use sources::{Exchange, Incoming, Sources};
 pub use station::{OpenRefused, Station};

@@ -9,7 +9,7 @@ use wb_sources::{Converter, REQUEST_ROOM, TERMINAL_ROOM, Taken};
 
 /// A request to the office as sources hand it out.
 #[derive(Drop)]
-pub enum Asked {
+pub enum Incoming {
     /// So many bytes in the room, which are still to be judged.
     Bytes(usize),
     /// It was judged before.
@@ -19,7 +19,7 @@ pub enum Asked {
 /// A request to the office, and the moment by the clock, if it is one of the moments.
 #[derive(Drop)]
 pub struct Exchange {
-    pub asked: Asked,
+    pub asked: Incoming,
     pub moment: Option<Moment>,
 }
 
@@ -61,7 +61,7 @@ pub trait Sources {
     {
         let count = self.office(room)?;
         Some(Exchange {
-            asked: Asked::Bytes(count),
+            asked: Incoming::Bytes(count),
             moment: self.moment(),
         })
     }

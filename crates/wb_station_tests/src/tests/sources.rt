@@ -8,8 +8,6 @@ use wb_sources::{Converter, REQUEST_ROOM, TERMINAL_ROOM};
 use wb_station::{Answered, ListSources, ListTurn, Sources};
 use wb_window::Reading;
 
-/// 2025-03-10 08:00:00.
-
 /// So many bytes, of which no two neighbours are alike.
 fn bytes(alloc: Global, count: usize) -> Result<Vec<u8>, Fail> {
     let mut bytes = Vec::new(alloc);
