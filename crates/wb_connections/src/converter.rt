@@ -3,8 +3,8 @@ ghost use Rattle.std.specs.Prelude.{IfSome};
 ghost use Rattle.wb_sources.specs.Converted.{IsConverted};
 ghost use Rattle.wb_window.specs.Reading.{IsReading};
 
-use crate::limits::{ENDLESS_LINE, FRESH_SECONDS, LOOK_MILLIS};
 use crate::converter_lines::Lines;
+use crate::limits::{ENDLESS_LINE, FRESH_SECONDS, LOOK_MILLIS};
 use crate::ready::{Ready, is_past};
 use crate::source::Source;
 use std::fs::{File, Files};

@@ -2,8 +2,8 @@
 ghost use Rattle.wb_connections.specs.Ready.{FitsRoom};
 
 use crate::address::loopback;
-use crate::limits::{CONNECT_SECONDS, PAUSE_MILLIS};
 use crate::converter_lines::CONVERTER_ROOM;
+use crate::limits::{CONNECT_SECONDS, PAUSE_MILLIS};
 use crate::ready::{Ready, read_ready};
 use std::fs::{File, Files, OpenOptions};
 use std::io::Read;

@@ -8,8 +8,8 @@ ghost use Rattle.wb_journal.specs.Texts.{net_line, partner_block, slip, ticket, 
 
 use crate::Entry;
 use crate::block::{push_block, push_weight_line};
-use crate::text_lines::{push_line, push_number_line};
 use crate::net_weight::net;
+use crate::text_lines::{push_line, push_number_line};
 use arrayvec::ArrayString;
 use std::alloc::AllocError;
 

@@ -9,8 +9,8 @@
 mod answer;
 mod checking;
 mod conditions;
-mod evidence;
 mod csv_records;
+mod evidence;
 mod export_answers;
 mod indication;
 mod journal_export;

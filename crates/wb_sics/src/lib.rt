@@ -10,10 +10,10 @@
 mod answers;
 mod command;
 mod grams;
-mod unfinished_line;
 mod repetition;
 mod reply;
 mod terminal;
+mod unfinished_line;
 mod waiting;
 
 pub use command::{Command, parse_line};

@@ -13,9 +13,9 @@ ghost use Rattle.wb_window.specs.Reading.{IsReading};
 
 use crate::answers::{preset_reply, tare_reply, weight_now, weight_reply, zero_reply};
 use crate::command::Command;
-use crate::unfinished_line::{Line, keep, kept_command};
 use crate::repetition::{repeat, repeating_from};
 use crate::reply::{CommandName, Replies, Reply};
+use crate::unfinished_line::{Line, keep, kept_command};
 use crate::waiting::{Awaited, Waiting, after_reading, at_line_end, give_up};
 use std::marker::Model;
 use wb_scale::Scale;
