@@ -87,57 +87,64 @@ fn answered<W: Window, D: Alter>(
     }
 }
 
-/// A response that begins so, and is the same at both stations.
-fn answers_both<W: Window, D: Alter>(
-    alloc: Global,
-    by_bytes: &mut Station<W, D>,
-    by_judgement: &mut Station<W, D>,
-    row: &(How, &str, &str),
-) -> Result<bool, Fail> {
-    let (how, bytes, front) = row;
-    let wanted = response(alloc, by_bytes, MORNING, bytes)?;
-    let found = answered(alloc, by_judgement, judged(alloc, *how, bytes)?)?;
-    Ok(wanted.as_str().starts_with(front) && found.as_str() == wanted.as_str())
+/// Which way a station is handed its requests.
+#[derive(Clone, Copy, Drop)]
+enum By {
+    Bytes,
+    Judgement,
 }
 
-/// Puts a vehicle on a bridge that was empty.
-fn load<W: Window, D: Alter>(station: &mut Station<W, D>) {
+/// The response to a request, which must begin as is wanted.
+fn response_by<W: Window, D: Alter>(
+    alloc: Global,
+    station: &mut Station<W, D>,
+    by: By,
+    row: &(How, &str, &str),
+) -> Result<String, Fail> {
+    let (how, bytes, front) = row;
+    let text = match by {
+        By::Bytes => response(alloc, station, MORNING, bytes)?,
+        By::Judgement => answered(alloc, station, judged(alloc, *how, bytes)?)?,
+    };
+    if text.as_str().starts_with(front) {
+        Ok(text)
+    } else {
+        Err("another response".into())
+    }
+}
+
+/// The responses to all requests, one after the other, once a vehicle is on a bridge that was empty.
+fn all_responses<W: Window, D: Alter>(
+    alloc: Global,
+    station: &mut Station<W, D>,
+    by: By,
+) -> Result<String, Fail> {
     for tenths in [0, 9_170, 9_170, 9_170, 9_170] {
         station.turn(&Event::Reading(Reading::of(tenths)));
     }
+    let mut texts = String::new(alloc);
+    for row in REQUESTS {
+        let text = response_by(alloc, station, by, row)?;
+        texts.push_str(text.as_str())?;
+    }
+    Ok(texts)
 }
 
-fn answers_each<W: Window, D: Alter>(
-    rt: &impl Abort,
-    alloc: Global,
-    by_bytes: &mut Station<W, D>,
-    by_judgement: &mut Station<W, D>,
-) -> Result<(), Fail> {
-    load(by_bytes);
-    load(by_judgement);
-    for (place, row) in REQUESTS.iter().enumerate() {
-        assert!(rt;
-            answers_both(alloc, by_bytes, by_judgement, row)?,
-            "request {place}"
-        );
+/// The same of a station of its own.
+fn responses(alloc: Global, by: By) -> Result<String, Fail> {
+    let instrument = instrument(1_000)?;
+    let store = store(Connection::open_in_memory(alloc)?)?;
+    let window = DequeWindow::new(alloc, instrument.window() as usize, instrument.band())?;
+    match Station::open(alloc, instrument, window, store) {
+        Ok(mut station) => all_responses(alloc, &mut station, by),
+        Err(_) => Err("no station".into()),
     }
-    Ok(())
 }
 
 #[test]
 fn answers_what_was_judged_before_as_its_bytes(rt: HostRuntime) -> Result<(), Fail> {
-    let alloc = rt.alloc();
-    let (road, same_road) = (instrument(1_000)?, instrument(1_000)?);
-    let (window, same_window) = (
-        DequeWindow::new(alloc, 4, 2)?,
-        DequeWindow::new(alloc, 4, 2)?,
-    );
-    let store_by_bytes = store(Connection::open_in_memory(alloc)?)?;
-    let store_by_judgement = store(Connection::open_in_memory(alloc)?)?;
-    let by_bytes = Station::open(alloc, road, window, store_by_bytes);
-    let by_judgement = Station::open(alloc, same_road, same_window, store_by_judgement);
-    match (by_bytes, by_judgement) {
-        (Ok(mut one), Ok(mut other)) => answers_each(&rt, alloc, &mut one, &mut other),
-        _ => Err("no station".into()),
-    }
+    let by_bytes = responses(rt.alloc(), By::Bytes)?;
+    let by_judgement = responses(rt.alloc(), By::Judgement)?;
+    assert_eq!(rt; by_judgement.as_str(), by_bytes.as_str());
+    Ok(())
 }
