@@ -1,4 +1,5 @@
 //! Rows from outside: requests and responses byte by byte.
+mod callers;
 mod days;
 mod forms;
 mod heads;

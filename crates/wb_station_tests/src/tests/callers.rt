@@ -1,0 +1,59 @@
+//! The callers of the office and of the station to copy.
+use super::days::{instrument, store};
+use sqlite::{Connection, MemStore};
+use std::alloc::Global;
+use std::process::Abort;
+use std::test::Fail;
+use wb_journal::{Key, Moment, Plate};
+use wb_office::{Answer, Office};
+use wb_scale::Scale;
+use wb_station::Station;
+use wb_station_uses::office::weigh_first;
+use wb_station_uses::station::read_and_ask;
+use wb_store::Store;
+use wb_window::{Reading, RingWindow};
+
+/// 2025-03-10 08:00:00.
+const MORNING: u64 = 1_741_593_600;
+
+/// A bridge that was empty, onto which a vehicle drove.
+fn bridge(alloc: Global) -> Result<Scale<RingWindow>, Fail> {
+    let instrument = instrument(1_000)?;
+    let window = RingWindow::new(alloc, instrument.window() as usize, instrument.band())?;
+    let mut scale = Scale::new(instrument, window);
+    for tenths in [0, 9_170, 9_170, 9_170] {
+        scale.read(Reading::of(tenths));
+    }
+    Ok(scale)
+}
+
+/// The store of an office that was asked for a First, whose slip begins so.
+fn weighed(alloc: Global, at: Moment, begins: &str) -> Result<Store<MemStore>, Fail> {
+    let key = Key::new("K1").ok_or("key")?;
+    let plate = Plate::new("AB-12").ok_or("plate")?;
+    let mut scale = bridge(alloc)?;
+    let mut office = Office::new(store(Connection::open_in_memory(alloc)?)?);
+    let reading = Reading::of(9_170);
+    match weigh_first(alloc, &mut office, &mut scale, reading, at, key, plate) {
+        Ok(Answer::Slip(text)) if text.as_str().starts_with(begins) => Ok(office.into_store()),
+        _ => Err("another answer".into()),
+    }
+}
+
+#[test]
+fn weighs_a_first_and_asks_for_the_check(rt: HostRuntime) -> Result<(), Fail> {
+    let at = Moment::new(MORNING).ok_or("moment")?;
+    let store = weighed(rt.alloc(), at.copied(), "WEIGHING SLIP 1\nPLATE AB-12\n")?;
+    let instrument = instrument(1_000)?;
+    let window = RingWindow::new(rt.alloc(), instrument.window() as usize, instrument.band())?;
+    let Ok(mut station) = Station::open(rt.alloc(), instrument, window, store) else {
+        return Err("no station".into());
+    };
+    let reading = Reading::of(9_170);
+    let bytes = b"GET /check HTTP/1.1\r\n\r\n";
+    match read_and_ask(rt.alloc(), &mut station, reading, at, bytes) {
+        Some(response) => assert!(rt; response.as_slice().ends_with(b"SOUND 1\n")),
+        None => return Err("no response".into()),
+    }
+    Ok(())
+}
