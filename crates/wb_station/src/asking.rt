@@ -1,4 +1,4 @@
-//! A request to the office: judged, answered, and the response to it.
+//! What follows once a request was judged: the office answers it, or its fault is reported, and the response is left in the room.
 ghost use Rattle.std.specs.Prelude.{Bool, List, Ok, ℕ};
 ghost use Rattle.wb_station.specs.Account.{IsResponseOut, responded};
 ghost use Rattle.wb_station.specs.Happening.{office as office_happening};

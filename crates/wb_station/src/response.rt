@@ -1,8 +1,8 @@
 //! The response to an outcome.
 ghost use Rattle.std.specs.Prelude.{◌≡◌, ◌≤◌, IsOk, OnErr, OnOk, [], false, length, vec_capacity};
 ghost use Rattle.wb_office.specs.Serves.{content_of, contents_of};
-ghost use Rattle.wb_station.specs.helpers.ToldByParts.{told_by};
 ghost use Rattle.wb_station.specs.Response.{IsDateOf, IsResponse, has_export, is_csv, is_export, phrase_of_status, response_content, response_text, status_of_answer, status_of_refusal, told_answer, told_result};
+ghost use Rattle.wb_station.specs.helpers.ToldByParts.{told_by};
 
 use crate::body_lines::{Line, count_line, line_of_fault, line_of_refusal};
 use crate::outcome::Outcome;
