@@ -1,11 +1,44 @@
-//! The callers of the terminal to copy.
+//! The callers to copy.
+use super::assert_text;
+use super::journal::{FIRST, SECOND, SLIP, TICKET, journal, parts};
 use std::process::Abort;
 use std::test::Fail;
+use wb_base_uses::journal::{slip_of, ticket_of};
+use wb_base_uses::scale::weigh_net;
+use wb_base_uses::terminal::{ask, open};
 use wb_instrument::Instrument;
 use wb_road::ROAD;
+use wb_scale::Indicated;
 use wb_sics::Replies;
-use wb_sics_uses::{ask, open};
 use wb_window::Reading;
+
+#[test]
+fn tares_an_empty_vehicle_and_weighs_its_load(rt: HostRuntime) -> Result<(), Fail> {
+    let instrument = Instrument::new(ROAD)?;
+    let shown = weigh_net(
+        rt.alloc(),
+        instrument,
+        Reading::of(4_070),
+        Reading::of(9_170),
+    )?;
+    let wanted = Indicated::Shown {
+        gross: 917,
+        net: 510,
+        stable: true,
+    };
+    assert_eq!(rt; shown, wanted);
+    Ok(())
+}
+
+#[test]
+fn writes_a_slip_and_the_ticket_of_a_pair(rt: HostRuntime) -> Result<(), Fail> {
+    let slip = slip_of(parts(&FIRST).ok_or("limits")?).ok_or("slip")?;
+    assert_text(&rt, "the slip of a First", slip.as_str(), SLIP);
+    let entries = journal(rt.alloc(), &[FIRST, SECOND])?;
+    let ticket = ticket_of(entries.as_slice(), 2).ok_or("ticket")?;
+    assert_text(&rt, "the ticket of a pair", ticket.as_str(), TICKET);
+    Ok(())
+}
 
 #[test]
 fn asks_for_the_weight_at_once(rt: HostRuntime) -> Result<(), Fail> {

@@ -1,9 +1,7 @@
-//! Callers of the terminal, to copy.
+//! Callers of the terminal.
 //!
 //! A clause of `Terminal` says that it takes an event: after whatever history it stood before, it stands after that history with the event at
 //! its head. So a caller of several goes on from what each call left, and what the replies are hangs on the whole history.
-#![tactic(auto)]
-
 ghost use Rattle.std.specs.Prelude.{◌≡◌, ◌++◌, ◌∷◌, [], IfOk, List, map, reverse};
 ghost use Rattle.wb_sics.specs.Event.{TerminalEvent, byte as byte_event};
 ghost use Rattle.wb_sics.specs.Replies.{replies as replies_at};
