@@ -2,8 +2,8 @@
 
 A block of four blanks whose line begins with `$ ` is a command as it is typed; one that ends with a backslash goes on in the next
 line. What follows in the block is what it prints, standard error included. Nothing else of the page is run: a line that begins with
-`# ` is typed by root or on another machine. A moment, a digest, a key that a client makes, a count of turns, a time in milliseconds
-and the port of a client stand for any other of their form.
+`# ` is typed by root or on another machine. A moment, a digest, the line of a kit, a key that a client makes, a count of turns, a time in
+milliseconds and the port of a client stand for any other of their form.
 
 It needs bash and what the page uses, and python3 alone.
 """
@@ -37,6 +37,7 @@ FORMS = [
     (r"\d{4}-\d\d-\d\d \d\d:\d\d:\d\d", "<moment>"),
     (r"\w{3}, \d\d \w{3} \d{4} \d\d:\d\d:\d\d GMT", "<date>"),
     (r"\b[0-9a-f]{64}\b", "<digest>"),
+    (r"^proved by .*", "proved by <kit>"),
     (r"\bkey [0-9a-f]{20}\b", "key <key>"),
     (r"\bturns \d+", "turns <count>"),
     (r"\b\d+ ms\b", "<time> ms"),

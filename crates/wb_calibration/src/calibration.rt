@@ -1,7 +1,7 @@
 //! A calibration.
 ghost use Rattle.std.specs.Prelude.{◌≡◌, ◌↔◌, ℤ, IfErr, IfOk, Some, None};
-ghost use Rattle.wb_calibration.specs.Fault.{fault_of};
 ghost use Rattle.wb_calibration.specs.Calibration.{IsCalibration};
+ghost use Rattle.wb_calibration.specs.Fault.{fault_of};
 ghost use Rattle.wb_calibration.specs.Line.{IsLoadOf};
 ghost use Rattle.wb_calibration.specs.Turned.{falls};
 
@@ -23,8 +23,8 @@ pub struct Calibration {
 
 impl Model for Calibration {
     ghost use Rattle.std.specs.Prelude.{List};
-    ghost use Rattle.wb_calibration.specs.declared.point.Point.{Point};
     ghost use Rattle.wb_calibration.specs.Calibration.{IsCalibration};
+    ghost use Rattle.wb_calibration.specs.declared.point.Point.{Point};
 
     ghost Value = { List Point };
 

@@ -9,8 +9,8 @@ use wb_instrument::Instrument;
 /// The status of words or a setup that are refused.
 pub const REFUSED: u8 = 2;
 
-/// The version of the program, and the line by which `rt version` names the kit that proved it.
-const VERSION: &str = "1.0.0\nproved by rattle-kit-13b logic dac8208d650f15bf";
+/// The version of the program.
+const VERSION: &str = "1.0.0";
 
 const REPLAY_EXAMPLE: &str = "Example:
   printf 'r 9170 4\\nt SI\\n' | weighbridge replay

@@ -1,8 +1,5 @@
 //! What is handed to the client for a line of counts.
-ghost use Rattle.arrayvec.specs.ArrayString.{array_string_len};
-ghost use Rattle.std.specs.Fmt.{signed_decimal};
-ghost use Rattle.std.specs.Prelude.{◌≡◌, ◌≤◌, ◌++◌, ℤ, None, Some, codes};
-ghost use Rattle.wb_calibration.specs.Calibration.{IsCalibration};
+ghost use Rattle.std.specs.Prelude.{◌≡◌, ℤ, None, Some};
 ghost use Rattle.wb_calibration.specs.Line.{IsLoadOf};
 ghost use Rattle.wb_converter.specs.Answer.{line_of, lost_line};
 ghost use Rattle.wb_converter.specs.Counts.{counts_of};

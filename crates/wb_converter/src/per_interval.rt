@@ -1,6 +1,5 @@
 //! How many counts stand for an interval.
-ghost use Rattle.std.specs.Prelude.{◌≡◌, ◌≤◌, ◌<◌, ◌^◌};
-ghost use Rattle.wb_calibration.specs.Calibration.{IsCalibration};
+ghost use Rattle.std.specs.Prelude.{◌≡◌};
 ghost use Rattle.wb_converter.specs.Sensitivity.{between, least_from, sensitivity_of};
 
 use wb_calibration::{Calibration, Point};

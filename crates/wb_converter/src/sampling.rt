@@ -1,5 +1,5 @@
 //! Counts under one load, read from lines.
-ghost use Rattle.std.specs.Prelude.{◌≡◌, ◌≤◌, ◌+◌, IfOk, vec_len};
+ghost use Rattle.std.specs.Prelude.{◌≡◌, ◌+◌, IfOk, vec_len};
 
 use crate::counts::counts_line;
 use crate::cut_lines::Lines;

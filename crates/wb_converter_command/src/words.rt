@@ -7,8 +7,8 @@ use std::alloc::{AllocError, Global};
 /// The status of words that are refused.
 pub const REFUSED: u8 = 2;
 
-/// The version of the program, and the line by which `rt version` names the kit that proved it.
-const VERSION: &str = "1.0.0\nproved by rattle-kit-13b logic dac8208d650f15bf";
+/// The version of the program.
+const VERSION: &str = "1.0.0";
 
 const RUN_EXAMPLE: &str = "Example:
   modbus --tcp 192.168.1.10 .. | weighbridge-converter run --calibration calibration --listen 127.0.0.1:4000

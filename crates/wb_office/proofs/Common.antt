@@ -18,7 +18,7 @@ pub use Rattle.wb_journal.proofs.Theorems.{law_of_closing}
 pub use Rattle.wb_journal.proofs.offered.Kept.{kept-partner}
 pub use Rattle.wb_journal.proofs.offered.Members.{Among, among-contains, among-either, find-absent, find-among}
 pub use Rattle.wb_journal.proofs.offered.Seals.{sound-sealed}
-pub use Rattle.wb_journal.specs.Check.{finding, finding_in, finding_in as check_of, is_faulty}
+pub use Rattle.wb_journal.specs.Check.{finding, finding_in, is_faulty}
 pub use Rattle.wb_journal.specs.Digest.{is_sound_entry, sealed_entry}
 pub use Rattle.wb_journal.specs.Kind.{is_closing_kind, is_first_kind, is_second_kind, is_single_kind, is_void_kind, same_kind}
 pub use Rattle.wb_journal.specs.Moment.{day_of}
@@ -48,14 +48,14 @@ pub use Rattle.wb_store.specs.Rows.{SpentKey}
 pub use Rattle.wb_store.specs.declared.fault.StoreFault.{StoreFault}
 pub use Rattle.wb_store.specs.declared.fault.StoreFault.TheVariants.{Closed, Disk, Foreign, Memory}
 pub use Rattle.wb_window.specs.Stability.{is_stable}
-pub use Rattle.wb_store.specs.Purging.{entries_below as below, spent_by}
+pub use Rattle.wb_store.specs.Purging.{entries_below, spent_by}
 pub use Rattle.wb_office.specs.Answer.{Content, IsBoundAt, Outcome, adds, answer, answer_by_verdict, asking, entries_after, entries_left, entry_content, finding_content, has_ticket, if_sound, is_marked, nothing, outcome, outcome_of, purged_content, purges, spent_by_outcome, spent_left, text_of_indication, ticket_answer, ticket_content, ticket_if_sound, ticket_of, tickets_answer, unless_damaged}
 pub use Rattle.wb_office.specs.Conditions.{clock_back, holds_of, is_damaged, is_other, is_preset_below, journal_full, key_gone, places, places_needed, weighs}
 pub use Rattle.wb_office.specs.CourseOfRequests.{AreBounds, Journal, RequestTurn, added, added_by, added_in_turn, additions, after, after_turn, answer_in, answered_with, entry_of, left, situation_of_turn, with_one}
 pub use Rattle.wb_office.specs.Exports.{journal_columns, journal_csv, journal_record, record_with, records_text, ticket_columns, ticket_record, tickets_csv}
 pub use Rattle.wb_office.specs.Laws.{AllWeighed, AnsweredAgain, FullAtLastNumber, IsByKey, IsGone, IsKeptEntry, IsNumbered, IsWeighed, KeepsPartners, KeyDecides, NumbersRun, OneEntryPerKey, WithinCapacity, is_taken}
 pub use Rattle.wb_office.specs.LawsOfJournals.{AreSound, ChangesNothing, ClosingsHavePartners, FirstsClosedOnce, IsTakenOut, KeptForItsTime, RefusalsChangeNothing, StaysSound, TakesOut, TicketGivenAgain}
-pub use Rattle.wb_office.specs.Serves.{IsNow, Marks, Serves, content_of, contents_of, fault_of_refusal, is_of_store, is_store_refusal}
+pub use Rattle.wb_office.specs.Serves.{IsNow, Marks, Serves, content_of, content_or_refusal, fault_of_refusal, is_of_store, is_store_refusal}
 pub use Rattle.wb_office.specs.Situation.{Asking, IsOnLists, Situation}
 pub use Rattle.wb_office.specs.Stops.{AnsweredAfterStops, Asks, IsAnsweredByKey, IsFoundAgain}
 pub use Rattle.wb_office.specs.Verdict.{Condition, Verdict, accepted, entry_added, first_refusal, gross_stored, kilograms_of, of_new, on, on_new, preset_stored, refused, repeated}

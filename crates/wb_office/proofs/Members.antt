@@ -1,6 +1,6 @@
 -- Members of lists of entries.
 use Rattle.std.proofs.Common.{◌≡◌, ◌∙◌, sym, ap, ℕ, suc, ◌<◌, ◌≤◌, nat_le, nat_lt, Bool, true, false, cond, ◌||◌, inl, inr, List, [], ◌∷◌, ◌++◌, map, refl, arith, true≢false}
-use Rattle.wb_office.proofs.Common.{nat_tests, list_any, Contains, EntryParts, kept, Among, below, spent_by}
+use Rattle.wb_office.proofs.Common.{nat_tests, list_any, Contains, EntryParts, kept, Among, entries_below, spent_by}
 
 pub contains : {A : Type 0} (x : A) (xs : List A) → Among x xs → Contains xs x
 contains x [] h = absurd h
@@ -62,15 +62,15 @@ kept_among b (e ∷ es) x m high = go (nat_le b e.number) refl (λ n. kept_among
     go false t rest (inr n) = rest n
 
 -- the key of one below it is spent, with its number
-pub spent_among : (b : ℕ) (es : List EntryParts) (x : EntryParts) → Among x es → x.number < b → Among (spent_by x) (map spent_by (below b es))
+pub spent_among : (b : ℕ) (es : List EntryParts) (x : EntryParts) → Among x es → x.number < b → Among (spent_by x) (map spent_by (entries_below b es))
 spent_among b [] x m low = absurd m
 spent_among b (e ∷ es) x m low = go (nat_lt e.number b) refl (λ n. spent_among b es x n low) m
   where
     not_low : nat_lt e.number b ≡ false → x ≡ e → ⊥
     not_low t same = let numbers : x.number ≡ e.number = ap (λ z. z.number) same in let over : b ≤ e.number = grind (arith, nat_tests) in omega arith
 
-    go : (k : Bool) → nat_lt e.number b ≡ k → (Among x es → Among (spent_by x) (map spent_by (below b es))) → Among x (e ∷ es)
-        → Among (spent_by x) (map spent_by (cond k (e ∷ below b es) (below b es)))
+    go : (k : Bool) → nat_lt e.number b ≡ k → (Among x es → Among (spent_by x) (map spent_by (entries_below b es))) → Among x (e ∷ es)
+        → Among (spent_by x) (map spent_by (cond k (e ∷ entries_below b es) (entries_below b es)))
     go true t rest (inl same) = inl (ap spent_by same)
     go true t rest (inr n) = inr (rest n)
     go false t rest (inl same) = absurd (not_low t same)

@@ -1,6 +1,6 @@
 -- How calls of the store serve a weighing or void.
 use Rattle.std.proofs.Common.{ℕ, ◌≡◌, ◌≢◌, ◌∙◌, ◌↔◌, inl, sym, ap, Bool, true, false, ◌||◌, not, List, [], ◌∷◌, ◌++◌, IfErr, IfOk, IsOk, OnErr, Option, Some, None, is_some, unwrap_or, Result, Ok, Err, refl, true≢false}
-use Rattle.wb_office.proofs.Common.{Ghosts, EntryParts, is_void_kind, open_entry, StoreFault, Closed, Foreign, Memory, is_disk, IsHonest, StoreView, StoreStands, LeavesEither, LeavesOnly, IsNext, SpentKey, Refusal, Request, Content, answer_by_verdict, asking, entries_after, is_marked, nothing, outcome_of, spent_by_outcome, entry_content, Situation, IsOnLists, holds_of, AsksFor, IsAccepted, IsOnScale, IsNow, Marks, Serves, fault_of_refusal, is_of_store, is_store_refusal, content_of, contents_of, Wanted, HasBound, IsWanted, wanted, Verdict, accepted, verdict, IsWeighingWanted, wanted_by}
+use Rattle.wb_office.proofs.Common.{Ghosts, EntryParts, is_void_kind, open_entry, StoreFault, Closed, Foreign, Memory, is_disk, IsHonest, StoreView, StoreStands, LeavesEither, LeavesOnly, IsNext, SpentKey, Refusal, Request, Content, answer_by_verdict, asking, entries_after, is_marked, nothing, outcome_of, spent_by_outcome, entry_content, Situation, IsOnLists, holds_of, AsksFor, IsAccepted, IsOnScale, IsNow, Marks, Serves, fault_of_refusal, is_of_store, is_store_refusal, content_of, content_or_refusal, Wanted, HasBound, IsWanted, wanted, Verdict, accepted, verdict, IsWeighingWanted, wanted_by}
 use Rattle.std.specs.Result.{IsErrAnd}
 use Rattle.wb_scale.specs.State.{State}
 use Rattle.wb_office.specs.declared.answer.Answer.{Answer}
@@ -69,7 +69,7 @@ pub ok_is_plain : (r : Result Answer Refusal) → IsOk r → is_store_refusal r 
 ok_is_plain (Ok answer) ok = refl
 ok_is_plain (Err why) ok = absurd (cc ok)
 
-pub ok_tells : (r : Result Answer Refusal) (t : Content) → IsOk r → IfOk r (λ answer. content_of answer ≡ t) → contents_of r ≡ Ok t
+pub ok_tells : (r : Result Answer Refusal) (t : Content) → IsOk r → IfOk r (λ answer. content_of answer ≡ t) → content_or_refusal r ≡ Ok t
 ok_tells (Ok answer) t ok is = ap Ok is
 ok_tells (Err why) t ok is = absurd (cc ok)
 
@@ -82,11 +82,11 @@ pub record IsAnswered (IsWanted : Situation → Wanted → Type 0) (w : Situatio
   pub entries : want.entries ≡ w.entries
   pub spent : want.spent ≡ w.spent
   pub marks : want.marks ≡ false
-  pub told_is : contents_of r ≡ want.answer
+  pub told_is : content_or_refusal r ≡ want.answer
 
 -- that of a verdict that adds nothing
 pub by_verdict : (asked : Asked) (w : Situation) (r : Result Answer Refusal) (v : Verdict) → verdict (asking w asked.key asked.kind asked.plate) ≡ v → outcome_of v ≡ nothing
-    → contents_of r ≡ answer_by_verdict w.entries v → IsAnswered (IsWeighingWanted asked) w r
+    → content_or_refusal r ≡ answer_by_verdict w.entries v → IsAnswered (IsWeighingWanted asked) w r
 by_verdict asked w r v is none tells = record {
   want = wanted_by w v;
   is = ap (wanted_by w) (sym is);

@@ -17,7 +17,7 @@ use Rattle.wb_scale.specs.declared.answers.Indicated.{Indicated}
 use Rattle.wb_scale.specs.declared.answers.Indicated.TheVariants.{NoLoad, Over, Under, Shown}
 use Rattle.wb_scale.specs.Indication.{indicated}
 use Rattle.wb_store.specs.Lists.{number_after}
-use Rattle.wb_store.specs.Purging.{entries_below, spent_past}
+use Rattle.wb_store.specs.Purging.{entries_below, spent_after_purge}
 use Rattle.wb_store.specs.Rows.{SpentKey}
 use Rattle.wb_office.specs.declared.refusal.Refusal.{Refusal}
 use Rattle.wb_office.specs.declared.refusal.Refusal.TheVariants as refusal
@@ -166,7 +166,7 @@ entries_left w b request = entries_after (outcome w b request) w.entries
 
 -- the spent keys after it: a purge spends those of the entries below the bound
 abbrev pub spent_by_outcome : Outcome → List EntryParts → List SpentKey → List SpentKey
-spent_by_outcome (purges b) es ks = spent_past b es ks
+spent_by_outcome (purges b) es ks = spent_after_purge b es ks
 spent_by_outcome _ es ks = ks
 
 abbrev pub spent_left : Situation → ℕ → Request → List SpentKey

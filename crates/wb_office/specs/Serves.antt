@@ -31,9 +31,9 @@ content_of (Purged count) = purged_content count
 content_of (Sound count) = sound_content count
 content_of (Damaged number) = damaged_content number
 
-abbrev pub contents_of : Result Answer Refusal → Result Content Refusal
-contents_of (Ok answer) = Ok (content_of answer)
-contents_of (Err why) = Err why
+abbrev pub content_or_refusal : Result Answer Refusal → Result Content Refusal
+content_or_refusal (Ok answer) = Ok (content_of answer)
+content_or_refusal (Err why) = Err why
 
 -- the fault of the store for which it is refused
 abbrev pub fault_of_refusal : Refusal → Option StoreFault
@@ -71,7 +71,7 @@ Marks before after false = after ≡ before
 module _ {D : Type 0} (g : Ghosts D) (old new : StoreView D) (before after : State) (at : ℕ) (result : Result Answer Refusal) where
   -- it is answered as is wanted, and what is wanted is left
   pub record LeavesWanted (want : Wanted) : Type 0 where
-    pub answered : contents_of result ≡ want.answer
+    pub answered : content_or_refusal result ≡ want.answer
     pub stands : StoreStands g new want.entries want.spent
     pub only : LeavesOnly g new want.entries want.spent
     pub marked : Marks before after want.marks

@@ -11,12 +11,12 @@ use Rattle.wb_office.specs.declared.refusal.Refusal.TheVariants.{NoTicket}
 use Rattle.wb_office.specs.declared.request.Request.{Request}
 use Rattle.wb_office.specs.declared.request.Request.TheVariants.{Ticket, Indication}
 use Rattle.wb_office.specs.Answer.{text_content, text_of_indication}
-use Rattle.wb_office.specs.Serves.{contents_of}
+use Rattle.wb_office.specs.Serves.{content_or_refusal}
 
 -- an indication is that of the scale, and no ticket has the number 0; the other requests ask the store
 abbrev pub Outright : State → Request → Result Answer Refusal → Type 0
 Outright scale (Ticket number) result = result ≡ Err NoTicket
 Outright scale Indication result =
-    (text : List ℕ) × (contents_of result ≡ Ok (text_content text))
+    (text : List ℕ) × (content_or_refusal result ≡ Ok (text_content text))
     × ((calls : List Call) → ScaleStands scale calls → text ≡ text_of_indication scale.setup (indicated scale.setup (moments scale.setup calls)))
 Outright scale _ result = Unit {0}

@@ -1,13 +1,13 @@
 //! The conditions on which a weighing or void whose key is new is refused, in their order.
 ghost use Rattle.std.specs.Prelude.{◌≡◌, ◌+◌, ◌&&◌, IfSome, None, false, nat_lt, not};
 ghost use Rattle.wb_journal.specs.Kind.{is_second_kind, is_void_kind};
-ghost use Rattle.wb_office.specs.Situation.{Asking};
 ghost use Rattle.wb_office.specs.Conditions.{already_open, clock_back, damaged_first, journal_full, no_open, no_preset, not_cleared, places_needed, tare_active};
-ghost use Rattle.wb_office.specs.helpers.ConditionGroups.{of_journal, of_load, of_tare};
-ghost use Rattle.wb_office.specs.helpers.IndicatedLoad.{is_preset_below_shown, refusal_of_shown};
 ghost use Rattle.wb_office.specs.Serves.{is_of_store};
-ghost use Rattle.wb_office.specs.helpers.EvidenceShown.{Shows};
+ghost use Rattle.wb_office.specs.Situation.{Asking};
 ghost use Rattle.wb_office.specs.Verdict.{first_refusal, of_new};
+ghost use Rattle.wb_office.specs.helpers.ConditionGroups.{of_journal, of_load, of_tare};
+ghost use Rattle.wb_office.specs.helpers.EvidenceShown.{Shows};
+ghost use Rattle.wb_office.specs.helpers.IndicatedLoad.{is_preset_below_shown, refusal_of_shown};
 
 use crate::evidence::Evidence;
 use crate::refusal::Refusal;

@@ -1,6 +1,6 @@
 //! Records of an export, written by `csv`. Over memory its writer refuses for want of it alone.
-ghost use Rattle.std.specs.Prelude.{◌≡◌, ◌++◌, ◌∷◌, [], IfOk, decimal};
 ghost use Rattle.csv.specs.Writing.{default_writer, row_text};
+ghost use Rattle.std.specs.Prelude.{◌≡◌, ◌++◌, ◌∷◌, [], IfOk, decimal};
 ghost use Rattle.wb_office.specs.Exports.{optional, optional_signed};
 
 use crate::answer::CsvText;

@@ -3,9 +3,9 @@ ghost use Rattle.std.specs.Prelude.{◌≡◌, ℕ, IfOk, List, Ok};
 ghost use Rattle.wb_journal.specs.Rising.{IsRising};
 ghost use Rattle.wb_office.specs.Answer.{csv_content, tickets_answer};
 ghost use Rattle.wb_office.specs.Serves.{Serves};
-ghost use Rattle.wb_office.specs.helpers.WantOfMemory.{IsAnsweredSo, WantsMemory};
 ghost use Rattle.wb_office.specs.Wanted.{IsWanted};
 ghost use Rattle.wb_office.specs.declared.request.Request.TheVariants as request;
+ghost use Rattle.wb_office.specs.helpers.WantOfMemory.{IsAnsweredSo, WantsMemory};
 ghost use Rattle.wb_scale.specs.State.{State};
 
 use crate::answer::{Answer, CsvText};

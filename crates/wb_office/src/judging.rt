@@ -1,14 +1,14 @@
 //! The judgement of a weighing or void: by its key, and if the key is new by the conditions of `conditions.rt`.
-ghost use Rattle.std.specs.Prelude.{◌≡◌, IfOk, None, Some, false, not, true};
 ghost use Rattle.std.specs.Option.{option_copied};
+ghost use Rattle.std.specs.Prelude.{◌≡◌, IfOk, None, Some, false, not, true};
 ghost use Rattle.wb_journal.specs.Digest.{is_sound_entry};
 ghost use Rattle.wb_journal.specs.Pairs.{partner_in};
-ghost use Rattle.wb_office.specs.Situation.{Asking, IsOnLists};
 ghost use Rattle.wb_office.specs.Conditions.{holds_of, is_other, key_gone};
-ghost use Rattle.wb_office.specs.helpers.Partners.{is_damaged_with};
-ghost use Rattle.wb_office.specs.helpers.JudgedByVerdict.{AsksFor, IsOnScale, MeetsVerdict, is_plain};
-ghost use Rattle.wb_office.specs.helpers.LookUps.{LooksUp};
+ghost use Rattle.wb_office.specs.Situation.{Asking, IsOnLists};
 ghost use Rattle.wb_office.specs.helpers.EvidenceShown.{Shows, ShowsScale};
+ghost use Rattle.wb_office.specs.helpers.JudgedByVerdict.{AsksFor, IsOnScale, MeetsVerdict, is_plain};
+ghost use Rattle.wb_office.specs.helpers.LookUps.{LooksUpInStore};
+ghost use Rattle.wb_office.specs.helpers.Partners.{is_damaged_with};
 ghost use Rattle.wb_scale.specs.Indication.{IsIndicationInRange};
 ghost use Rattle.wb_scale.specs.Tare.{IsTare};
 ghost use Rattle.wb_store.specs.Lists.{AreLists, entry_by_key};
@@ -90,7 +90,7 @@ pub(crate) fn judge<W: Window, D: Alter>(
     scale: &Scale<W>,
     asked: Asked,
 ) -> Result<Judgement, StoreFault>
-    ensures looks { LooksUp D.Store store.old store.new result (λ es ks judgement. (a : Asking)
+    ensures looks { LooksUpInStore D.Store store.old store.new result (λ es ks judgement. (a : Asking)
         → AsksFor asked a → IsOnScale scale.now a → IsOnLists es ks a → MeetsVerdict judgement a) }
     ensures plain { IfOk result (λ judgement. is_plain judgement ≡ true) }
 {

@@ -1,8 +1,8 @@
 //! The office.
-ghost use Rattle.std.specs.Prelude.{◌≡◌, Err, Ok, false, pos, true};
-ghost use Rattle.wb_office.specs.WithoutStore.{Outright};
+ghost use Rattle.std.specs.Prelude.{◌≡◌, Err, Ok, false, true};
 ghost use Rattle.wb_office.specs.Serves.{Serves};
 ghost use Rattle.wb_office.specs.Wanted.{IsWanted, asks_store};
+ghost use Rattle.wb_office.specs.WithoutStore.{Outright};
 
 use crate::answer::Answer;
 use crate::checking::answer_check;

@@ -5,11 +5,11 @@ ghost use Rattle.wb_journal.specs.Kind.{is_second_kind, is_single_kind};
 ghost use Rattle.wb_journal.specs.Pairs.{partner_in};
 ghost use Rattle.wb_journal.specs.declared.entry.EntryParts.{EntryParts};
 ghost use Rattle.wb_office.specs.Answer.{ticket_of};
-ghost use Rattle.wb_office.specs.helpers.LookUps.{LooksUp};
-ghost use Rattle.wb_office.specs.helpers.Partners.{IsPairOf, IsPaired};
-ghost use Rattle.wb_office.specs.Serves.{Serves, contents_of, is_store_refusal};
+ghost use Rattle.wb_office.specs.Serves.{Serves, content_or_refusal, is_store_refusal};
 ghost use Rattle.wb_office.specs.Wanted.{IsWanted};
 ghost use Rattle.wb_office.specs.declared.request.Request.TheVariants as request;
+ghost use Rattle.wb_office.specs.helpers.LookUps.{LooksUpInStore};
+ghost use Rattle.wb_office.specs.helpers.Partners.{IsPairOf, IsPaired};
 ghost use Rattle.wb_scale.specs.State.{State};
 
 use crate::answer::Answer;
@@ -37,7 +37,7 @@ pub(crate) fn answer_ticket<D: Alter>(store: &mut Store<D>, number: u32) -> Resu
 
 /// The entry of a number, with its partner.
 fn find_pair<D: Alter>(store: &mut Store<D>, number: u32) -> Result<Option<Pair>, StoreFault>
-    ensures { LooksUp D.Store store.old store.new result (λ es ks found. IsPairOf es number found) }
+    ensures { LooksUpInStore D.Store store.old store.new result (λ es ks found. IsPairOf es number found) }
 {
     match store.by_number(number)? {
         Some(entry) => {
@@ -52,7 +52,7 @@ fn find_pair<D: Alter>(store: &mut Store<D>, number: u32) -> Result<Option<Pair>
 fn ticket(found: Option<Pair>) -> Result<Answer, Refusal>
     ensures plain { is_store_refusal result ≡ false }
     ensures value { (es : List EntryParts) → IsPaired es found
-        → contents_of result ≡ ticket_of es (option_map (λ pair. pair.entry) found) }
+        → content_or_refusal result ≡ ticket_of es (option_map (λ pair. pair.entry) found) }
 {
     match found {
         Some(Pair { entry, partner }) => ticket_of_pair(&entry, partner.as_ref()),
@@ -63,7 +63,7 @@ fn ticket(found: Option<Pair>) -> Result<Answer, Refusal>
 fn ticket_of_pair(entry: &Entry, partner: Option<&Entry>) -> Result<Answer, Refusal>
     ensures plain { is_store_refusal result ≡ false }
     ensures value { (es : List EntryParts) → option_copied partner.entry ≡ partner_in es entry.now
-        → contents_of result ≡ ticket_of es (Some entry.now) }
+        → content_or_refusal result ≡ ticket_of es (Some entry.now) }
 {
     if !has_ticket(entry.kind()) {
         return Err(Refusal::NoTicket);

@@ -20,13 +20,13 @@ use Rattle.wb_office.specs.declared.refusal.Refusal.TheVariants as refusal
 use Rattle.wb_office.specs.declared.request.Request.{Request}
 use Rattle.wb_office.specs.declared.request.Request.TheVariants as request
 use Rattle.wb_office.specs.Answer.{Content}
-use Rattle.wb_office.specs.Serves.{contents_of}
+use Rattle.wb_office.specs.Serves.{content_or_refusal}
 use Rattle.wb_station.specs.declared.fault.HttpFault.{HttpFault}
 use Rattle.wb_station.specs.declared.fault.HttpFault.TheVariants.{BadField, HeadTooLarge, Malformed, Memory, NoLength, NoRoute, TooLarge, WrongMethod}
 use Rattle.wb_station.specs.declared.outcome.Outcome.{Outcome}
 use Rattle.wb_station.specs.declared.outcome.Outcome.TheVariants.{Fault, Office}
 use Rattle.wb_station.specs.Faults.{fault_status}
-use Rattle.wb_station.specs.Response.{media_type_text, phrase_of_status, status_of_answer, status_of_refusal, response_content, told_result}
+use Rattle.wb_station.specs.Response.{media_type_text, phrase_of_status, status_of_answer, status_of_refusal, response_content, response_to_result}
 use Rattle.wb_station.specs.Routes.{method_text}
 use Rattle.wb_station.specs.declared.fault.Method.{Method}
 use Rattle.wb_station.specs.declared.fault.Method.TheVariants.{Get, Post}
@@ -183,10 +183,10 @@ one_line-fault TooLarge = known refl
 one_line-fault BadField = known refl
 one_line-fault Memory = known refl
 
-one_line-result : (request : Request) (result : Result Content Refusal) → OneLine (phrase_of_status (told_result request result).status)
+one_line-result : (request : Request) (result : Result Content Refusal) → OneLine (phrase_of_status (response_to_result request result).status)
 one_line-result request (Ok answer) = one_line-answer request
 one_line-result request (Err why) = one_line-refusal why
 
 pub one_line-phrase : (outcome : Outcome) → OneLine (phrase_of_status (response_content outcome).status)
-one_line-phrase (Office request result) = one_line-result request.now (contents_of result.now)
+one_line-phrase (Office request result) = one_line-result request.now (content_or_refusal result.now)
 one_line-phrase (Fault fault) = one_line-fault fault

@@ -10,7 +10,7 @@ use Rattle.wb_program.specs.declared.serving.Stop.TheVariants as stop
 use Rattle.wb_sources.specs.declared.sources.Converter.TheVariants.{Line}
 use Rattle.wb_program.specs.Served.{EndsAfter, Handled, Served}
 use Rattle.wb_program.specs.helpers.TurnParts.{ExchangeEnds, ExchangeServed, StretchServed, end_of, TurnEnds, TurnServed}
-use Rattle.wb_station.specs.SourceAnswers.{Answer, Tells, Told, asked, bytes_asked, converted, exchanged, timed, took}
+use Rattle.wb_station.specs.SourceAnswers.{Answer, SourceTells, Told, asked, bytes_asked, converted, exchanged, timed, took}
 use Rattle.wb_station.specs.declared.sources.Exchange.{Exchange}
 use Rattle.wb_program.specs.Turns.{Begun, Turn, all_handed_on, answers_begun, answers_of, answers_of_request, handed_on, happenings_of_request, happenings_begun, happenings_of, stretch}
 use Rattle.wb_program.proofs.SourceAnswers.{all_handed_on_append, tells_append, tells_none}
@@ -25,23 +25,23 @@ use Rattle.wb_window.specs.declared.reading.Reading.{Reading}
 
 module _ {D : Type 0} (g : Ghosts D) where
   -- a call answered, and nothing happened
-  pub handled_none : (t : TerminalState) (j : StoreView D) (a b : Option Told) (answers : List Answer) → Tells answers [] a b → Handled g t j t j a b answers []
+  pub handled_none : (t : TerminalState) (j : StoreView D) (a b : Option Told) (answers : List Answer) → SourceTells answers [] a b → Handled g t j t j a b answers []
   handled_none t j a b answers told = record { happenings = []; outs = []; as_happened = refl; ran = ran_none g t j; told = told }
 
   -- something happened, and what was put out was handed on
   pub handled_one : (p : Happening) (out : Out) (t : TerminalState) (j : StoreView D) (t' : TerminalState) (j' : StoreView D) (a b : Option Told)
-      → Took g p out t j t' j' → Tells [] (handed_on out) a b → Handled g t j t' j' a b [] (unmarked p ∷ [])
+      → Took g p out t j t' j' → SourceTells [] (handed_on out) a b → Handled g t j t' j' a b [] (unmarked p ∷ [])
   handled_one p out t j t' j' a b taken told = record {
     happenings = p ∷ [];
     outs = out ∷ [];
     as_happened = refl;
     ran = ran_more g [] [] p out t j t j t' j' (ran_none g t j) taken;
-    told = subst (λ hs. Tells [] hs a b) (sym (append-nil (handed_on out))) told;
+    told = subst (λ hs. SourceTells [] hs a b) (sym (append-nil (handed_on out))) told;
   }
 
   -- an event was taken
   pub handled_event : (e : Event) (unmade : Bool) (out : Out) (t : TerminalState) (j : StoreView D) (t' : TerminalState) (j' : StoreView D) (a b : Option Told)
-      → Took g (happening unmade e) out t j t' j' → Tells [] (handed_on out) a b → Handled g t j t' j' a b [] (happening false e ∷ [])
+      → Took g (happening unmade e) out t j t' j' → SourceTells [] (handed_on out) a b → Handled g t j t' j' a b [] (happening false e ∷ [])
   handled_event e unmade out t j t' j' a b taken told =
       subst (λ p. Handled g t j t' j' a b [] (p ∷ [])) (unmarked_happening unmade e) (handled_one (happening unmade e) out t j t' j' a b taken told)
 
@@ -52,31 +52,31 @@ module _ {D : Type 0} (g : Ghosts D) where
     outs = next.outs ++ first.outs;
     as_happened = map-append unmarked next.happenings first.happenings ∙ ap (λ l. l ++ map unmarked first.happenings) next.as_happened ∙ ap (λ l. qs ++ l) first.as_happened;
     ran = ran_append g first.happenings next.happenings first.outs next.outs t j t' j' t'' j'' first.ran next.ran;
-    told = subst (λ hs. Tells (bs ++ xs) hs a c) (sym (all_handed_on_append first.outs next.outs)) (tells_append xs bs (all_handed_on first.outs) (all_handed_on next.outs) a b c first.told next.told);
+    told = subst (λ hs. SourceTells (bs ++ xs) hs a c) (sym (all_handed_on_append first.outs next.outs)) (tells_append xs bs (all_handed_on first.outs) (all_handed_on next.outs) a b c first.told next.told);
   }
 
   -- a call answered, and then something happened
   pub handled_answer : (answers : List Answer) (ps : List Happening) (t : TerminalState) (j : StoreView D) (t' : TerminalState) (j' : StoreView D) (a b c : Option Told)
-      → Tells answers [] a b → Handled g t j t' j' b c [] ps → Handled g t j t' j' a c answers ps
+      → SourceTells answers [] a b → Handled g t j t' j' b c [] ps → Handled g t j t' j' a c answers ps
   handled_answer answers ps t j t' j' a b c told next = record {
     happenings = next.happenings;
     outs = next.outs;
     as_happened = next.as_happened;
     ran = next.ran;
-    told = subst (λ hs. Tells answers hs a c) (append-nil (all_handed_on next.outs)) (tells_append answers [] [] (all_handed_on next.outs) a b c told next.told);
+    told = subst (λ hs. SourceTells answers hs a c) (append-nil (all_handed_on next.outs)) (tells_append answers [] [] (all_handed_on next.outs) a b c told next.told);
   }
 
   -- ---- an exchange
 
   pub exchange_served : (e : Exchange) (room : List ℕ) (moment : ℕ) (t : TerminalState) (j : StoreView D) (t' : TerminalState) (j' : StoreView D) (a b c : Option Told)
-      → e.moment ≡ Some moment → Tells (exchanged (Some e) room) [] a b → Handled g t j t' j' b c [] (office moment (bytes_asked e.asked room) false ∷ [])
+      → e.moment ≡ Some moment → SourceTells (exchanged (Some e) room) [] a b → Handled g t j t' j' b c [] (office moment (bytes_asked e.asked room) false ∷ [])
       → ExchangeServed g t j t' j' a c (Ok tt)
   exchange_served e room moment t j t' j' a b c is told handled =
       let request = Some (record { bytes = bytes_asked e.asked room; moment = moment }) in record {
         answers = answers_of_request request;
         happened = happenings_of_request request;
         handled = handled_answer (answers_of_request request) (happenings_of_request request) t j t' j' a b c
-            (subst (λ m. Tells (timed m ∷ asked (Some (bytes_asked e.asked room)) ∷ []) [] a b) is told) handled;
+            (subst (λ m. SourceTells (timed m ∷ asked (Some (bytes_asked e.asked room)) ∷ []) [] a b) is told) handled;
         ends = (request, refl, refl);
       }
 
@@ -99,7 +99,7 @@ module _ {D : Type 0} (g : Ghosts D) where
   )
 
   module _ (result : Result ⊤ Stop) (r : Reading) (t : TerminalState) (j : StoreView D) (t1 : TerminalState) (j1 : StoreView D) (t2 : TerminalState) (j2 : StoreView D) (t3 : TerminalState) (j3 : StoreView D)
-      (a b c d e : Option Told) (line : Tells (converted (Line r) ∷ []) [] a b) (read : Handled g t j t1 j1 b c [] (reading r ∷ []))
+      (a b c d e : Option Told) (line : SourceTells (converted (Line r) ∷ []) [] a b) (read : Handled g t j t1 j1 b c [] (reading r ∷ []))
       (typed : StretchServed g t1 j1 t2 j2 c d) (exchange : ExchangeServed g t2 j2 t3 j3 d e result) where
     abbrev begun : Begun
     begun = record { reading = r; bytes = typed.bytes; hung_up = typed.hung_up }

@@ -4,7 +4,7 @@ use Rattle.std.specs.Io.KnownBytes.{Appends}
 use Rattle.std.proofs.lemmas.List.{append-nil, take_more}
 use Rattle.wb_sics.specs.declared.reply.Reply.{Reply}
 use Rattle.wb_station.specs.Account.{Out}
-use Rattle.wb_program.specs.PrintedOutputs.{line_printed, printed, printed_lines, printed_out, printed_replies, printed_reply}
+use Rattle.wb_program.specs.PrintedOutputs.{printed_body_line, printed, printed_lines, printed_out, printed_replies, printed_reply}
 
 pub Appends-none : (w : Option (List ℕ)) → Appends w w []
 Appends-none None = tt
@@ -42,16 +42,16 @@ pub record PrintedSoFar (all rest : List (List ℕ)) (w w' : Option (List ℕ)) 
 pub none-printed : (all : List (List ℕ)) (w : Option (List ℕ)) → PrintedSoFar all all w w
 none-printed all w = record { done = []; split = refl; written = Appends-none w }
 
-printed_lines-push : (done : List (List ℕ)) (line : List ℕ) → printed_lines (done ++ line ∷ []) ≡ printed_lines done ++ line_printed line
-printed_lines-push [] line = append-nil (line_printed line)
-printed_lines-push (first ∷ done) line = ap (λ l. line_printed first ++ l) (printed_lines-push done line) ∙ sym (append_assoc (line_printed first) (printed_lines done) (line_printed line))
+printed_lines-push : (done : List (List ℕ)) (line : List ℕ) → printed_lines (done ++ line ∷ []) ≡ printed_lines done ++ printed_body_line line
+printed_lines-push [] line = append-nil (printed_body_line line)
+printed_lines-push (first ∷ done) line = ap (λ l. printed_body_line first ++ l) (printed_lines-push done line) ∙ sym (append_assoc (printed_body_line first) (printed_lines done) (printed_body_line line))
 
 pub one-printed : (all rest after : List (List ℕ)) (line : List ℕ) (x y z : Option (List ℕ)) → rest ≡ line ∷ after → PrintedSoFar all rest x y
-    → Appends y z (line_printed line) → PrintedSoFar all after x z
+    → Appends y z (printed_body_line line) → PrintedSoFar all after x z
 one-printed all rest after line x y z next so_far written = record {
   done = so_far.done ++ line ∷ [];
   split = so_far.split ∙ ap (λ l. so_far.done ++ l) next ∙ sym (append_assoc so_far.done (line ∷ []) after);
-  written = subst (Appends x z) (sym (printed_lines-push so_far.done line)) (Appends-append (printed_lines so_far.done) (line_printed line) x y z so_far.written written);
+  written = subst (Appends x z) (sym (printed_lines-push so_far.done line)) (Appends-append (printed_lines so_far.done) (printed_body_line line) x y z so_far.written written);
 }
 
 pub all-printed : (all rest : List (List ℕ)) (x y : Option (List ℕ)) → rest ≡ [] → PrintedSoFar all rest x y → Appends x y (printed_lines all)

@@ -30,12 +30,12 @@ abbrev pub body_lines : List ℕ → List (List ℕ)
 body_lines response = after_first is_empty_line (lines response)
 
 -- `| `, the line and a line feed
-abbrev pub line_printed : List ℕ → List ℕ
-line_printed line = codes "| " ++ line ++ codes "\n"
+abbrev pub printed_body_line : List ℕ → List ℕ
+printed_body_line line = codes "| " ++ line ++ codes "\n"
 
 abbrev pub printed_lines : List (List ℕ) → List ℕ
 printed_lines [] = []
-printed_lines (line ∷ more) = line_printed line ++ printed_lines more
+printed_lines (line ∷ more) = printed_body_line line ++ printed_lines more
 
 -- `o `, the status and a line feed, then the lines of the body
 abbrev pub printed_response : List ℕ → List ℕ

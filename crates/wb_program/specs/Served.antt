@@ -4,7 +4,7 @@ use Rattle.sqlite.specs.Store.{Ghosts}
 use Rattle.wb_program.specs.declared.serving.ServeEnd.{ServeEnd}
 use Rattle.wb_program.specs.declared.serving.ServeEnd.TheVariants as end
 use Rattle.wb_sources.specs.declared.sources.Converter.TheVariants.{End, Fault}
-use Rattle.wb_station.specs.SourceAnswers.{Answer, Tells, Told, asked, converted, timed}
+use Rattle.wb_station.specs.SourceAnswers.{Answer, SourceTells, Told, asked, converted, timed}
 use Rattle.wb_program.specs.Turns.{Begun, Turn, all_handed_on, answers_begun, answers_of, happenings_begun, happenings_of}
 use Rattle.wb_sics.specs.Stands.{TerminalState}
 use Rattle.wb_station.specs.Account.{Out}
@@ -31,7 +31,7 @@ module _ {D : Type 0} (g : Ghosts D) (t : TerminalState) (j : StoreView D) (t' :
     pub outs : List Out
     pub as_happened : map unmarked happenings ≡ happened
     pub ran : Ran g happenings t j t' j' outs
-    pub told : Tells answers (all_handed_on outs) old new
+    pub told : SourceTells answers (all_handed_on outs) old new
 
   -- serving for at most so many turns ended so
   pub record Served (limit : ℕ) (end : ServeEnd) : Type 0 where

@@ -1,8 +1,8 @@
 //! What the lines of a trace do to a station.
 ghost use Rattle.std.specs.Prelude.{◌∷◌, [], false, OnOk, map, replicate, reverse};
+ghost use Rattle.wb_program.specs.TraceLines.{typed};
 ghost use Rattle.wb_program.specs.helpers.LineEvents.{IsReadLine, events_of};
 ghost use Rattle.wb_program.specs.helpers.Performed.{Performed};
-ghost use Rattle.wb_program.specs.TraceLines.{typed};
 ghost use Rattle.wb_station.specs.Happening.{IsTaken, byte as byte_happening, happening, reading as reading_happening};
 ghost use Rattle.wb_window.specs.Reading.{IsReading};
 

@@ -2,7 +2,7 @@
 ghost use Rattle.std.specs.Io.KnownBytes.{Appends};
 ghost use Rattle.std.specs.Prelude.{◌≡◌, OnOk, codes};
 ghost use Rattle.std.specs.Str.Lines.{lines};
-ghost use Rattle.wb_program.specs.PrintedOutputs.{body_lines, line_printed, printed_lines, printed_out, printed_replies, printed_reply, printed_response, status_of};
+ghost use Rattle.wb_program.specs.PrintedOutputs.{body_lines, printed_body_line, printed_lines, printed_out, printed_replies, printed_reply, printed_response, status_of};
 ghost use Rattle.wb_station.specs.OutputShows.{out_shown};
 
 use crate::lines::{first_line, split_word};
@@ -94,7 +94,7 @@ fn print_lines<O: Write>(text: &[u8], writer: &mut O) -> Result<(), WriteFault>
 
 fn print_line<O: Write>(line: &[u8], writer: &mut O) -> Result<(), WriteFault>
     ensures { OnOk result (Appends
-        (O.contents writer.old) (O.contents writer.new) (line_printed line.now)) }
+        (O.contents writer.old) (O.contents writer.new) (printed_body_line line.now)) }
 {
     write_bytes(b"| ", writer)?;
     write_bytes(line, writer)?;

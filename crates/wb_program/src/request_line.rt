@@ -1,7 +1,7 @@
 //! The lines of a trace that hand in requests to the office.
 ghost use Rattle.std.specs.Prelude.{◌≡◌, ◌+◌, ◌≤◌, ◌++◌, IfSome, length, option_map, take};
-ghost use Rattle.wb_program.specs.helpers.LineEvents.{IsReadLine, events_of};
 ghost use Rattle.wb_program.specs.RequestLines.{asked_by_bytes, asked_by_line, get_bytes, get_if_target, post_bytes, post_if_target, request_bytes};
+ghost use Rattle.wb_program.specs.helpers.LineEvents.{IsReadLine, events_of};
 
 use crate::lines::split_word;
 use crate::numerals::{hexadecimal, moment};

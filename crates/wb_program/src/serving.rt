@@ -1,11 +1,11 @@
 //! The service: turns of a station over its sources.
 ghost use Rattle.std.specs.Prelude.{◌≡◌, ◌∷◌, [], false, map, reverse};
 ghost use Rattle.wb_program.specs.Served.{Handled, Served};
-ghost use Rattle.wb_program.specs.helpers.TurnParts.{ExchangeServed, StretchServed, end_of, TurnServed};
-ghost use Rattle.wb_station.specs.SourceAnswers.{Tells};
 ghost use Rattle.wb_program.specs.Turns.{handed_on};
+ghost use Rattle.wb_program.specs.helpers.TurnParts.{ExchangeServed, StretchServed, end_of, TurnServed};
 ghost use Rattle.wb_station.specs.Happening.{IsTaken, byte as byte_happening, happening, office as office_happening};
 ghost use Rattle.wb_station.specs.OutputShows.{out_shown};
+ghost use Rattle.wb_station.specs.SourceAnswers.{SourceTells};
 
 use sqlite::Alter;
 use thiserror::Error;
@@ -181,7 +181,7 @@ fn handle<W: Window, D: Alter, S: Sources>(
 
 /// Hands on what a station put out; no replies are nothing to hand on.
 fn hand_on<S: Sources>(output: Output<'_>, sources: &mut S)
-    ensures { Tells [] (handed_on (out_shown output.entry)) (S.told sources.old) (S.told sources.new) }
+    ensures { SourceTells [] (handed_on (out_shown output.entry)) (S.told sources.old) (S.told sources.new) }
 {
     match output {
         Output::Replies(replies) => {

@@ -1,8 +1,8 @@
 //! A line of a trace, read.
 ghost use Rattle.std.specs.Option.{option_copied};
 ghost use Rattle.std.specs.Prelude.{◌≡◌, ◌+◌, ◌*◌, ◌≤◌, ℕ, List, IfSome, length, option_map};
+ghost use Rattle.wb_program.specs.TraceLines.{bytes_line, hang_up_line, line_events, of_text, reading_line, reading_of_word, text_typed, without_blank};
 ghost use Rattle.wb_program.specs.helpers.LineEvents.{IsReadLine, events_of};
-ghost use Rattle.wb_program.specs.TraceLines.{bytes_line, hang_up_line, line_events, of_text, reading_line, reading_of_word, text_typed, typed, without_blank};
 ghost use Rattle.wb_window.specs.Reading.{IsReading};
 
 use crate::numerals::{count, hexadecimal};

@@ -15,18 +15,15 @@ use Rattle.wb_scale.specs.Zero.{above_zero}
 abbrev pub gross : List Moment → Option ℤ
 gross ms = option_map round (above_zero ms)
 
--- net, in whole e: the load above the zero less the tare, rounded; a weighed tare stands in it in tenths, not rounded
-abbrev pub net_now : List Moment → Option ℤ
-net_now ms = option_map (λ tenths. round (tenths -ℤ tare_tenths (tare_now ms))) (above_zero ms)
-
 -- gross and net are indicated, unless gross is over or under
 abbrev pub weights_unless_outside : Setup → Bool → ℤ → ℤ → Indicated
-weights_unless_outside s stable gross net_now =
+weights_unless_outside s stable gross net =
     if is_over s gross then Over
     else if is_under gross then Under
-    else Shown gross net_now stable
+    else Shown gross net stable
 
--- so many tenths above the zero are indicated, with a tare
+-- so many tenths above the zero are indicated, with a tare: the gross, and the net, which is what is above the tare. A weighed tare stands in it in tenths, not
+-- rounded
 abbrev pub indicated_at : Setup → Bool → TareNow → Option ℤ → Indicated
 indicated_at s stable tare None = NoLoad
 indicated_at s stable tare (Some tenths) = weights_unless_outside s stable (round tenths) (round (tenths -ℤ tare_tenths tare))
@@ -40,6 +37,6 @@ abbrev pub IsIndicationInRange : Setup → Indicated → Type 0
 IsIndicationInRange s NoLoad = Unit {0}
 IsIndicationInRange s Over = Unit {0}
 IsIndicationInRange s Under = Unit {0}
-IsIndicationInRange s (Shown gross net_now stable) =
+IsIndicationInRange s (Shown gross net stable) =
     (neg_ℤ (pos 20) ≤ℤ gross) × (gross ≤ℤ pos (intervals s + 9))
-    × (neg_ℤ (pos (intervals s + 20)) ≤ℤ net_now) × (net_now ≤ℤ pos (intervals s + 9))
+    × (neg_ℤ (pos (intervals s + 20)) ≤ℤ net) × (net ≤ℤ pos (intervals s + 9))

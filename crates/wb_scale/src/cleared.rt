@@ -1,11 +1,11 @@
 //! The cleared bridge.
 ghost use Rattle.std.specs.Prelude.{◌≡◌, IfSome, List};
-ghost use Rattle.wb_scale.specs.helpers.After.{cleared_from};
 ghost use Rattle.wb_scale.specs.Call.{Call, stored};
 ghost use Rattle.wb_scale.specs.Cleared.{is_cleared};
 ghost use Rattle.wb_scale.specs.History.{moments};
-ghost use Rattle.wb_scale.specs.helpers.Load.{IsAbove};
 ghost use Rattle.wb_scale.specs.Stands.{ScaleStands, ScaleTakes};
+ghost use Rattle.wb_scale.specs.helpers.After.{cleared_from};
+ghost use Rattle.wb_scale.specs.helpers.Load.{IsAbove};
 
 use crate::Scale;
 use wb_instrument::{MIN_INTERVALS, round_tenths};

@@ -1,13 +1,13 @@
 //! What is indicated.
 ghost use Rattle.std.specs.Prelude.{◌≡◌, IfSome, List};
-ghost use Rattle.wb_window.specs.Stability.{is_stable};
 ghost use Rattle.wb_scale.specs.Call.{Call};
 ghost use Rattle.wb_scale.specs.History.{moments};
 ghost use Rattle.wb_scale.specs.Indication.{IsIndicationInRange, indicated, indicated_at, weights_unless_outside};
-ghost use Rattle.wb_scale.specs.helpers.Load.{IsAbove};
 ghost use Rattle.wb_scale.specs.Moment.{readings};
 ghost use Rattle.wb_scale.specs.Stands.{ScaleStands};
 ghost use Rattle.wb_scale.specs.Tare.{IsTare, tare_now};
+ghost use Rattle.wb_scale.specs.helpers.Load.{IsAbove};
+ghost use Rattle.wb_window.specs.Stability.{is_stable};
 
 use crate::Scale;
 use crate::answers::{Indicated, TareNow};
@@ -26,7 +26,7 @@ impl<W: Window> Scale<W> {
         indicated_of(&self.instrument, stable, self.tare, self.above_zero())
     }
 
-    /// Whether the scale is stable. Here tests alone call it.
+    /// Whether the scale is stable. In this repository only tests call it.
     pub fn is_stable(&self) -> bool
         ensures { (h : List Call) → ScaleStands self.now h
             → result ≡ is_stable self.now.setup.window self.now.setup.band

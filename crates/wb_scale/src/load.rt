@@ -1,9 +1,9 @@
 //! The last load, and what of it is above the zero.
 ghost use Rattle.std.specs.Prelude.{◌≡◌, ◌≤ℤ◌, IfSome, neg_ℤ, option_and_then, pos};
-ghost use Rattle.wb_window.specs.Reading.{IsReading};
+ghost use Rattle.wb_scale.specs.Zero.{load_of};
 ghost use Rattle.wb_scale.specs.helpers.After.{above};
 ghost use Rattle.wb_scale.specs.helpers.Load.{IsLoad, IsAbove};
-ghost use Rattle.wb_scale.specs.Zero.{load_of};
+ghost use Rattle.wb_window.specs.Reading.{IsReading};
 
 use wb_window::Reading;
 

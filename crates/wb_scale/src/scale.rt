@@ -1,5 +1,5 @@
 //! The scale, proved for every history of its calls.
-ghost use Rattle.std.specs.Prelude.{◌≡◌, ◌≤◌, ◌∷◌, [], List, IfSome};
+ghost use Rattle.std.specs.Prelude.{◌≡◌, ◌≤◌, [], IfSome};
 ghost use Rattle.wb_instrument.specs.Setup.{IsSetup};
 ghost use Rattle.wb_window.specs.Reading.{IsReading};
 
@@ -33,11 +33,11 @@ impl<W: Window> Model for Scale<W> {
 }
 
 impl<W: Window> Scale<W> {
-    ghost use Rattle.wb_scale.specs.helpers.After.{above};
-    ghost use Rattle.wb_scale.specs.Call.{Call, read};
-    ghost use Rattle.wb_scale.specs.helpers.Load.{IsAbove, IsLoad};
+    ghost use Rattle.wb_scale.specs.Call.{read};
     ghost use Rattle.wb_scale.specs.Stands.{ScaleStands, ScaleTakes};
     ghost use Rattle.wb_scale.specs.Zero.{last_load};
+    ghost use Rattle.wb_scale.specs.helpers.After.{above};
+    ghost use Rattle.wb_scale.specs.helpers.Load.{IsAbove, IsLoad};
 
     /// A scale over a fresh window, with the zero at the calibration zero, no tare, and the bridge not cleared.
     pub fn new(instrument: Instrument, window: W) -> Self

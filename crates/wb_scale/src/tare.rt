@@ -2,9 +2,9 @@
 ghost use Rattle.std.specs.Prelude.{◌≡◌, ◌≤ℤ◌, false, IfErr, IfOk, IfSome, if◌then◌else◌, List, None, pos, Some};
 ghost use Rattle.wb_scale.specs.Call.{Call, clear_tare, preset, tare};
 ghost use Rattle.wb_scale.specs.History.{moments};
-ghost use Rattle.wb_scale.specs.helpers.Load.{IsAbove};
 ghost use Rattle.wb_scale.specs.Stands.{ScaleStands, ScaleTakes};
 ghost use Rattle.wb_scale.specs.Tare.{IsTare, is_preset, is_preset_done, is_tared, is_weighed, preset_answer, tare_answer, tare_answer_of, tare_kg, tare_now, tare_tenths};
+ghost use Rattle.wb_scale.specs.helpers.Load.{IsAbove};
 
 use crate::Scale;
 use crate::answers::{PresetAnswer, TareAnswer, TareNow};

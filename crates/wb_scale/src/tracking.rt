@@ -1,11 +1,11 @@
 //! Zero tracking.
 ghost use Rattle.std.specs.Prelude.{◌≡◌, ◌≤◌, ◌+ℤ◌, ◌≤ℤ◌, if◌then◌else◌, IfSome, neg_ℤ, pos, Some, true};
 ghost use Rattle.wb_instrument.specs.Limits.{zero_limit};
-ghost use Rattle.wb_window.specs.Stability.{is_stable};
-ghost use Rattle.wb_scale.specs.helpers.After.{pause_from, step_of, tracked};
-ghost use Rattle.wb_scale.specs.helpers.Load.{IsLoad};
 ghost use Rattle.wb_scale.specs.Tracking.{is_within_limit, step_to, towards};
 ghost use Rattle.wb_scale.specs.Zero.{IsZeroInRange};
+ghost use Rattle.wb_scale.specs.helpers.After.{pause_from, step_of, tracked};
+ghost use Rattle.wb_scale.specs.helpers.Load.{IsLoad};
+ghost use Rattle.wb_window.specs.Stability.{is_stable};
 
 use crate::Scale;
 use crate::cleared::cleared_by;

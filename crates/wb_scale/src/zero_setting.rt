@@ -1,12 +1,12 @@
 //! Semi-automatic zero setting.
 ghost use Rattle.std.specs.Prelude.{◌≡◌, ◌∷◌, ◌≤ℤ◌, false, IfErr, IfOk, List, neg_ℤ, pos, Some};
-ghost use Rattle.wb_window.specs.Reading.{IsReading};
-ghost use Rattle.wb_scale.specs.helpers.After.{IsRefused, IsTarget};
 ghost use Rattle.wb_scale.specs.Call.{Call, read, read_for_zero, set_zero};
 ghost use Rattle.wb_scale.specs.History.{moments};
 ghost use Rattle.wb_scale.specs.Moment.{readings};
 ghost use Rattle.wb_scale.specs.Stands.{ScaleStands, ScaleTakes};
 ghost use Rattle.wb_scale.specs.Zero.{is_done, zero_answer, zero_answer_of};
+ghost use Rattle.wb_scale.specs.helpers.After.{IsRefused, IsTarget};
+ghost use Rattle.wb_window.specs.Reading.{IsReading};
 
 use crate::Scale;
 use crate::answers::{TareNow, ZeroAnswer};

@@ -59,7 +59,7 @@ reply_to_preset WeighedInUse = PresetRefused
 reply_to_preset OutOfRange = PresetBad
 
 -- the reply to a command that is no longer waited for
-abbrev pub reply_given_up : Awaited → Reply
-reply_given_up AwaitedWeight = WeightRefused
-reply_given_up AwaitedZero = ZeroRefused
-reply_given_up AwaitedTare = TareRefused
+abbrev pub reply_to_given_up : Awaited → Reply
+reply_to_given_up AwaitedWeight = WeightRefused
+reply_to_given_up AwaitedZero = ZeroRefused
+reply_to_given_up AwaitedTare = TareRefused

@@ -16,7 +16,7 @@ use Rattle.wb_sics.specs.declared.reply.Reply.TheVariants.{PresetBad, TareCleare
 use Rattle.wb_sics.specs.declared.waiting.Awaited.{Awaited}
 use Rattle.wb_sics.specs.declared.waiting.Awaited.TheVariants.{Weight as AwaitedWeight, Zero as AwaitedZero, Tare as AwaitedTare}
 use Rattle.wb_sics.specs.declared.waiting.Waiting.{Waiting}
-use Rattle.wb_sics.specs.Answers.{reply_to_weight_now, reply_to_weight, reply_to_zero, reply_to_tare, reply_to_preset, reply_given_up}
+use Rattle.wb_sics.specs.Answers.{reply_to_weight_now, reply_to_weight, reply_to_zero, reply_to_tare, reply_to_preset, reply_to_given_up}
 use Rattle.wb_sics.specs.Calls.{calls}
 use Rattle.wb_sics.specs.Event.{TerminalEvent, reading, byte, hang_up, stored}
 use Rattle.wb_sics.specs.Lines.{line_command}
@@ -93,12 +93,12 @@ is_cancel Unknown = false
 -- the refusal of what waits, before another line's reply; `@` alone drops it unanswered
 abbrev pub refused_by : Command → Option Waiting → List Reply
 refused_by next None = []
-refused_by next (Some w) = if is_cancel next then [] else (reply_given_up w.awaited ∷ [])
+refused_by next (Some w) = if is_cancel next then [] else (reply_to_given_up w.awaited ∷ [])
 
 -- the reply to what waits at a reading: the decided one, else none before the last reading that it waits, and there a refusal
 abbrev pub reply_at : Option Reply → Waiting → List Reply
 reply_at (Some reply) w = reply ∷ []
-reply_at None w = if nat_lt 1 w.left then [] else (reply_given_up w.awaited ∷ [])
+reply_at None w = if nat_lt 1 w.left then [] else (reply_to_given_up w.awaited ∷ [])
 
 -- the replies to what waits at a reading, after these calls of the scale
 abbrev pub replies_read : Setup → List Call → Reading → Option Waiting → List Reply

@@ -1,6 +1,6 @@
 //! Replies, and their texts (MT-SICS levels 0 and 1).
-ghost use Rattle.std.specs.Prelude.{◌≡◌, ◌≤◌, ◌+◌, ◌++◌, codes, length};
 ghost use Rattle.arrayvec.specs.ArrayString.{array_string_len};
+ghost use Rattle.std.specs.Prelude.{◌≡◌, ◌≤◌, ◌+◌, ◌++◌, codes, length};
 ghost use Rattle.wb_sics.specs.ReplyText.{listed_text, reply_bytes, reply_text, weight_text};
 
 use arrayvec::{ArrayString, ArrayVec};

@@ -5,10 +5,10 @@ ghost use Rattle.wb_scale.specs.Call.{Call, read};
 ghost use Rattle.wb_scale.specs.History.{moments};
 ghost use Rattle.wb_scale.specs.Stands.{ScaleStands, ScaleTakesAll};
 ghost use Rattle.wb_sics.specs.Calls.{asked_at, calls_of_command};
-ghost use Rattle.wb_sics.specs.helpers.Kept.{asked_waiting, waiting_from, waiting_read};
 ghost use Rattle.wb_sics.specs.Replies.{decided, listed_commands, own_reply, replies_read};
 ghost use Rattle.wb_sics.specs.Waiting.{same};
 ghost use Rattle.wb_sics.specs.declared.waiting.Awaited.TheVariants.{Tare as AwaitedTare, Zero as AwaitedZero};
+ghost use Rattle.wb_sics.specs.helpers.Kept.{asked_waiting, waiting_from, waiting_read};
 ghost use Rattle.wb_window.specs.Reading.{IsReading};
 
 use crate::answers::{preset_reply, tare_reply, weight_now, weight_reply, zero_reply};
@@ -79,7 +79,7 @@ impl<W: Window> Terminal<W> {
         &mut self.scale
     }
 
-    /// Takes a reading, and gives the replies at it. Here tests alone call it.
+    /// Takes a reading, and gives the replies at it. In this repository only tests call it.
     pub fn reading(&mut self, reading: Reading) -> Replies
         requires { IsReading reading }
         ensures takes { TerminalTakes self.old self.new (reading_event reading) }
@@ -105,7 +105,7 @@ impl<W: Window> Terminal<W> {
         repeat(&self.scale, self.repeating, room);
     }
 
-    /// Takes a byte of the stream, and gives the replies at it. Here tests alone call it.
+    /// Takes a byte of the stream, and gives the replies at it. In this repository only tests call it.
     pub fn byte(&mut self, byte: u8) -> Replies
         ensures takes { TerminalTakes self.old self.new (byte_event byte) }
         ensures replies { (h : List TerminalEvent) → TerminalStands self.old h

@@ -2,9 +2,9 @@
 ghost use Rattle.arrayvec.specs.ArrayVec.{array_vec_len};
 ghost use Rattle.std.specs.Prelude.{◌≡◌, ◌≤◌, ◌++◌, [], None, false, is_some, option_to_list};
 ghost use Rattle.wb_instrument.specs.Setup.{Setup};
-ghost use Rattle.wb_sics.specs.Answers.{reply_given_up};
-ghost use Rattle.wb_sics.specs.helpers.Kept.{still, unless_decided};
+ghost use Rattle.wb_sics.specs.Answers.{reply_to_given_up};
 ghost use Rattle.wb_sics.specs.Replies.{refused_by, reply_at};
+ghost use Rattle.wb_sics.specs.helpers.Kept.{still, unless_decided};
 
 use crate::command::Command;
 use crate::reply::{Replies, Reply};
@@ -98,7 +98,7 @@ pub(crate) fn give_up(waiting: Option<Waiting>, command: Command, replies: &mut 
 }
 
 fn refusal(awaited: Awaited) -> Reply
-    ensures { result ≡ reply_given_up awaited }
+    ensures { result ≡ reply_to_given_up awaited }
 {
     match awaited {
         Awaited::Weight => Reply::WeightRefused,

@@ -1,6 +1,5 @@
-//! What the sources of a service give: lines of a load converter, and the bytes of its clients.
-//!
-//! `converter_line` reads a line of a load converter.
+//! What the sources of a service give in a turn: a line of a load converter, which `converter_line` reads, and bytes of its clients,
+//! with the most of each that there is room for.
 #![tactic(auto)]
 
 mod converter;

@@ -11,7 +11,7 @@ use Rattle.wb_store.specs.Lists.{entry_by_key, is_spent}
 use Rattle.wb_office.proofs.Theorems.{law_of_repeated_requests}
 use Rattle.wb_station.specs.declared.fault.HttpFault.{HttpFault}
 use Rattle.wb_station.specs.Account.{Account, ComesOf, IsAccount, Out, account_left, situation_at}
-use Rattle.wb_station.specs.CourseOfHistory.{Adds, AreTurns, HasCourse, IsCourse, KeptForGood, SameAgain, journal_of, turn}
+use Rattle.wb_station.specs.CourseOfHistory.{AddsEntry, AreTurns, HasCourse, IsCourse, KeptForGood, SameAgain, journal_of, turn}
 use Rattle.wb_station.specs.Happening.{Happening, reading, byte, hang_up, office}
 use Rattle.wb_station.specs.HttpJudgement.{IsJudged}
 
@@ -50,7 +50,7 @@ has_course s opening (office at bytes true ∷ h) a is = let c = has_course s op
 has_course s opening (office at bytes false ∷ h) a is =
     one_turn s opening at bytes h is.2.1.0 is.0 a is.2.0 is.2.1.1 is.1 is.2.1.2 (has_course s opening h is.0 is.1)
 
-module _ (s : Setup) (before : Account) (request : Request) (want : Wanted) (e : EntryParts) (adds : Adds s before request want e) (later : List Happening) (c : Account)
+module _ (s : Setup) (before : Account) (request : Request) (want : Wanted) (e : EntryParts) (adds : AddsEntry s before request want e) (later : List Happening) (c : Account)
     (account : IsAccount s (account_left want before) later c) where
   abbrev first_turn : RequestTurn
   first_turn = turn s adds.at request adds.is.bound before

@@ -24,7 +24,7 @@ use Rattle.wb_office.specs.Answer.{Content, text_of_indication, text_content, an
 use Rattle.wb_office.specs.Situation.{Situation}
 use Rattle.wb_office.specs.WithoutStore.{Outright}
 use Rattle.wb_office.specs.Conditions.{is_damaged}
-use Rattle.wb_office.specs.Serves.{IsNow, Marks, Serves, contents_of, is_store_refusal}
+use Rattle.wb_office.specs.Serves.{IsNow, Marks, Serves, content_or_refusal, is_store_refusal}
 use Rattle.wb_office.specs.Wanted.{Wanted, IsWanted, asks_store, wanted}
 use Rattle.wb_office.specs.Verdict.{Verdict, accepted, refused, repeated, verdict}
 use Rattle.wb_scale.specs.History.{moments}
@@ -47,7 +47,7 @@ use Rattle.wb_station.specs.Account.{Account, Comes, IsResponseOut, Out, account
 use Rattle.wb_station.specs.Happening.{Happening, heard_of, office}
 use Rattle.wb_station.specs.HttpJudgement.{IsJudged, MayWantMemory}
 use Rattle.wb_station.specs.UnlessMemoryRefused.{IsOf}
-use Rattle.wb_station.specs.Response.{ResponseContent, is_export, response_text, told_fault, told_result}
+use Rattle.wb_station.specs.Response.{ResponseContent, is_export, response_text, response_to_fault, response_to_result}
 use Rattle.wb_station.specs.Stands.{Hears, IsLedTo, IsOfHistory, IsOutright, KeepsLists, LeavesSoon, MustBeUnmade, StationStands, StationStandsAt, Took}
 use Rattle.wb_station.proofs.Accounts.{of_account, one_later, quiet_took}
 use Rattle.wb_station.proofs.judgement.WholeRequests.{one_judgement}
@@ -168,15 +168,15 @@ module _ {D : Type 0} (g : Ghosts D) (at : ℕ) (bytes : List ℕ) (request : Re
       go false closed = closed
 
   -- the response to an answer
-  response_to : (want : Wanted) (out : Out) → contents_of result ≡ want.answer → IsResponseOut at (told_result request (contents_of result)) out → IsResponseOut at (told_result request want.answer) out
-  response_to want out is response = subst (λ r. IsResponseOut at (told_result request r) out) is response
+  response_to : (want : Wanted) (out : Out) → content_or_refusal result ≡ want.answer → IsResponseOut at (response_to_result request (content_or_refusal result)) out → IsResponseOut at (response_to_result request want.answer) out
+  response_to want out is response = subst (λ r. IsResponseOut at (response_to_result request r) out) is response
 
-  comes_of : (a : Account) (want : Wanted) (out : Out) → IsWanted request (situation_at t.scale.setup at a) want → IsResponseOut at (told_result request want.answer) out
+  comes_of : (a : Account) (want : Wanted) (out : Out) → IsWanted request (situation_at t.scale.setup at a) want → IsResponseOut at (response_to_result request want.answer) out
       → Comes t.scale.setup (office at bytes false) a (account_left want a) out
   comes_of a want out is response = (Ok request, judged, (want, is, refl, response))
 
   -- where it is made, if the request is wanted so, a crash leaves the lists before it or those that are wanted
-  crashes : (out : Out) → IsResponseOut at (told_fault Memory) out → (o : Account) (h : List Happening) (st : StationStands g o t j h) → IsHonest g j' → j.is_closed ≡ false
+  crashes : (out : Out) → IsResponseOut at (response_to_fault Memory) out → (o : Account) (h : List Happening) (st : StationStands g o t j h) → IsHonest g j' → j.is_closed ≡ false
       → (db : Trees) → (state g j'.conn).may_leave db → Reopens db st.account.entries st.account.spent ⊎ IsLedTo t.scale.setup (office at bytes false) st.account db
   crashes out response o h st honest there db may =
       let kept = st.at.store there in
@@ -189,13 +189,13 @@ module _ {D : Type 0} (g : Ghosts D) (at : ℕ) (bytes : List ℕ) (request : Re
       either want is (inl before) = inl before
       either want is (inr after) = inr (record {
         after = account_left want st.account;
-        out = responded (response_text (told_result request want.answer) response.0);
+        out = responded (response_text (response_to_result request want.answer) response.0);
         comes = comes_of st.account want _ is (response.0, response.1, refl);
         reopens = after;
       })
 
   -- it is answered, and there is a response
-  pub made_took : is_store_refusal result ≡ false → (out : Out) → IsResponseOut at (told_result request (contents_of result)) out → Took g (office at bytes false) out t j t' j'
+  pub made_took : is_store_refusal result ≡ false → (out : Out) → IsResponseOut at (response_to_result request (content_or_refusal result)) out → Took g (office at bytes false) out t j t' j'
   made_took plain out response = record {
     setup = of_setup serves.scale.0 serves.scale.1;
     may_be_unmade = tt;
@@ -229,7 +229,7 @@ module _ {D : Type 0} (g : Ghosts D) (at : ℕ) (bytes : List ℕ) (request : Re
   }
 
   -- what stands after a request that counts as never made
-  module _ (out : Out) (response : IsResponseOut at (told_fault Memory) out) where
+  module _ (out : Out) (response : IsResponseOut at (response_to_fault Memory) out) where
     soon_after : (o : Account) (h : List Happening) (st : StationStands g o t j h) → IsHonest g j' → (c : Bool) → j.is_closed ≡ c → LeavesSoon g t.scale.setup o j' (office at bytes true ∷ h)
     soon_after o h st honest true closed =
         subst (λ i. LeavesSoon g t.scale.setup o i (office at bytes true ∷ h)) (sym (serves.still closed))
@@ -282,7 +282,7 @@ module _ {D : Type 0} (g : Ghosts D) (at : ℕ) (bytes : List ℕ) (request : Re
         was_open false open' there = open'
 
     -- memory is refused for the response to an export
-    pub export_took : is_store_refusal result ≡ false → is_export (contents_of result) ≡ true → Took g (office at bytes true) out t j t' j'
+    pub export_took : is_store_refusal result ≡ false → is_export (content_or_refusal result) ≡ true → Took g (office at bytes true) out t j t' j'
     export_took plain export = unmade (λ o h st honest. left_alone o h st honest) (λ o h st honest there.
         let made = serves.judged (situation_at t.scale.setup at st.account) (now st.account st.at.terminal) (st.at.store (is_open plain)).stands honest plain in
         let quiet = export_is_quiet request (situation_at t.scale.setup at st.account) made.0 made.1 (sym (ap is_export made.2.answered) ∙ export) in
@@ -324,7 +324,7 @@ no_ticket es number zero storable = ap (λ n. ticket_of es (with_number n es)) z
 
 -- what is answered outright is what is wanted, and changes nothing
 pub outright_comes : (at : ℕ) (bytes : List ℕ) (request : Request) → IsJudged bytes (Ok request) → asks_store request ≡ false → (t : TerminalState) (result : Result Answer Refusal) → Outright t.scale request result
-    → (out : Out) → IsResponseOut at (told_result request (contents_of result)) out → (a : Account) → TerminalStands t a.terminal → AreLists a.entries a.spent → Comes t.scale.setup (office at bytes false) a a out
+    → (out : Out) → IsResponseOut at (response_to_result request (content_or_refusal result)) out → (a : Account) → TerminalStands t a.terminal → AreLists a.entries a.spent → Comes t.scale.setup (office at bytes false) a a out
 outright_comes at bytes Indication judged asks t result is out response a st lists =
     let text = is.2 (calls t.scale.setup a.terminal) st.now.scale in
     let w = situation_at t.scale.setup at a in (
@@ -334,7 +334,7 @@ outright_comes at bytes Indication judged asks t result is out response a st lis
         wanted Indication w 0,
         record { bound = 0; is_bound = tt; is = refl },
         refl,
-        subst (λ r. IsResponseOut at (told_result Indication r) out) (is.1 ∙ ap (λ x. Ok (text_content x)) text) response,
+        subst (λ r. IsResponseOut at (response_to_result Indication r) out) (is.1 ∙ ap (λ x. Ok (text_content x)) text) response,
       ),
     )
 outright_comes at bytes (Ticket number) judged asks t result is out response a st lists =
@@ -345,7 +345,7 @@ outright_comes at bytes (Ticket number) judged asks t result is out response a s
         wanted (Ticket number) w 0,
         record { bound = 0; is_bound = tt; is = refl },
         refl,
-        subst (λ r. IsResponseOut at (told_result (Ticket number) r) out) (ap contents_of is ∙ sym (no_ticket a.entries number (is_zero number asks) lists.storable)) response,
+        subst (λ r. IsResponseOut at (response_to_result (Ticket number) r) out) (ap content_or_refusal is ∙ sym (no_ticket a.entries number (is_zero number asks) lists.storable)) response,
       ),
     )
 outright_comes at bytes (Weigh key kind plate) judged asks t result is out response a st lists = absurd (cc)
@@ -356,53 +356,53 @@ outright_comes at bytes Purge judged asks t result is out response a st lists = 
 outright_comes at bytes Check judged asks t result is out response a st lists = absurd (cc)
 
 -- on any account something comes of it, which leaves that account
-outright_any : (at : ℕ) (bytes : List ℕ) (request : Request) → IsJudged bytes (Ok request) → asks_store request ≡ false → (s : Setup) (told : ResponseContent) (out : Out) → IsResponseOut at told out
+outright_any : (at : ℕ) (bytes : List ℕ) (request : Request) → IsJudged bytes (Ok request) → asks_store request ≡ false → (s : Setup) (content : ResponseContent) (out : Out) → IsResponseOut at content out
     → (a : Account) → (other : Out) × Comes s (office at bytes false) a a other
-outright_any at bytes Indication judged asks s told out response a =
+outright_any at bytes Indication judged asks s content out response a =
     let want = wanted Indication (situation_at s at a) 0 in (
-      responded (response_text (told_result Indication want.answer) response.0),
+      responded (response_text (response_to_result Indication want.answer) response.0),
       (Ok Indication, judged, (want, record { bound = 0; is_bound = tt; is = refl }, refl, (response.0, response.1, refl))),
     )
-outright_any at bytes (Ticket number) judged asks s told out response a =
+outright_any at bytes (Ticket number) judged asks s content out response a =
     let want = wanted (Ticket number) (situation_at s at a) 0 in (
-      responded (response_text (told_result (Ticket number) want.answer) response.0),
+      responded (response_text (response_to_result (Ticket number) want.answer) response.0),
       (Ok (Ticket number), judged, (want, record { bound = 0; is_bound = tt; is = refl }, refl, (response.0, response.1, refl))),
     )
-outright_any at bytes (Weigh key kind plate) judged asks s told out response a = absurd (cc asks)
-outright_any at bytes (VoidOpen key plate) judged asks s told out response a = absurd (cc asks)
-outright_any at bytes JournalCsv judged asks s told out response a = absurd (cc asks)
-outright_any at bytes TicketsCsv judged asks s told out response a = absurd (cc asks)
-outright_any at bytes Purge judged asks s told out response a = absurd (cc asks)
-outright_any at bytes Check judged asks s told out response a = absurd (cc asks)
+outright_any at bytes (Weigh key kind plate) judged asks s content out response a = absurd (cc asks)
+outright_any at bytes (VoidOpen key plate) judged asks s content out response a = absurd (cc asks)
+outright_any at bytes JournalCsv judged asks s content out response a = absurd (cc asks)
+outright_any at bytes TicketsCsv judged asks s content out response a = absurd (cc asks)
+outright_any at bytes Purge judged asks s content out response a = absurd (cc asks)
+outright_any at bytes Check judged asks s content out response a = absurd (cc asks)
 
 -- and it is answered so
 answers_outright : (at : ℕ) (bytes : List ℕ) (request : Request) → IsJudged bytes (Ok request) → (t : TerminalState) (result : Result Answer Refusal) → Outright t.scale request result
-    → (out : Out) → IsResponseOut at (told_result request (contents_of result)) out → (h : List Happening) → Hears t h → IsOutright t.scale.setup at bytes h out
+    → (out : Out) → IsResponseOut at (response_to_result request (content_or_refusal result)) out → (h : List Happening) → Hears t h → IsOutright t.scale.setup at bytes h out
 answers_outright at bytes request judged t result is out response h ears = record {
   fault = λ fault judged'. absurd (no_both request fault (one_judgement bytes (Ok request) (Err fault) judged judged'));
   no_ticket = λ judged'. ticket (same_request request (Ticket 0) (one_judgement bytes (Ok request) (Ok (Ticket 0)) judged judged'));
   indication = λ judged'. indication (same_request request Indication (one_judgement bytes (Ok request) (Ok Indication) judged judged'));
 }
   where
-    ticket : request ≡ Ticket 0 → IsResponseOut at (told_result (Ticket 0) (Err NoTicket)) out
+    ticket : request ≡ Ticket 0 → IsResponseOut at (response_to_result (Ticket 0) (Err NoTicket)) out
     ticket same =
         let is' = subst (λ r. Outright t.scale r result) same is in
-        subst (λ r. IsResponseOut at (told_result (Ticket 0) r) out) (ap contents_of is') (subst (λ r. IsResponseOut at (told_result r (contents_of result)) out) same response)
+        subst (λ r. IsResponseOut at (response_to_result (Ticket 0) r) out) (ap content_or_refusal is') (subst (λ r. IsResponseOut at (response_to_result r (content_or_refusal result)) out) same response)
 
     indication : request ≡ Indication → (events : List TerminalEvent) × (heard events ≡ heard_of h)
-        × IsResponseOut at (told_result Indication (Ok (text_content (text_of_indication t.scale.setup (indicated t.scale.setup (moments t.scale.setup (calls t.scale.setup events))))))) out
+        × IsResponseOut at (response_to_result Indication (Ok (text_content (text_of_indication t.scale.setup (indicated t.scale.setup (moments t.scale.setup (calls t.scale.setup events))))))) out
     indication same =
         let is' = subst (λ r. Outright t.scale r result) same is in
         let text = is'.2 (calls t.scale.setup ears.events) ears.stands.now.scale in (
           ears.events,
           ears.of_history,
-          subst (λ r. IsResponseOut at (told_result Indication r) out) (is'.1 ∙ ap (λ x. Ok (text_content x)) text) (subst (λ r. IsResponseOut at (told_result r (contents_of result)) out) same response),
+          subst (λ r. IsResponseOut at (response_to_result Indication r) out) (is'.1 ∙ ap (λ x. Ok (text_content x)) text) (subst (λ r. IsResponseOut at (response_to_result r (content_or_refusal result)) out) same response),
         )
 
 -- ---- what became of a request
 
 -- a refusal of the store is told as want of memory is
-refusal_told : (request : Request) (r : Result Answer Refusal) → is_store_refusal r ≡ true → told_result request (contents_of r) ≡ told_fault Memory
+refusal_told : (request : Request) (r : Result Answer Refusal) → is_store_refusal r ≡ true → response_to_result request (content_or_refusal r) ≡ response_to_fault Memory
 refusal_told request (Ok answer) is = absurd (cc is)
 refusal_told request (Err (Store fault)) is = refl
 refusal_told request (Err KeyReused) is = absurd (cc is)
@@ -422,9 +422,9 @@ refusal_told request (Err JournalFull) is = absurd (cc is)
 refusal_told request (Err NoTicket) is = absurd (cc is)
 refusal_told request (Err Damaged) is = absurd (cc is)
 
-no_export_outright : (request : Request) (scale : State) (result : Result Answer Refusal) → asks_store request ≡ false → Outright scale request result → is_export (contents_of result) ≡ false
+no_export_outright : (request : Request) (scale : State) (result : Result Answer Refusal) → asks_store request ≡ false → Outright scale request result → is_export (content_or_refusal result) ≡ false
 no_export_outright Indication scale result none is = ap is_export is.1
-no_export_outright (Ticket number) scale result none is = ap (λ r. is_export (contents_of r)) is
+no_export_outright (Ticket number) scale result none is = ap (λ r. is_export (content_or_refusal r)) is
 no_export_outright (Weigh key kind plate) scale result none is = absurd (cc none)
 no_export_outright (VoidOpen key plate) scale result none is = absurd (cc none)
 no_export_outright JournalCsv scale result none is = absurd (cc none)
@@ -442,12 +442,12 @@ module _ {D : Type 0} (g : Ghosts D) (at : ℕ) (bytes : List ℕ) (request : Re
     (serves : asks_store request ≡ true → Serves g j j' t.scale scale' at result (IsWanted request))
     (outright : asks_store request ≡ false → (j' ≡ j) × (scale' ≡ t.scale) × Outright t.scale request result) where
   -- there is a response to it
-  pub answered_took : (out : Out) → IsResponseOut at (told_result request (contents_of result)) out → (unmade : Bool) × Took g (office at bytes unmade) out t j (record t { scale = scale' }) j'
+  pub answered_took : (out : Out) → IsResponseOut at (response_to_result request (content_or_refusal result)) out → (unmade : Bool) × Took g (office at bytes unmade) out t j (record t { scale = scale' }) j'
   answered_took out response = by_request (asks_store request) refl
     where
       by_refusal : (asks : asks_store request ≡ true) (b : Bool) → is_store_refusal result ≡ b → (unmade : Bool) × Took g (office at bytes unmade) out t j (record t { scale = scale' }) j'
       by_refusal asks true is =
-          (true, refused_took g at bytes request judged asks t scale' j j' result (serves asks) out (subst (λ told. IsResponseOut at told out) (refusal_told request result is) response) is)
+          (true, refused_took g at bytes request judged asks t scale' j j' result (serves asks) out (subst (λ content. IsResponseOut at content out) (refusal_told request result is) response) is)
       by_refusal asks false is = (false, made_took g at bytes request judged asks t scale' j j' result (serves asks) is out response)
 
       by_request : (b : Bool) → asks_store request ≡ b → (unmade : Bool) × Took g (office at bytes unmade) out t j (record t { scale = scale' }) j'
@@ -461,7 +461,7 @@ module _ {D : Type 0} (g : Ghosts D) (at : ℕ) (bytes : List ℕ) (request : Re
           )
 
   -- memory was refused for its response
-  pub failed_took : is_export (contents_of result) ≡ true → (out : Out) → IsResponseOut at (told_fault Memory) out → (unmade : Bool) × Took g (office at bytes unmade) out t j (record t { scale = scale' }) j'
+  pub failed_took : is_export (content_or_refusal result) ≡ true → (out : Out) → IsResponseOut at (response_to_fault Memory) out → (unmade : Bool) × Took g (office at bytes unmade) out t j (record t { scale = scale' }) j'
   failed_took export out response = by_request (asks_store request) refl
     where
       by_refusal : (asks : asks_store request ≡ true) (b : Bool) → is_store_refusal result ≡ b → (unmade : Bool) × Took g (office at bytes unmade) out t j (record t { scale = scale' }) j'
@@ -476,12 +476,12 @@ module _ {D : Type 0} (g : Ghosts D) (at : ℕ) (bytes : List ℕ) (request : Re
 
 module _ {D : Type 0} (g : Ghosts D) (j : StoreView D) (at : ℕ) (bytes : List ℕ) (t : TerminalState) (out : Out) where
   -- a fault of the judgement is made
-  fault_made : (fault : HttpFault) → IsJudged bytes (Err fault) → IsResponseOut at (told_fault fault) out → (unmade : Bool) × Took g (office at bytes unmade) out t j t j
+  fault_made : (fault : HttpFault) → IsJudged bytes (Err fault) → IsResponseOut at (response_to_fault fault) out → (unmade : Bool) × Took g (office at bytes unmade) out t j t j
   fault_made fault judged response = (
     false,
     quiet_took g j at bytes false out t tt (λ other judged' asks. absurd (none other judged')) (λ a st lists. (Err fault, judged, (refl, response)))
         (λ a. (out, (Err fault, judged, (refl, response)))) (λ h ears. record {
-          fault = λ other judged'. subst (λ f. IsResponseOut at (told_fault f) out) (same_fault fault other (one_judgement bytes (Err fault) (Err other) judged judged')) response;
+          fault = λ other judged'. subst (λ f. IsResponseOut at (response_to_fault f) out) (same_fault fault other (one_judgement bytes (Err fault) (Err other) judged judged')) response;
           no_ticket = λ judged'. absurd (none (Ticket 0) judged');
           indication = λ judged'. absurd (none Indication judged');
         }),
@@ -491,10 +491,10 @@ module _ {D : Type 0} (g : Ghosts D) (j : StoreView D) (at : ℕ) (bytes : List 
       none other judged' = no_both other fault (one_judgement bytes (Ok other) (Err fault) judged' judged)
 
   -- want of memory counts as never made
-  memory_unmade : MayWantMemory bytes → IsResponseOut at (told_fault Memory) out → (unmade : Bool) × Took g (office at bytes unmade) out t j t j
+  memory_unmade : MayWantMemory bytes → IsResponseOut at (response_to_fault Memory) out → (unmade : Bool) × Took g (office at bytes unmade) out t j t j
   memory_unmade may response = (true, quiet_took g j at bytes true out t (inl may) (λ other judged' asks. refl) (λ a st lists. (refl, response)) (λ a. (out, (refl, response))) (λ h ears. response))
 
-  pub fault_took : (fault : HttpFault) → (r : Result Request HttpFault) → IsJudged bytes r → IsOf r (Err fault) → (IsErrOf {T = Request} (Err fault) Memory → MayWantMemory bytes) → IsResponseOut at (told_fault fault) out
+  pub fault_took : (fault : HttpFault) → (r : Result Request HttpFault) → IsJudged bytes r → IsOf r (Err fault) → (IsErrOf {T = Request} (Err fault) Memory → MayWantMemory bytes) → IsResponseOut at (response_to_fault fault) out
       → (unmade : Bool) × Took g (office at bytes unmade) out t j t j
   fault_took HeadTooLarge r judged is may response = fault_made HeadTooLarge (subst (IsJudged bytes) is judged) response
   fault_took Malformed r judged is may response = fault_made Malformed (subst (IsJudged bytes) is judged) response

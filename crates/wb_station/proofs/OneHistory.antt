@@ -16,13 +16,13 @@ use Rattle.wb_station.specs.declared.fault.HttpFault.{HttpFault}
 use Rattle.wb_station.specs.Account.{Account, Comes, ComesOf, IsAccount, IsResponseOut, Out, account_left, replied, responded, situation_at}
 use Rattle.wb_station.specs.Happening.{Happening, heard_of, reading, byte, hang_up, office}
 use Rattle.wb_station.specs.Laws.{OneHistory, RepliesAlone}
-use Rattle.wb_station.specs.Response.{ResponseContent, response_text, told_result}
+use Rattle.wb_station.specs.Response.{ResponseContent, response_text, response_to_result}
 use Rattle.wb_station.proofs.judgement.WholeRequests.{one_judgement}
 
-one_response : (at : ℕ) (told : ResponseContent) (x y : Out) → IsResponseOut at told x → IsResponseOut at told y → x ≡ y
-one_response at told x y a b =
+one_response : (at : ℕ) (content : ResponseContent) (x y : Out) → IsResponseOut at content x → IsResponseOut at content y → x ≡ y
+one_response at content x y a b =
     let same = unix_secs_injective a.1.0 b.1.0 (a.1.1 ∙ sym b.1.1) in
-    a.2 ∙ ap (λ d. responded (response_text told d)) (a.1.2 ∙ ap imf_fixdate same ∙ sym b.1.2) ∙ sym b.2
+    a.2 ∙ ap (λ d. responded (response_text content d)) (a.1.2 ∙ ap imf_fixdate same ∙ sym b.1.2) ∙ sym b.2
 
 same_wanted : (request : Request) (w : Situation) (b c : ℕ) → HasBound request w b → HasBound request w c → wanted request w b ≡ wanted request w c
 same_wanted Purge w b c one two =
@@ -46,7 +46,7 @@ one_answer s at (Ok request) before a b x y one two =
     let same : one.0 ≡ two.0 = one_wanted request (situation_at s at before) one.0 two.0 one.1 two.1 in
     record {
       account = one.2 ∙ ap (λ want. account_left want before) same ∙ sym two.2;
-      out = one_response at _ x y one.3 (subst (λ want. IsResponseOut at (told_result request want.answer) y) (sym same) two.3);
+      out = one_response at _ x y one.3 (subst (λ want. IsResponseOut at (response_to_result request want.answer) y) (sym same) two.3);
     }
 
 one_comes : (s : Setup) (p : Happening) (before a b : Account) (x y : Out) → Comes s p before a x → Comes s p before b y → IsSame a b x y

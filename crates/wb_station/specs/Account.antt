@@ -17,7 +17,7 @@ use Rattle.wb_station.specs.declared.fault.HttpFault.{HttpFault}
 use Rattle.wb_station.specs.declared.fault.HttpFault.TheVariants.{Memory}
 use Rattle.wb_station.specs.Happening.{Happening, reading, byte, hang_up, office}
 use Rattle.wb_station.specs.HttpJudgement.{IsJudged}
-use Rattle.wb_station.specs.Response.{IsDateOf, ResponseContent, response_text, told_fault, told_result}
+use Rattle.wb_station.specs.Response.{IsDateOf, ResponseContent, response_text, response_to_fault, response_to_result}
 
 -- the events of the terminal, the newest first, and the two lists of the store
 pub record Account : Type 0 where
@@ -59,20 +59,20 @@ account_left want a =
 
 -- the response at a moment
 abbrev pub IsResponseOut : ℕ → ResponseContent → Out → Type 0
-IsResponseOut at told out = (date : List ℕ) × IsDateOf at date × (out ≡ responded (response_text told date))
+IsResponseOut at content out = (date : List ℕ) × IsDateOf at date × (out ≡ responded (response_text content date))
 
 -- what comes of a request: of a fault of HTTP nothing but its response; else what the office answers, and what it leaves
 abbrev pub ComesOf : Setup → ℕ → Result Request HttpFault → Account → Account → Out → Type 0
-ComesOf s at (Err fault) before after out = (after ≡ before) × IsResponseOut at (told_fault fault) out
+ComesOf s at (Err fault) before after out = (after ≡ before) × IsResponseOut at (response_to_fault fault) out
 ComesOf s at (Ok request) before after out =
-    (want : Wanted) × IsWanted request (situation_at s at before) want × (after ≡ account_left want before) × IsResponseOut at (told_result request want.answer) out
+    (want : Wanted) × IsWanted request (situation_at s at before) want × (after ≡ account_left want before) × IsResponseOut at (response_to_result request want.answer) out
 
 -- what comes of a happening: the account after it, and what is put out; a request that counts as never made is answered 503
 abbrev pub Comes : Setup → Happening → Account → Account → Out → Type 0
 Comes s (reading r) before after out = (after ≡ hears (terminal.reading r) before) × (out ≡ replied (replies s (terminal.reading r ∷ before.terminal)))
 Comes s (byte b) before after out = (after ≡ hears (terminal.byte b) before) × (out ≡ replied (replies s (terminal.byte b ∷ before.terminal)))
 Comes s hang_up before after out = (after ≡ hears terminal.hang_up before) × (out ≡ nothing)
-Comes s (office at bytes true) before after out = (after ≡ before) × IsResponseOut at (told_fault Memory) out
+Comes s (office at bytes true) before after out = (after ≡ before) × IsResponseOut at (response_to_fault Memory) out
 Comes s (office at bytes false) before after out = (r : Result Request HttpFault) × IsJudged bytes r × ComesOf s at r before after out
 
 -- the account of a history that began with this one

@@ -52,7 +52,7 @@ HasCourse = (s : Setup) (opening : Account) (h : List Happening) (a : Account) �
 -- ---- an entry that was added or repeated
 
 -- in a situation of this account the request is answered with the entry, which it adds or repeats, and this is wanted of it
-pub record Adds (s : Setup) (before : Account) (request : Request) (want : Wanted) (e : EntryParts) : Type 0 where
+pub record AddsEntry (s : Setup) (before : Account) (request : Request) (want : Wanted) (e : EntryParts) : Type 0 where
   pub lists : AreLists before.entries before.spent
   pub at : ℕ
   pub is : IsWanted request (situation_at s at before) want
@@ -61,12 +61,12 @@ pub record Adds (s : Setup) (before : Account) (request : Request) (want : Wante
 -- it is asked again after whatever came: its entry is stored, and the answer and the ticket of its number are those that it had at first; or
 -- it was purged, and it is refused as gone
 abbrev pub SameAgain : Type 0
-SameAgain = (s : Setup) (before : Account) (request : Request) (want : Wanted) (e : EntryParts) → Adds s before request want e
+SameAgain = (s : Setup) (before : Account) (request : Request) (want : Wanted) (e : EntryParts) → AddsEntry s before request want e
     → (later : List Happening) (c : Account) → IsAccount s (account_left want before) later c
     → (at : ℕ) (again : Wanted) → IsWanted request (situation_at s at c) again → IsKeptEntry (journal_of c) e want.answer again.answer ⊎ IsGone (journal_of c) e again.answer
 
 -- after whatever came it is stored, or its key is spent
 abbrev pub KeptForGood : Type 0
-KeptForGood = (s : Setup) (before : Account) (request : Request) (want : Wanted) (e : EntryParts) → Adds s before request want e
+KeptForGood = (s : Setup) (before : Account) (request : Request) (want : Wanted) (e : EntryParts) → AddsEntry s before request want e
     → (later : List Happening) (c : Account) → IsAccount s (account_left want before) later c
     → (entry_by_key c.entries e.key ≡ Some e) ⊎ (is_spent c.spent e.key ≡ true)

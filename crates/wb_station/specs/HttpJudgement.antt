@@ -11,7 +11,7 @@ use Rattle.wb_station.specs.declared.routes.Route.{Route}
 use Rattle.wb_station.specs.declared.routes.Route.TheVariants.{Check, Indication, JournalCsv, Purge, Ticket, TicketsCsv, Voids, Weighings}
 use Rattle.wb_station.specs.BodyLength.{are_wrong, body_of, is_encoded, length_of, lengths}
 use Rattle.wb_station.specs.Form.{IsPlain, void_in, weighing_in}
-use Rattle.wb_station.specs.RequestBytes.{IsRead, Reads, Received, is_post}
+use Rattle.wb_station.specs.RequestBytes.{IsRead, ReadsAs, Received, is_post}
 use Rattle.wb_station.specs.Routes.{method_of, method_text, path_of_target, route_of_target, same_method, ticket_number}
 
 -- ---- without a head
@@ -121,7 +121,7 @@ has_form Check = false
 -- memory is asked for a form alone, after all other faults, and only if something in it is to be decoded
 pub record MayWantMemory (bytes : List ℕ) : Type 0 where
   pub received : Received
-  pub reads : Reads bytes received
+  pub reads : ReadsAs bytes received
   pub passed : option_or (first_fault of_head received) (first_fault of_body received) ≡ None
   pub route : Route
   pub target : route_of_target received.head.target ≡ Some route

@@ -16,13 +16,13 @@ pub record IsReadable (h : RequestHead) : Type 0 where
   pub size : length (print_request h) ≤ 8192
 
 -- the bytes begin with this head, and the rest follows it
-abbrev pub Reads : List ℕ → Received → Type 0
-Reads bytes x = IsReadable x.head × (bytes ≡ print_request x.head ++ x.rest)
+abbrev pub ReadsAs : List ℕ → Received → Type 0
+ReadsAs bytes x = IsReadable x.head × (bytes ≡ print_request x.head ++ x.rest)
 
 -- what is read of bytes: a head and the rest, or nothing, where they begin with no such head
 abbrev pub IsRead : List ℕ → Option Received → Type 0
-IsRead bytes None = (x : Received) → ¬ (Reads bytes x)
-IsRead bytes (Some x) = Reads bytes x
+IsRead bytes None = (x : Received) → ¬ (ReadsAs bytes x)
+IsRead bytes (Some x) = ReadsAs bytes x
 
 -- the name and the value of each field, the value without the blanks and tabs around it
 abbrev pub fields : Received → List (List ℕ × List ℕ)

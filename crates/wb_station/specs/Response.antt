@@ -9,7 +9,7 @@ use Rattle.wb_office.specs.declared.request.Request.{Request}
 use Rattle.wb_office.specs.declared.request.Request.TheVariants as request
 use Rattle.wb_office.specs.Answer.{Content, csv_content, damaged_content, purged_content, slip_content, sound_content, text_content, ticket_content}
 use Rattle.wb_office.specs.RefusalText as refusal_text
-use Rattle.wb_office.specs.Serves.{contents_of}
+use Rattle.wb_office.specs.Serves.{content_or_refusal}
 use Rattle.wb_station.specs.declared.fault.HttpFault.{HttpFault}
 use Rattle.wb_station.specs.declared.fault.HttpFault.TheVariants.{BadField, HeadTooLarge, Malformed, Memory, NoLength, NoRoute, TooLarge, WrongMethod}
 use Rattle.wb_station.specs.declared.fault.Method.{Method}
@@ -104,19 +104,19 @@ allowed_method TooLarge = None
 allowed_method BadField = None
 allowed_method Memory = None
 
-abbrev pub told_answer : ℕ → Content → ResponseContent
-told_answer status answer = record { status = status; csv = is_csv answer; allow = None; body = answer_body answer }
+abbrev pub response_to_answer : ℕ → Content → ResponseContent
+response_to_answer status answer = record { status = status; csv = is_csv answer; allow = None; body = answer_body answer }
 
-abbrev pub told_result : Request → Result Content Refusal → ResponseContent
-told_result r (Ok answer) = told_answer (status_of_answer r) answer
-told_result r (Err why) = record { status = status_of_refusal why; csv = false; allow = None; body = refused_line_text (refusal_text.refusal_number why) (refusal_text.refusal_name why) }
+abbrev pub response_to_result : Request → Result Content Refusal → ResponseContent
+response_to_result r (Ok answer) = response_to_answer (status_of_answer r) answer
+response_to_result r (Err why) = record { status = status_of_refusal why; csv = false; allow = None; body = refused_line_text (refusal_text.refusal_number why) (refusal_text.refusal_name why) }
 
-abbrev pub told_fault : HttpFault → ResponseContent
-told_fault fault = record { status = fault_text.fault_status fault; csv = false; allow = allowed_method fault; body = fault_body fault }
+abbrev pub response_to_fault : HttpFault → ResponseContent
+response_to_fault fault = record { status = fault_text.fault_status fault; csv = false; allow = allowed_method fault; body = fault_body fault }
 
 abbrev pub response_content : Outcome → ResponseContent
-response_content (Office request result) = told_result request.now (contents_of result.now)
-response_content (Fault fault) = told_fault fault
+response_content (Office request result) = response_to_result request.now (content_or_refusal result.now)
+response_content (Fault fault) = response_to_fault fault
 
 -- ---- the text of a response
 
@@ -153,7 +153,7 @@ is_export (Ok answer) = is_csv answer
 is_export (Err why) = false
 
 abbrev pub has_export : Outcome → Bool
-has_export (Office request result) = is_export (contents_of result.now)
+has_export (Office request result) = is_export (content_or_refusal result.now)
 has_export (Fault fault) = false
 
 -- the response to an outcome at a moment

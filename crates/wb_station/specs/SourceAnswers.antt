@@ -30,8 +30,8 @@ abbrev pub tells_more : List Answer → List Handed → Told → Told
 tells_more answers handed told = record { answers = answers ++ told.answers; handed = handed ++ told.handed }
 
 -- it answered and was handed these too; or it doesn't tell, or kept a fault
-abbrev pub Tells : List Answer → List Handed → Option Told → Option Told → Type 0
-Tells answers handed old new = (new ≡ None) ⊎ (new ≡ option_map (tells_more answers handed) old)
+abbrev pub SourceTells : List Answer → List Handed → Option Told → Option Told → Type 0
+SourceTells answers handed old new = (new ≡ None) ⊎ (new ≡ option_map (tells_more answers handed) old)
 
 -- ---- a request with its moment
 

@@ -25,7 +25,7 @@ use Rattle.wb_station.specs.declared.fault.HttpFault.TheVariants.{Memory}
 use Rattle.wb_station.specs.Account.{Account, Comes, IsAccount, IsResponseOut, Out, nothing, replied}
 use Rattle.wb_station.specs.Happening.{Happening, heard_of, reading, byte, hang_up, office, unmarked}
 use Rattle.wb_station.specs.HttpJudgement.{IsJudged}
-use Rattle.wb_station.specs.Response.{told_fault, told_result}
+use Rattle.wb_station.specs.Response.{response_to_fault, response_to_result}
 use Rattle.wb_station.specs.Unmade.{MayBeUnmade}
 
 -- ---- a terminal alone
@@ -48,17 +48,17 @@ IsReplied s (office at bytes unmade) h out = Unit {0}
 -- what a request of these bytes is answered that asks no store: a fault of HTTP, the ticket of the number 0, and the indication of what the
 -- terminal heard
 pub record IsOutright (s : Setup) (at : ℕ) (bytes : List ℕ) (h : List Happening) (out : Out) : Type 0 where
-  pub fault : (fault : HttpFault) → IsJudged bytes (Err fault) → IsResponseOut at (told_fault fault) out
-  pub no_ticket : IsJudged bytes (Ok (Ticket 0)) → IsResponseOut at (told_result (Ticket 0) (Err NoTicket)) out
+  pub fault : (fault : HttpFault) → IsJudged bytes (Err fault) → IsResponseOut at (response_to_fault fault) out
+  pub no_ticket : IsJudged bytes (Ok (Ticket 0)) → IsResponseOut at (response_to_result (Ticket 0) (Err NoTicket)) out
   pub indication : IsJudged bytes (Ok Indication) → (events : List TerminalEvent) × (heard events ≡ heard_of h)
-      × IsResponseOut at (told_result Indication (Ok (text_content (text_of_indication s (indicated s (moments s (calls s events))))))) out
+      × IsResponseOut at (response_to_result Indication (Ok (text_content (text_of_indication s (indicated s (moments s (calls s events))))))) out
 
 -- and a request that counts as never made is answered 503
 abbrev pub IsAnsweredOutright : Setup → Happening → List Happening → Out → Type 0
 IsAnsweredOutright s (reading r) h out = Unit {0}
 IsAnsweredOutright s (byte b) h out = Unit {0}
 IsAnsweredOutright s hang_up h out = Unit {0}
-IsAnsweredOutright s (office at bytes true) h out = IsResponseOut at (told_fault Memory) out
+IsAnsweredOutright s (office at bytes true) h out = IsResponseOut at (response_to_fault Memory) out
 IsAnsweredOutright s (office at bytes false) h out = IsOutright s at bytes h out
 
 -- ---- the store

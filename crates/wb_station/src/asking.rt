@@ -1,9 +1,9 @@
-//! A request to the office: judged, answered, and the response to it.
+//! What follows once a request was judged: the office answers it, or its fault is reported, and the response is left in the room.
 ghost use Rattle.std.specs.Prelude.{Bool, List, Ok, ℕ};
 ghost use Rattle.wb_station.specs.Account.{IsResponseOut, responded};
 ghost use Rattle.wb_station.specs.Happening.{office as office_happening};
 ghost use Rattle.wb_station.specs.HttpJudgement.{IsJudged};
-ghost use Rattle.wb_station.specs.Response.{told_fault};
+ghost use Rattle.wb_station.specs.Response.{response_to_fault};
 ghost use Rattle.wb_station.specs.Stands.{Took};
 ghost use Rattle.wb_station.specs.UnlessMemoryRefused.{WasJudged};
 
@@ -64,7 +64,7 @@ fn answer<W: Window, D: Alter>(
 
 /// Leaves the response to a fault in the room.
 fn put_fault(room: &mut ResponseRoom, moment: &Moment, fault: HttpFault)
-    ensures { IsResponseOut moment.now (told_fault fault) (responded room.new) }
+    ensures { IsResponseOut moment.now (response_to_fault fault) (responded room.new) }
 {
     // it fits into the room
     let _ = response_bytes(moment.copied(), Outcome::Fault(fault), room);

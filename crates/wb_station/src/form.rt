@@ -1,9 +1,9 @@
 //! What a form asks.
 ghost use Rattle.form_urlencoded.specs.Form.{IsPlainText};
 ghost use Rattle.std.specs.Prelude.{◌≡◌, IfOk, IsErrOf, IsOk, bytes_eq, ok_or};
-ghost use Rattle.wb_station.specs.helpers.FoundBytes.{as_bytes, as_text};
-ghost use Rattle.wb_station.specs.Form.{IsPlain, decoded_text, encoded_in, key_in, key_of_text, kind_in, kind_of_text, plate_in, plate_of_text, value_in, void_in, weighing_in};
+ghost use Rattle.wb_station.specs.Form.{IsPlain, decoded_text, encoded_in, key_in, kind_in, kind_of_text, plate_in, value_in, void_in, weighing_in};
 ghost use Rattle.wb_station.specs.UnlessMemoryRefused.{IsOf};
+ghost use Rattle.wb_station.specs.helpers.FoundBytes.{as_bytes, as_text};
 
 use crate::fault::HttpFault;
 use form_urlencoded::{decode, raw_pairs};

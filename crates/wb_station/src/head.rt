@@ -1,10 +1,10 @@
 //! The head of a request, and what follows it.
 ghost use Rattle.httparse.specs.Grammar.{ReadsRequest, RequestHead};
 ghost use Rattle.httparse.specs.Spans.{IsHeaderWithin, IsRequestAt, IsRequestWithin};
-ghost use Rattle.std.specs.Prelude.{◌≡◌, ◌≤◌, ℕ, All, IfErr, IfNone, IfOk, IfSome, List, None, drop, length, take};
+ghost use Rattle.std.specs.Prelude.{◌≡◌, ◌≤◌, ℕ, All, IfErr, IfNone, IfOk, IfSome, List, None, length, take};
 ghost use Rattle.wb_station.specs.HttpJudgement.{fault_without_head};
-ghost use Rattle.wb_station.specs.helpers.HeadPlaces.{IsHeadOf, IsReadAt};
 ghost use Rattle.wb_station.specs.RequestBytes.{IsRead, Received};
+ghost use Rattle.wb_station.specs.helpers.HeadPlaces.{IsHeadOf, IsReadAt};
 
 use crate::fault::HttpFault;
 use httparse::Status;

@@ -2,10 +2,11 @@
 //!
 //! Readings, bytes of the terminal, hang-ups and requests come in one list. `specs/Account` reads off a history what came to the
 //! terminal, the entries and the spent keys, and what is put out at each event, by the definitions of the terminal and of the
-//! office; a request that is answered 503 counts as never made. `Station::turn` and `run` meet it for every history.
+//! office; a request that is answered 503 counts as never made. `Station::turn`, `read`, `answer` and `run` meet it for every history.
 //!
 //! The bytes of a request are judged in the order of `specs/HttpJudgement`, and an answer, a refusal or a fault is put into the form of
-//! `specs/Response`.
+//! `specs/Response`. Whoever reads requests from a stream judges them as their bytes come (`Judged`). `Sources` is what a service takes events
+//! from, as a trait, and `ListSources` such sources in memory.
 #![tactic(auto)]
 
 mod asking;

@@ -1,8 +1,8 @@
 //! Sources in memory.
 ghost use Rattle.std.specs.Prelude.{◌≡◌, ◌∷◌, [], false, length, min, take};
-ghost use Rattle.wb_station.specs.SourcesInMemory.{answer_of, handed_of, told_of};
 ghost use Rattle.wb_sources.specs.Converted.{IsConverted};
-ghost use Rattle.wb_station.specs.SourceAnswers.{Tells, timed};
+ghost use Rattle.wb_station.specs.SourceAnswers.{SourceTells, timed};
+ghost use Rattle.wb_station.specs.SourcesInMemory.{answer_of, handed_of, told_of};
 
 use crate::sources::Sources;
 use std::alloc::Global;
@@ -117,7 +117,7 @@ impl ListSources {
 
     /// Keeps what a call answered.
     fn keep_answer(&mut self, answer: Answered)
-        ensures { Tells (answer_of answer ∷ []) []
+        ensures { SourceTells (answer_of answer ∷ []) []
             (told_of self.old.has_fault self.old.answered.items self.old.handed.items)
             (told_of self.new.has_fault self.new.answered.items self.new.handed.items) }
     {
@@ -129,7 +129,7 @@ impl ListSources {
 
     /// Keeps what was handed in.
     fn keep_handed(&mut self, handed: HandedIn)
-        ensures { Tells [] (handed_of handed ∷ [])
+        ensures { SourceTells [] (handed_of handed ∷ [])
             (told_of self.old.has_fault self.old.answered.items self.old.handed.items)
             (told_of self.new.has_fault self.new.answered.items self.new.handed.items) }
     {

@@ -5,8 +5,8 @@ ghost use Rattle.wb_office.specs.declared.request.Request.{Request as Asked};
 ghost use Rattle.wb_station.specs.Form.{IsPlain};
 ghost use Rattle.wb_station.specs.HttpJudgement.{IsJudged, MayWantMemory, asked_by, has_form};
 ghost use Rattle.wb_station.specs.UnlessMemoryRefused.{IsOf};
-ghost use Rattle.wb_station.specs.helpers.AskedByHead.{IsDecoded, IsFormToDecode, answered, answered_by, sought_in};
 ghost use Rattle.wb_station.specs.declared.fault.HttpFault.{HttpFault as Fault};
+ghost use Rattle.wb_station.specs.helpers.AskedByHead.{IsDecoded, IsFormToDecode, answered, answered_by, sought_in};
 
 use crate::body_length::said_length;
 use crate::fault::{HttpFault, Method};

@@ -1,8 +1,8 @@
 //! The response to an outcome.
 ghost use Rattle.std.specs.Prelude.{◌≡◌, ◌≤◌, IsOk, OnErr, OnOk, [], false, length, vec_capacity};
-ghost use Rattle.wb_office.specs.Serves.{content_of, contents_of};
+ghost use Rattle.wb_office.specs.Serves.{content_of, content_or_refusal};
+ghost use Rattle.wb_station.specs.Response.{IsDateOf, IsResponse, has_export, is_csv, is_export, phrase_of_status, response_content, response_text, status_of_answer, status_of_refusal, response_to_answer, response_to_result};
 ghost use Rattle.wb_station.specs.helpers.ToldByParts.{told_by};
-ghost use Rattle.wb_station.specs.Response.{IsDateOf, IsResponse, has_export, is_csv, is_export, phrase_of_status, response_content, response_text, status_of_answer, status_of_refusal, told_answer, told_result};
 
 use crate::body_lines::{Line, count_line, line_of_fault, line_of_refusal};
 use crate::outcome::Outcome;
@@ -102,7 +102,7 @@ fn put_answer(
     requires empty { room.old.items ≡ [] }
     requires room { 2048 ≤ vec_capacity room.old }
     ensures items { OnOk result (room.new.items
-        ≡ response_text (told_answer status (content_of answer.now)) date.now) }
+        ≡ response_text (response_to_answer status (content_of answer.now)) date.now) }
     ensures fits { is_csv (content_of answer.now) ≡ false → IsOk result }
     ensures capacity { vec_capacity room.old ≤ vec_capacity room.new }
 {
@@ -184,8 +184,8 @@ fn put_result(
     requires empty { room.old.items ≡ [] }
     requires room { 2048 ≤ vec_capacity room.old }
     ensures items { OnOk result (room.new.items
-        ≡ response_text (told_result request.now (contents_of answered.now)) date.now) }
-    ensures fits { is_export (contents_of answered.now) ≡ false → IsOk result }
+        ≡ response_text (response_to_result request.now (content_or_refusal answered.now)) date.now) }
+    ensures fits { is_export (content_or_refusal answered.now) ≡ false → IsOk result }
     ensures capacity { vec_capacity room.old ≤ vec_capacity room.new }
 {
     match answered {

@@ -1,7 +1,7 @@
 //! A response, put into a room line by line.
 ghost use Rattle.std.specs.Prelude.{◌≡◌, ◌≤◌, ◌<◌, ◌+◌, ◌^◌, ◌++◌, IsOk, OnOk, decimal, length, vec_capacity, vec_len};
-ghost use Rattle.wb_station.specs.helpers.ToldByParts.{told_by};
 ghost use Rattle.wb_station.specs.Response.{allow_line_text, length_lines, media_type_text, phrase_of_status, response_text, status_line, type_lines};
+ghost use Rattle.wb_station.specs.helpers.ToldByParts.{told_by};
 
 use crate::fault::Method;
 use http::StatusCode;

@@ -1,9 +1,9 @@
 //! The routes of the office.
-ghost use Rattle.std.specs.Prelude.{◌≡◌, [], IfErr, IfOk, IsUtf8, OnOk};
 ghost use Rattle.matchit.specs.declared.error.InsertError.TheVariants.{OutOfMemory};
+ghost use Rattle.std.specs.Prelude.{◌≡◌, [], IfErr, IfOk, IsUtf8, OnOk};
 ghost use Rattle.wb_station.specs.Router.{table};
-ghost use Rattle.wb_text.specs.Digits.{numeral_value};
 ghost use Rattle.wb_station.specs.Routes.{method_of, number_or_zero, path_of_target, route_of_path, route_of_target, ticket_number};
+ghost use Rattle.wb_text.specs.Digits.{numeral_value};
 
 use crate::fault::Method;
 use matchit::{InsertError, Router};

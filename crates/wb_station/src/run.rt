@@ -2,8 +2,8 @@
 ghost use Rattle.std.specs.Prelude.{◌≡◌, ◌≢◌, ◌<◌, ◌≤◌, ◌+◌, ◌-◌, ◌^◌, ◌++◌, [], All, IfErr, MatchResult, OnOk, length, take};
 ghost use Rattle.wb_station.specs.Account.{bytes_of_out, bytes_of_replies};
 ghost use Rattle.wb_station.specs.Happening.{IsTaken};
-ghost use Rattle.wb_station.specs.RunOfEvents.{Stopped, WentOn, at_place};
 ghost use Rattle.wb_station.specs.OutputShows.{out_shown};
+ghost use Rattle.wb_station.specs.RunOfEvents.{Stopped, WentOn, at_place};
 
 use crate::event::{Event, Output};
 use crate::outputs::{Outputs, Refused};

@@ -1,7 +1,7 @@
 //! Where a service's events come from, and where what is put out goes.
 ghost use Rattle.std.specs.Prelude.{[], ◌∷◌, ◌≤◌, IfSome, Option, option_map, take};
 ghost use Rattle.wb_sources.specs.Converted.{IsConverted};
-ghost use Rattle.wb_station.specs.SourceAnswers.{IsInRoom, Told, Tells, asked, converted, exchanged, timed, to_office, to_terminal, took};
+ghost use Rattle.wb_station.specs.SourceAnswers.{IsInRoom, Told, SourceTells, asked, converted, exchanged, timed, to_office, to_terminal, took};
 
 use crate::judged::Judged;
 use wb_journal::Moment;
@@ -31,33 +31,33 @@ pub trait Sources {
     /// The converter's next line, its end or its fault.
     fn converter(&mut self) -> Converter
         ensures range { IsConverted result }
-        ensures told { Tells (converted result ∷ []) [] (told self.old) (told self.new) };
+        ensures told { SourceTells (converted result ∷ []) [] (told self.old) (told self.new) };
 
     /// The bytes that the terminal's connection has ready.
     fn terminal(&mut self, room: &mut [u8; TERMINAL_ROOM]) -> Taken
         ensures count { result.count ≤ 256 }
-        ensures told { Tells (took (take result.count room.new) result.hung_up ∷ []) []
+        ensures told { SourceTells (took (take result.count room.new) result.hung_up ∷ []) []
             (told self.old) (told self.new) };
 
     /// Takes the bytes of the terminal's replies at an event. A connection that doesn't take them is hung up.
     fn reply(&mut self, bytes: &[u8])
-        ensures told { Tells [] (to_terminal bytes.now ∷ []) (told self.old) (told self.new) };
+        ensures told { SourceTells [] (to_terminal bytes.now ∷ []) (told self.old) (told self.new) };
 
     /// How many bytes in the room are a request to the office, if there is one.
     fn office(&mut self, room: &mut [u8; REQUEST_ROOM]) -> Option<usize>
         ensures count { IfSome result (λ n. n ≤ 9216) }
-        ensures told { Tells (asked (option_map (λ n. take n room.new) result) ∷ []) []
+        ensures told { SourceTells (asked (option_map (λ n. take n room.new) result) ∷ []) []
             (told self.old) (told self.new) };
 
     /// The moment by the clock, if it is one of the moments.
     fn moment(&mut self) -> Option<Moment>
-        ensures told { Tells (timed result ∷ []) [] (told self.old) (told self.new) };
+        ensures told { SourceTells (timed result ∷ []) [] (told self.old) (told self.new) };
 
     /// A request to the office with its moment, if there is one: what `office` and then `moment` answer. Sources that judge
     /// their requests hand them out judged.
     fn exchange(&mut self, room: &mut [u8; REQUEST_ROOM]) -> Option<Exchange>
         ensures count { IfSome result (λ e. IsInRoom e.asked) }
-        ensures told { Tells (exchanged result room.new) [] (told self.old) (told self.new) }
+        ensures told { SourceTells (exchanged result room.new) [] (told self.old) (told self.new) }
     {
         let count = self.office(room)?;
         Some(Exchange {
@@ -68,5 +68,5 @@ pub trait Sources {
 
     /// Takes the response to the request that was handed out last.
     fn respond(&mut self, bytes: &[u8])
-        ensures told { Tells [] (to_office bytes.now ∷ []) (told self.old) (told self.new) };
+        ensures told { SourceTells [] (to_office bytes.now ∷ []) (told self.old) (told self.new) };
 }

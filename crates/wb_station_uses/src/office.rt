@@ -5,7 +5,7 @@
 ghost use Rattle.std.specs.Prelude.{◌≡◌, ◌∷◌, false, List};
 ghost use Rattle.wb_journal.specs.declared.entry.EntryParts.{EntryParts};
 ghost use Rattle.wb_office.specs.Answer.{answer, entries_left, spent_left};
-ghost use Rattle.wb_office.specs.Serves.{contents_of, is_store_refusal};
+ghost use Rattle.wb_office.specs.Serves.{content_or_refusal, is_store_refusal};
 ghost use Rattle.wb_office.specs.Situation.{Situation};
 ghost use Rattle.wb_scale.specs.Call.{Call, read};
 ghost use Rattle.wb_scale.specs.History.{moments};
@@ -44,7 +44,7 @@ pub fn weigh_first<W: Window, D: Alter>(
           spent = spent;
           at = at;
         } in
-        (contents_of result ≡ answer w 0 asked)
+        (content_or_refusal result ≡ answer w 0 asked)
         × StoreStands D.Store office.new (entries_left w 0 asked) (spent_left w 0 asked) }
 {
     scale.read(reading);

@@ -8,7 +8,7 @@ use Rattle.wb_sics.specs.declared.reply.Reply.{Reply}
 use Rattle.wb_sics.specs.Event.{TerminalEvent}
 use Rattle.wb_sics.specs.Replies.{replies}
 use Rattle.wb_terminal_c.specs.Heard.{until_reply}
-use Rattle.wb_terminal_c.specs.Keeps.{Keeps}
+use Rattle.wb_terminal_c.specs.Keeps.{KeepsTerminal}
 use Rattle.wb_terminal_c.specs.Passed.{Opens}
 use Rattle.wb_terminal_c.specs.Shown.{indication_after}
 use Rattle.wb_terminal_c.specs.declared.handle.Handle.{Handle}
@@ -29,7 +29,7 @@ room_for_terminal p = room_at the_row p
 
 -- a terminal of this setup that stands after this history lies at the pointer, and is all the caller's
 abbrev pub terminal_at : Setup → List TerminalEvent → Ptr → Fml
-terminal_at s h p = fex Handle (λ x. fsep (lies_at the_row full_share p x) (fex (Keeps x s h) (λ _. ftrue)))
+terminal_at s h p = fex Handle (λ x. fsep (lies_at the_row full_share p x) (fex (KeepsTerminal x s h) (λ _. ftrue)))
 
 -- the answer to a call: 0, or 10 at null
 abbrev pub answer_at : Ptr → ℕ

@@ -1,10 +1,10 @@
 //! A terminal with the replies at its newest event: what lies in the caller's memory.
-ghost use Rattle.std.specs.Prelude.{◌≡◌, ◌≤◌, ◌∷◌, [], List, length, slice_get, take};
+ghost use Rattle.std.specs.Prelude.{◌≡◌, ◌∷◌, [], List, length, slice_get, take};
 ghost use Rattle.wb_instrument.specs.Setup.{IsSetup, Setup as InstrumentSetup};
 ghost use Rattle.wb_sics.specs.Event.{TerminalEvent, byte as byte_event, hang_up as hang_up_event, reading as reading_event};
 ghost use Rattle.wb_terminal_c.specs.Copied.{copied};
 ghost use Rattle.wb_terminal_c.specs.Heard.{heard_after, until_reply};
-ghost use Rattle.wb_terminal_c.specs.Keeps.{Keeps};
+ghost use Rattle.wb_terminal_c.specs.Keeps.{KeepsTerminal};
 ghost use Rattle.wb_terminal_c.specs.Passed.{Opens, setup_passed};
 ghost use Rattle.wb_terminal_c.specs.Shown.{indication_after};
 ghost use Rattle.wb_window.specs.Reading.{reading_of};
@@ -45,7 +45,7 @@ pub(crate) fn fault(setup: &Setup) -> u32
 /// A terminal of a setup, after nothing.
 pub(crate) fn opened(setup: &Setup) -> Handle
     requires { IsSetup (setup_passed setup.now) }
-    ensures { Keeps result (setup_passed setup.now) [] }
+    ensures { KeepsTerminal result (setup_passed setup.now) [] }
 {
     match instrument(setup) {
         Ok(instrument) => of_instrument(instrument),
@@ -54,7 +54,7 @@ pub(crate) fn opened(setup: &Setup) -> Handle
 }
 
 fn of_instrument(instrument: Instrument) -> Handle
-    ensures { Keeps result instrument [] }
+    ensures { KeepsTerminal result instrument [] }
 {
     let window = PlacedWindow::new(instrument.window() as usize, instrument.band());
     Handle {
@@ -65,8 +65,8 @@ fn of_instrument(instrument: Instrument) -> Handle
 
 /// Takes a reading in tenths of e; any load out of the converter's range is a lost reading.
 pub(crate) fn read(handle: &mut Handle, tenths: i64) -> u32
-    ensures keeps { (s : InstrumentSetup) (h : List TerminalEvent) → Keeps handle.old s h
-        → Keeps handle.new s (reading_event (reading_of tenths) ∷ h) }
+    ensures keeps { (s : InstrumentSetup) (h : List TerminalEvent) → KeepsTerminal handle.old s h
+        → KeepsTerminal handle.new s (reading_event (reading_of tenths) ∷ h) }
     ensures done { result ≡ 0 }
 {
     handle
@@ -77,8 +77,8 @@ pub(crate) fn read(handle: &mut Handle, tenths: i64) -> u32
 
 /// Takes a byte of the stream.
 pub(crate) fn hear(handle: &mut Handle, byte: u8) -> u32
-    ensures keeps { (s : InstrumentSetup) (h : List TerminalEvent) → Keeps handle.old s h
-        → Keeps handle.new s (byte_event byte ∷ h) }
+    ensures keeps { (s : InstrumentSetup) (h : List TerminalEvent) → KeepsTerminal handle.old s h
+        → KeepsTerminal handle.new s (byte_event byte ∷ h) }
     ensures done { result ≡ 0 }
 {
     handle.terminal.byte_into(byte, &mut handle.replies);
@@ -87,8 +87,8 @@ pub(crate) fn hear(handle: &mut Handle, byte: u8) -> u32
 
 /// Takes bytes of the stream, up to the first at which there is a reply, and tells how many it took.
 pub(crate) fn hear_all(handle: &mut Handle, bytes: &[u8]) -> usize
-    ensures { (s : InstrumentSetup) (h : List TerminalEvent) → Keeps handle.old s h
-        → Keeps handle.new s (heard_after (take result bytes.now) h)
+    ensures { (s : InstrumentSetup) (h : List TerminalEvent) → KeepsTerminal handle.old s h
+        → KeepsTerminal handle.new s (heard_after (take result bytes.now) h)
         × (result ≡ until_reply s h bytes.now) }
 {
     for i in 0..bytes.len() {
@@ -102,8 +102,8 @@ pub(crate) fn hear_all(handle: &mut Handle, bytes: &[u8]) -> usize
 
 /// The connection ended.
 pub(crate) fn hang_up(handle: &mut Handle) -> u32
-    ensures keeps { (s : InstrumentSetup) (h : List TerminalEvent) → Keeps handle.old s h
-        → Keeps handle.new s (hang_up_event ∷ h) }
+    ensures keeps { (s : InstrumentSetup) (h : List TerminalEvent) → KeepsTerminal handle.old s h
+        → KeepsTerminal handle.new s (hang_up_event ∷ h) }
     ensures done { result ≡ 0 }
 {
     handle.terminal.hangup();
@@ -141,7 +141,7 @@ pub(crate) fn copy_reply(handle: &mut Handle, place: usize, buffer: &mut [u8]) -
 
 /// Tells what is indicated.
 pub(crate) fn indicate(handle: &mut Handle, shown: &mut Indication) -> u32
-    ensures shown { (s : InstrumentSetup) (h : List TerminalEvent) → Keeps handle.old s h
+    ensures shown { (s : InstrumentSetup) (h : List TerminalEvent) → KeepsTerminal handle.old s h
         → shown.new ≡ indication_after s h }
     ensures unchanged { handle.new ≡ handle.old }
     ensures done { result ≡ 0 }

@@ -1,5 +1,5 @@
 //! A window in place: making it takes no memory either.
-ghost use Rattle.std.specs.Prelude.{◌≡◌, ◌≤◌, [], length};
+ghost use Rattle.std.specs.Prelude.{◌≡◌, ◌≤◌, []};
 ghost use Rattle.wb_window.specs.Stability.{are_near};
 
 use std::marker::Model;

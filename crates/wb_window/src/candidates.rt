@@ -36,9 +36,9 @@ pub(crate) struct Candidates {
 }
 
 impl Candidates {
-    ghost use Rattle.wb_window.specs.helpers.Candidates.{beyond_last, queue_of};
     ghost use Rattle.wb_window.specs.declared.reading.Reading.{Reading};
     ghost use Rattle.wb_window.specs.declared.reading.Reading.TheVariants.{Load};
+    ghost use Rattle.wb_window.specs.helpers.Candidates.{beyond_last, queue_of};
 
     /// A queue of a window of so many readings, with none in it yet.
     pub(crate) fn new(alloc: Global, extreme: Extreme, size: usize) -> Result<Self, AllocError>

@@ -5,7 +5,7 @@ mod service;
 mod sources;
 
 use crate::service::serve_bridge;
-use crate::sources::SOURCES;
+use crate::sources::{KIT, SOURCES};
 use clap::error::ErrorKind;
 use sqlite::Alter;
 use std::io;
@@ -43,7 +43,7 @@ fn main(rt: HostRuntime) -> io::Result<ExitCode> {
 fn tell(rt: &HostRuntime, told: &clap::Error) -> io::Result<ExitCode> {
     told.print(rt)?;
     if told.kind() == ErrorKind::DisplayVersion {
-        println!(rt; "sources {SOURCES}")?;
+        println!(rt; "proved by {KIT}\nsources {SOURCES}")?;
     }
     Ok(ExitCode::from(told.exit_code() as u8))
 }

@@ -13,7 +13,7 @@ use crate::files::{bytes_of, newest_of};
 use crate::making::{Found, finish, keep_point, sample};
 use crate::serving::serve;
 use crate::showing::{plot, show};
-use crate::sources::SOURCES;
+use crate::sources::{KIT, SOURCES};
 use clap::error::ErrorKind;
 use std::io;
 use std::process::ExitCode;
@@ -47,7 +47,7 @@ fn main(rt: HostRuntime) -> io::Result<ExitCode> {
 fn tell(rt: &HostRuntime, told: &clap::Error) -> io::Result<ExitCode> {
     told.print(rt)?;
     if told.kind() == ErrorKind::DisplayVersion {
-        println!(rt; "sources {SOURCES}")?;
+        println!(rt; "proved by {KIT}\nsources {SOURCES}")?;
     }
     Ok(ExitCode::from(told.exit_code() as u8))
 }

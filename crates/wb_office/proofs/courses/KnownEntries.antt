@@ -1,6 +1,6 @@
 -- An entry that was stored once, after whatever was asked: it is stored still, or was purged.
 use Rattle.std.proofs.Common.{◌≡◌, ◌∙◌, sym, ap, subst, ℕ, ◌+◌, ◌<◌, ◌≤◌, ◌==◌, max, ◌⊎◌, Bool, true, false, inl, inr, not, ◌&&◌, ◌||◌, nat_le, if◌then◌else◌, List, [], ◌∷◌, ◌++◌, map, Option, Some, None, refl, arith, true≢false}
-use Rattle.wb_office.proofs.Common.{nat_tests, clamps, find-append, list_any-append, bytes_eq-Decides, list_any, is_none, bytes_eq, EntryParts, is_closing_kind, day_of, open_entry, partner_in, kept, IsRising, Among, law_of_closing, AreLists, HaveOwnKeys, entry_by_key, greatest, greatest_spent, has_key, is_spent, number_after, SpentKey, left_rises, next_stays, Request, IsBoundAt, Outcome, outcome_of, below, entries_after, entries_left, spent_by_outcome, spent_by, spent_left, Asking, Situation, AreBounds, Journal, RequestTurn, added, additions, after, left, situation_of_turn, with_one, accepted, of_new, verdict, HasBound}
+use Rattle.wb_office.proofs.Common.{nat_tests, clamps, find-append, list_any-append, bytes_eq-Decides, list_any, is_none, bytes_eq, EntryParts, is_closing_kind, day_of, open_entry, partner_in, kept, IsRising, Among, law_of_closing, AreLists, HaveOwnKeys, entry_by_key, greatest, greatest_spent, has_key, is_spent, number_after, SpentKey, left_rises, next_stays, Request, IsBoundAt, Outcome, outcome_of, entries_below, entries_after, entries_left, spent_by_outcome, spent_by, spent_left, Asking, Situation, AreBounds, Journal, RequestTurn, added, additions, after, left, situation_of_turn, with_one, accepted, of_new, verdict, HasBound}
 use Rattle.wb_office.proofs.ConditionsInOrder.{none_holds}
 use Rattle.wb_office.proofs.FoundEntries.{find_any, find_none, found_unspent, is_some_same}
 use Rattle.wb_office.proofs.courses.AcceptedEntries.{Comes, IsNew, adding, and_true, asking_for, comes, is_added, is_new, purging, stays}
@@ -67,7 +67,7 @@ known_more a e f p is known =
     go (inr past) above other = inr (past_more a.now.entries a.now.spent e f past other)
 
 known_kept : (w : Situation) (b : ℕ) (e : EntryParts) (p : Option EntryParts) → IsBoundAt w.setup w.entries w.spent w.at b → IsKnown w.entries w.spent e p
-    → IsKnown (kept b w.entries) (w.spent ++ map spent_by (below b w.entries)) e p
+    → IsKnown (kept b w.entries) (w.spent ++ map spent_by (entries_below b w.entries)) e p
 known_kept w b e p bound known = record {
   rising = left_rises (λ x. nat_le b x.number) w.entries known.rising;
   below_next = rw (next_stays b w.entries w.spent) known.below_next;
@@ -75,11 +75,11 @@ known_kept w b e p bound known = record {
 }
   where
     go : IsStored w.entries w.spent e p ⊎ IsPast w.entries w.spent e → (c : Bool) → nat_le b e.number ≡ c
-        → IsStored (kept b w.entries) (w.spent ++ map spent_by (below b w.entries)) e p ⊎ IsPast (kept b w.entries) (w.spent ++ map spent_by (below b w.entries)) e
+        → IsStored (kept b w.entries) (w.spent ++ map spent_by (entries_below b w.entries)) e p ⊎ IsPast (kept b w.entries) (w.spent ++ map spent_by (entries_below b w.entries)) e
     go (inl stored) true t =
         inl (stored_kept w.entries w.spent e p (number_after w.entries w.spent) (day_of w.at) w.setup.retention_days b known.rising bound stored (grind (arith, nat_tests)))
     go (inl stored) false t = inr (past_kept w.entries w.spent e p b stored (grind (arith, nat_tests)))
-    go (inr past) c t = inr (past_stays w.entries w.spent (map spent_by (below b w.entries)) e b past)
+    go (inr past) c t = inr (past_stays w.entries w.spent (map spent_by (entries_below b w.entries)) e b past)
 
 -- a request leaves it stored, or purged
 pub known_left : (w : Situation) (b : ℕ) (request : Request) (e : EntryParts) (p : Option EntryParts) → HasBound request w b → IsKnown w.entries w.spent e p

@@ -1,6 +1,6 @@
 -- An entry that is stored, after other entries were added and after purges.
 use Rattle.std.proofs.Common.{◌≡◌, ◌∙◌, sym, ap, ap₂, ℕ, ◌≤◌, ◌<◌, ◌==◌, Bool, true, false, cond, inl, inr, not, ◌&&◌, ◌||◌, nat_le, nat_lt, List, [], ◌∷◌, ◌++◌, map, Option, Some, None, refl, arith, true≢false}
-use Rattle.wb_office.proofs.Common.{nat_tests, find-append, list_any-append, bytes_eq-Decides, find, list_any, option_or, bytes_eq, EntryParts, is_closing_kind, is_first_of, is_partner, lies_between, may_pair_of, partner_in, IsPurgeBound, kept, IsRising, kept-partner, Among, find-among, entry_by_key, has_key, is_of_key, is_spent, SpentKey, below, spent_by}
+use Rattle.wb_office.proofs.Common.{nat_tests, find-append, list_any-append, bytes_eq-Decides, find, list_any, option_or, bytes_eq, EntryParts, is_closing_kind, is_first_of, is_partner, lies_between, may_pair_of, partner_in, IsPurgeBound, kept, IsRising, kept-partner, Among, find-among, entry_by_key, has_key, is_of_key, is_spent, SpentKey, entries_below, spent_by}
 use Rattle.wb_office.proofs.FoundEntries.{is_some_same}
 
 -- another entry of the same key
@@ -104,7 +104,7 @@ find_kept p b (x ∷ xs) e high found = go (nat_le b x.number) refl (p x) refl f
     go false t false u f rest = rest f
 
 -- no key of an entry that is purged is that of one that stays alone under it
-none_below : (b : ℕ) (es : List EntryParts) (e : EntryParts) → b ≤ e.number → list_any (is_twin e) es ≡ false → list_any (is_of_key e.key) (map spent_by (below b es)) ≡ false
+none_below : (b : ℕ) (es : List EntryParts) (e : EntryParts) → b ≤ e.number → list_any (is_twin e) es ≡ false → list_any (is_of_key e.key) (map spent_by (entries_below b es)) ≡ false
 none_below b [] e high alone = refl
 none_below b (x ∷ xs) e high alone = go (nat_lt x.number b) refl (neither (is_twin e x) (list_any (is_twin e) xs) alone) (λ n. none_below b xs e high n)
   where
@@ -116,22 +116,22 @@ none_below b (x ∷ xs) e high alone = go (nat_lt x.number b) refl (neither (is_
     key_of false h = refl
 
     go : (k : Bool) → nat_lt x.number b ≡ k → (is_twin e x ≡ false) × (list_any (is_twin e) xs ≡ false)
-        → (list_any (is_twin e) xs ≡ false → list_any (is_of_key e.key) (map spent_by (below b xs)) ≡ false)
-        → list_any (is_of_key e.key) (map spent_by (cond k (x ∷ below b xs) (below b xs))) ≡ false
+        → (list_any (is_twin e) xs ≡ false → list_any (is_of_key e.key) (map spent_by (entries_below b xs)) ≡ false)
+        → list_any (is_of_key e.key) (map spent_by (cond k (x ∷ entries_below b xs) (entries_below b xs))) ≡ false
     go true t both rest = rw (key_of (bytes_eq x.key e.key) (rw (other t) at both.0)) (rest both.1)
     go false t both rest = rest both.1
 
 -- an entry from the bound on is stored still, with the same partner
 pub stored_kept : (es : List EntryParts) (ks : List SpentKey) (e : EntryParts) (p : Option EntryParts) (next day retention b : ℕ) → IsRising es → IsPurgeBound es next day retention b
-    → IsStored es ks e p → b ≤ e.number → IsStored (kept b es) (ks ++ map spent_by (below b es)) e p
+    → IsStored es ks e p → b ≤ e.number → IsStored (kept b es) (ks ++ map spent_by (entries_below b es)) e p
 stored_kept es ks e p next day retention b rising bound is high = record {
   found = find_kept (has_key e.key) b es e high is.found;
   alone = none_kept (is_twin e) b es is.alone;
-  unspent = list_any-append (is_of_key e.key) ks (map spent_by (below b es)) ∙ rw (is.unspent, none_below b es e high is.alone) refl;
+  unspent = list_any-append (is_of_key e.key) ks (map spent_by (entries_below b es)) ∙ rw (is.unspent, none_below b es e high is.alone) refl;
   paired = kept-partner es next day retention b rising bound e ((find-among (has_key e.key) es e is.found).0) high ∙ is.paired;
 }
 
-key_below : (b : ℕ) (es : List EntryParts) (e : EntryParts) → e.number < b → Among e es → list_any (is_of_key e.key) (map spent_by (below b es)) ≡ true
+key_below : (b : ℕ) (es : List EntryParts) (e : EntryParts) → e.number < b → Among e es → list_any (is_of_key e.key) (map spent_by (entries_below b es)) ≡ true
 key_below b [] e low m = absurd m
 key_below b (x ∷ xs) e low m = go (nat_lt x.number b) refl m (λ n. key_below b xs e low n)
   where
@@ -145,8 +145,8 @@ key_below b (x ∷ xs) e low m = go (nat_lt x.number b) refl m (λ n. key_below 
     here : e ≡ x → bytes_eq x.key e.key ≡ true
     here same = (bytes_eq-Decides x.key e.key).1 (ap (λ z. z.key) (sym same))
 
-    go : (k : Bool) → nat_lt x.number b ≡ k → Among e (x ∷ xs) → (Among e xs → list_any (is_of_key e.key) (map spent_by (below b xs)) ≡ true)
-        → list_any (is_of_key e.key) (map spent_by (cond k (x ∷ below b xs) (below b xs))) ≡ true
+    go : (k : Bool) → nat_lt x.number b ≡ k → Among e (x ∷ xs) → (Among e xs → list_any (is_of_key e.key) (map spent_by (entries_below b xs)) ≡ true)
+        → list_any (is_of_key e.key) (map spent_by (cond k (x ∷ entries_below b xs) (entries_below b xs))) ≡ true
     go true t (inl same) rest = rw (here same) refl
     go true t (inr n) rest = rw (rest n) (or_true (bytes_eq x.key e.key))
     go false t (inl same) rest = absurd (not_low t same)
@@ -171,9 +171,9 @@ none_left b (x ∷ xs) e low alone = go (nat_le b x.number) refl (neither (is_tw
 
 -- an entry below the bound is purged
 pub past_kept : (es : List EntryParts) (ks : List SpentKey) (e : EntryParts) (p : Option EntryParts) (b : ℕ) → IsStored es ks e p → e.number < b
-    → IsPast (kept b es) (ks ++ map spent_by (below b es)) e
+    → IsPast (kept b es) (ks ++ map spent_by (entries_below b es)) e
 past_kept es ks e p b is low = record {
-  spent = list_any-append (is_of_key e.key) ks (map spent_by (below b es)) ∙ rw (key_below b es e low ((find-among (has_key e.key) es e is.found).0)) (or_true (is_spent ks e.key));
+  spent = list_any-append (is_of_key e.key) ks (map spent_by (entries_below b es)) ∙ rw (key_below b es e low ((find-among (has_key e.key) es e is.found).0)) (or_true (is_spent ks e.key));
   absent = none_left b es e low is.alone;
 }
   where

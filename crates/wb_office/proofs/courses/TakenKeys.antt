@@ -1,6 +1,6 @@
 -- A key that is stored or spent stays so, and no entry is added under it.
 use Rattle.std.proofs.Common.{◌≡◌, ◌∙◌, sym, subst, ℕ, ◌+◌, ◌≤◌, Bool, true, false, cond, not, ◌||◌, if◌then◌else◌, List, [], ◌∷◌, ◌++◌, map, nat_le, nat_lt, ◌⊎◌, inl, inr, Some, None, refl, arith, true≢false}
-use Rattle.wb_office.proofs.Common.{nat_tests, list_any-append, sum_by-cons, bytes_eq-Decides, list_any, Contains, count_by, bytes_eq, EntryParts, kept, among-contains, AreLists, entry_by_key, has_key, is_of_key, is_spent, SpentKey, Request, Outcome, adds, below, entries_after, nothing, outcome, purges, spent_by_outcome, spent_by, Asking, Situation, AreBounds, Journal, RequestTurn, added, added_by, additions, after, left, situation_of_turn, with_one, OneEntryPerKey, is_taken, accepted, verdict}
+use Rattle.wb_office.proofs.Common.{nat_tests, list_any-append, sum_by-cons, bytes_eq-Decides, list_any, Contains, count_by, bytes_eq, EntryParts, kept, among-contains, AreLists, entry_by_key, has_key, is_of_key, is_spent, SpentKey, Request, Outcome, adds, entries_below, entries_after, nothing, outcome, purges, spent_by_outcome, spent_by, Asking, Situation, AreBounds, Journal, RequestTurn, added, added_by, additions, after, left, situation_of_turn, with_one, OneEntryPerKey, is_taken, accepted, verdict}
 use Rattle.wb_office.proofs.courses.AcceptedEntries.{Comes, added_is, adding, asking_for, comes, is_new, purging, stays}
 use Rattle.wb_office.proofs.FoundEntries.{find_none}
 use Rattle.wb_office.proofs.courses.KnownEntries.{IsLasting, added_lasts}
@@ -38,7 +38,7 @@ any_behind p xs ys h = list_any-append p xs ys ∙ or_right (list_any p xs) (lis
 
 -- an entry is kept by a purge or its key is spent
 kept_or_spent : (b : ℕ) (key : List ℕ) (es : List EntryParts) → list_any (has_key key) es ≡ true
-    → (list_any (has_key key) (kept b es) || list_any (is_of_key key) (map spent_by (below b es))) ≡ true
+    → (list_any (has_key key) (kept b es) || list_any (is_of_key key) (map spent_by (entries_below b es))) ≡ true
 kept_or_spent b key [] h = absurd (cc)
 kept_or_spent b key (e ∷ es) h = go (nat_le b e.number) (nat_lt e.number b) (turned b e.number) (bytes_eq e.key key) refl (λ r. kept_or_spent b key es r)
   where
@@ -49,12 +49,12 @@ kept_or_spent b key (e ∷ es) h = go (nat_le b e.number) (nat_lt e.number b) (t
     rest t = rw t at h
 
     go : (k s : Bool) → s ≡ not k → (a : Bool) → bytes_eq e.key key ≡ a
-        → (list_any (has_key key) es ≡ true → (list_any (has_key key) (kept b es) || list_any (is_of_key key) (map spent_by (below b es))) ≡ true)
-        → (list_any (has_key key) (cond k (e ∷ kept b es) (kept b es)) || list_any (is_of_key key) (map spent_by (cond s (e ∷ below b es) (below b es)))) ≡ true
+        → (list_any (has_key key) es ≡ true → (list_any (has_key key) (kept b es) || list_any (is_of_key key) (map spent_by (entries_below b es))) ≡ true)
+        → (list_any (has_key key) (cond k (e ∷ kept b es) (kept b es)) || list_any (is_of_key key) (map spent_by (cond s (e ∷ entries_below b es) (entries_below b es)))) ≡ true
     go true true f a t more = absurd (true≢false f)
     go true false f true t more = rw t refl
     go true false f false t more = rw t (more (rest t))
-    go false true f true t more = or_right (list_any (has_key key) (kept b es)) (bytes_eq e.key key || list_any (is_of_key key) (map spent_by (below b es))) (rw t refl)
+    go false true f true t more = or_right (list_any (has_key key) (kept b es)) (bytes_eq e.key key || list_any (is_of_key key) (map spent_by (entries_below b es))) (rw t refl)
     go false true f false t more = rw t (more (rest t))
     go false false f a t more = absurd (true≢false (sym f))
 
@@ -67,10 +67,10 @@ stays_taken w key (adds e) taken =
     (λ h. or_right (list_any (has_key key) (w.entries ++ e ∷ [])) (is_spent w.spent key) h)
 stays_taken w key (purges b) taken =
     or_either (list_any (has_key key) w.entries) (is_spent w.spent key) taken
-    (λ h. or_either (list_any (has_key key) (kept b w.entries)) (list_any (is_of_key key) (map spent_by (below b w.entries))) (kept_or_spent b key w.entries h)
+    (λ h. or_either (list_any (has_key key) (kept b w.entries)) (list_any (is_of_key key) (map spent_by (entries_below b w.entries))) (kept_or_spent b key w.entries h)
     (λ k. or_left (list_any (has_key key) (kept b w.entries)) _ k)
-    (λ k. or_right (list_any (has_key key) (kept b w.entries)) _ (any_behind (is_of_key key) w.spent (map spent_by (below b w.entries)) k)))
-    (λ h. or_right (list_any (has_key key) (kept b w.entries)) _ (any_grows (is_of_key key) w.spent (map spent_by (below b w.entries)) h))
+    (λ k. or_right (list_any (has_key key) (kept b w.entries)) _ (any_behind (is_of_key key) w.spent (map spent_by (entries_below b w.entries)) k)))
+    (λ h. or_right (list_any (has_key key) (kept b w.entries)) _ (any_grows (is_of_key key) w.spent (map spent_by (entries_below b w.entries)) h))
 
 one_of : (key : List ℕ) (e : EntryParts) (es : List EntryParts) → count_by (has_key key) (e ∷ es) ≡ cond (has_key key e) 1 0 + count_by (has_key key) es
 one_of key e es = sum_by-cons (λ x. cond (has_key key x) 1 0) e es

@@ -9,7 +9,7 @@ use Rattle.wb_store.specs.Rows.{SpentKey}
 
 module _ {D : Type 0} (g : Ghosts D) (old new : StoreView D) where
   -- the store is read: what is found is such for the lists that it holds, and it holds them still
-  pub record LooksUp {X : Type 0} (answer : Result X StoreFault) (P : List EntryParts → List SpentKey → X → Type 0) : Type 0 where
+  pub record LooksUpInStore {X : Type 0} (answer : Result X StoreFault) (P : List EntryParts → List SpentKey → X → Type 0) : Type 0 where
     pub tells : Tells g old new answer P
     pub keeps : Keeps g old new answer
     pub closes : Closes g old new answer

@@ -5,11 +5,11 @@ use Rattle.wb_office.specs.declared.answer.Answer.{Answer}
 use Rattle.wb_office.specs.declared.refusal.Refusal.{Refusal}
 use Rattle.wb_office.specs.declared.refusal.Refusal.TheVariants.{Store}
 use Rattle.wb_office.specs.Answer.{Content}
-use Rattle.wb_office.specs.Serves.{contents_of, is_store_refusal}
+use Rattle.wb_office.specs.Serves.{content_or_refusal, is_store_refusal}
 
 -- it is answered so, unless the store refuses
 abbrev pub IsAnsweredSo : Result Answer Refusal → Result Content Refusal → Type 0
-IsAnsweredSo result want = is_store_refusal result ≡ false → contents_of result ≡ want
+IsAnsweredSo result want = is_store_refusal result ≡ false → content_or_refusal result ≡ want
 
 -- if the store refuses, it is for want of memory
 abbrev pub WantsMemory : Result Answer Refusal → Type 0

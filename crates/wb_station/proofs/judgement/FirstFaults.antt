@@ -13,7 +13,7 @@ use Rattle.wb_station.specs.declared.routes.Route.TheVariants.{Check, Indication
 use Rattle.wb_station.specs.BodyLength.{are_wrong, first_number, is_encoded, is_number_text, lengths}
 use Rattle.wb_station.specs.Form.{IsPlain}
 use Rattle.wb_station.specs.HttpJudgement.{MayWantMemory, allows, cut_short, first_fault, has_form, malformed_length, no_length, no_route, of_body, of_head, too_large, wrong_method}
-use Rattle.wb_station.specs.RequestBytes.{Reads, Received, fields}
+use Rattle.wb_station.specs.RequestBytes.{ReadsAs, Received, fields}
 use Rattle.wb_station.specs.Routes.{method_of, route_of_target}
 use Rattle.wb_station.specs.helpers.LengthSaid.{said}
 use Rattle.wb_station.specs.helpers.AskedByHead.{IsDecoded, sought, sought_on, with_length}
@@ -123,7 +123,7 @@ sought_on_of None method encoded vs s e = cc e
 sought_on_of (Some route) method encoded vs s e =
     sought_of (method_of route) route refl _ _ encoded vs s (steps_at (method_of route) route method (said_with encoded vs) ∙ e)
 
-wants : (bytes : List ℕ) (x : Received) (r : Result Sought HttpFault) → Reads bytes x → sought x ≡ r → IsDecoded r x.rest → MayWantMemory bytes
+wants : (bytes : List ℕ) (x : Received) (r : Result Sought HttpFault) → ReadsAs bytes x → sought x ≡ r → IsDecoded r x.rest → MayWantMemory bytes
 wants bytes x (Err fault) reads e d = absurd d
 wants bytes x (Ok s) reads e d =
     let of = sought_on_of (route_of_target x.head.target) x.head.method (is_encoded x) (lengths x) s e in
@@ -137,7 +137,7 @@ wants bytes x (Ok s) reads e d =
       encoded = subst (λ (n : ℕ). ¬ (IsPlain (take n x.rest))) (sym (of.length d.form)) d.encoded;
     }
 
-pub wanted : (bytes : List ℕ) (x : Received) (method target rest : List ℕ) (ps : List (List ℕ × List ℕ)) → Reads bytes x
+pub wanted : (bytes : List ℕ) (x : Received) (method target rest : List ℕ) (ps : List (List ℕ × List ℕ)) → ReadsAs bytes x
     → method ≡ x.head.method → target ≡ x.head.target → ps ≡ fields x → rest ≡ x.rest
     → IsDecoded (sought_on (route_of_target target) method (said ps)) rest → MayWantMemory bytes
 wanted bytes x method target rest ps reads m t p r d = wants bytes x (sought x) reads refl (subst (λ (k : List ℕ). IsDecoded (sought x) k) r (subst (λ (k : Result Sought HttpFault). IsDecoded k rest) same d))

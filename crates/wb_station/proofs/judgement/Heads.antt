@@ -7,7 +7,7 @@ use Rattle.httparse.specs.Spans.{IsRequestAt}
 use Rattle.httparse.specs.declared.spans.HeaderSpan.{HeaderSpan}
 use Rattle.httparse.specs.declared.spans.RequestSpans.{RequestSpans}
 use Rattle.wb_station.specs.helpers.HeadPlaces.{IsReadAt}
-use Rattle.wb_station.specs.RequestBytes.{Reads, Received}
+use Rattle.wb_station.specs.RequestBytes.{ReadsAs, Received}
 
 front : (text rest more : List ℕ) → take (length text) ((text ++ rest) ++ more) ≡ text
 front text rest more = simp append_assoc (take-append_seam text (rest ++ more))
@@ -39,7 +39,7 @@ read_at bytes first spans r h e at few within =
     subst (λ (f : List ℕ). IsRequestAt f spans r h → r.len ≤ length f → (x : Received) × IsReadAt bytes spans r x) (sym e)
     (λ (a : IsRequestAt (take 8192 bytes) spans r h). λ (w : r.len ≤ length (take 8192 bytes)). read_from bytes spans r h a few w) at within
 
-pub read_front : (bytes : List ℕ) (x : Received) → Reads bytes x
+pub read_front : (bytes : List ℕ) (x : Received) → ReadsAs bytes x
     → ReadsRequest (take 8192 bytes) x.head (take (8192 - length (print_request x.head)) x.rest)
 read_front bytes x e =
     let size = e.0.size in

@@ -16,7 +16,7 @@ use Rattle.wb_station.specs.declared.request.Sought.{Sought}
 use Rattle.wb_station.specs.declared.routes.Route.{Route}
 use Rattle.wb_station.specs.BodyLength.{are_wrong, first_number, is_encoded, is_number_text, lengths}
 use Rattle.wb_station.specs.HttpJudgement.{IsJudged, cut_short, fault_without_head, first_fault, judgement, judgement_of, malformed_length, no_length, no_route, of_body, of_head, too_large, wrong_method}
-use Rattle.wb_station.specs.RequestBytes.{IsRead, Reads, Received, fields}
+use Rattle.wb_station.specs.RequestBytes.{IsRead, ReadsAs, Received, fields}
 use Rattle.wb_station.specs.Routes.{method_of, route_of_target}
 use Rattle.wb_station.specs.helpers.LengthSaid.{said}
 use Rattle.wb_station.specs.helpers.AskedByHead.{answered, answered_by, sought, sought_on, whole_by, with_length}
@@ -108,7 +108,7 @@ answered_on (Err fault) target rest more e = refl
 abbrev followed : Received → List ℕ → Received
 followed x more = record { head = x.head; rest = x.rest ++ more }
 
-reads_more : (bytes more : List ℕ) (x : Received) → Reads bytes x → Reads (bytes ++ more) (followed x more)
+reads_more : (bytes more : List ℕ) (x : Received) → ReadsAs bytes x → ReadsAs (bytes ++ more) (followed x more)
 reads_more bytes more x h = (h.0, ap (λ (b : List ℕ). b ++ more) h.1 ∙ append_assoc (print_request x.head) x.rest more)
 
 judged_more : (x : Received) (more : List ℕ) → whole_by (sought x) x.rest ≡ true → judgement_of x ≡ judgement_of (followed x more)
@@ -122,7 +122,7 @@ shorter text rest bytes more e l =
     sym (take-append-drop (length text) bytes) ∙ ap (λ (w : List ℕ). w ++ drop (length text) bytes) front
 
 no_head_more : (bytes more : List ℕ) → nat_lt 8192 (length bytes) ≡ true → IsRead bytes None → IsRead (bytes ++ more) None
-no_head_more bytes more e none = λ (x : Received). λ (h : Reads (bytes ++ more) x).
+no_head_more bytes more e none = λ (x : Received). λ (h : ReadsAs (bytes ++ more) x).
     let size = h.0.size in
     let within : length (print_request x.head) ≤ length bytes = grind (arith, nat_tests, e, size) in
     none (record { head = x.head; rest = drop (length (print_request x.head)) bytes }) (h.0, shorter (print_request x.head) x.rest bytes more h.1 within)

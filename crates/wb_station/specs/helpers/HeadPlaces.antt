@@ -4,11 +4,11 @@ use Rattle.httparse.specs.Spans.{IsRequestAt, header_bytes}
 use Rattle.httparse.specs.declared.spans.HeaderSpan.{HeaderSpan}
 use Rattle.httparse.specs.declared.spans.RequestSpans.{RequestSpans}
 use Rattle.wb_station.specs.declared.head.Head.{Head}
-use Rattle.wb_station.specs.RequestBytes.{Reads, Received, fields}
+use Rattle.wb_station.specs.RequestBytes.{ReadsAs, Received, fields}
 
 -- the places are those of a head in the first 8,192 bytes, and the bytes begin with it
 pub record IsReadAt (bytes : List ℕ) (spans : List HeaderSpan) (r : RequestSpans) (x : Received) : Type 0 where
-  pub reads : Reads bytes x
+  pub reads : ReadsAs bytes x
   pub places : IsRequestAt (take 8192 bytes) spans r x.head
   pub rest : drop r.len bytes ≡ x.rest
 

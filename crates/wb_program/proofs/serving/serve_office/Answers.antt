@@ -1,7 +1,7 @@
 use Rattle.std.proofs.Common.{[], ◌∷◌, ◌∙◌, None, Some, ap, false, refl, subst, sym}
 use Rattle.wb_program.specs.Served.{Handled}
 use Rattle.wb_station.specs.Happening.{office}
-use Rattle.wb_station.specs.SourceAnswers.{Tells, asked, bytes_asked, timed}
+use Rattle.wb_station.specs.SourceAnswers.{SourceTells, asked, bytes_asked, timed}
 use Rattle.wb_program.proofs.Turns.{exchange_served, handled_none}
 use Rattle.wb_program.proofs.serving.serve_office.Goals as goal
 
@@ -19,7 +19,7 @@ returns-in_default-moment g c =
       answers = timed None ∷ asked (Some bytes) ∷ [];
       happened = [];
       handled = handled_none g.D.Store _ _ _ _ (timed None ∷ asked (Some bytes) ∷ [])
-          (subst (λ m. Tells (timed m ∷ asked (Some bytes) ∷ []) [] (g.S.Sources.told c.args.sources.now) (g.S.Sources.told c.exchange.new.self)) c.in_default-moment.is c.in-Some.ensures.told);
+          (subst (λ m. SourceTells (timed m ∷ asked (Some bytes) ∷ []) [] (g.S.Sources.told c.args.sources.now) (g.S.Sources.told c.exchange.new.self)) c.in_default-moment.is c.in-Some.ensures.told);
       ends = (bytes, refl, refl);
     }
 

@@ -1,9 +1,9 @@
 use Rattle.std.proofs.Common.{◌≡◌, ap, subst, subst₂, sym, ◌∙◌}
 use Rattle.wb_office.specs.WithoutStore.{Outright}
-use Rattle.wb_office.specs.Serves.{Serves, contents_of}
+use Rattle.wb_office.specs.Serves.{Serves, content_or_refusal}
 use Rattle.wb_office.specs.Wanted.{IsWanted}
 use Rattle.wb_station.specs.Account.{responded}
-use Rattle.wb_station.specs.Response.{is_export, told_result}
+use Rattle.wb_station.specs.Response.{is_export, response_to_result}
 use Rattle.wb_station.proofs.Accounts.{response_is, when_err, when_not_err}
 use Rattle.wb_station.proofs.OfficeRequests.{answered_took, failed_took}
 use Rattle.wb_station.proofs.asking.answer.Goals as goal
@@ -16,7 +16,7 @@ returns-then-is_err g c = λ bytes judged.
     c.copied.ensures (c.answer-result.ensures.serves asks))
     (λ none. subst (λ sc. (c.answer-result.new.self ≡ c.args.office.now) × (c.answer-result.new.scale ≡ sc) × Outright sc c.args.request c.answer-result.result) c.scale_mut.ensures.value
     (c.answer-result.ensures.outright none))
-    (when_err (is_export (contents_of c.answer-result.result)) c.response_bytes.result c.response_bytes.ensures.fits (sym c.is_err.ensures.value ∙ c.if-is_err.true)) (responded c.put_fault.new.room) c.put_fault.ensures
+    (when_err (is_export (content_or_refusal c.answer-result.result)) c.response_bytes.result c.response_bytes.ensures.fits (sym c.is_err.ensures.value ∙ c.if-is_err.true)) (responded c.put_fault.new.room) c.put_fault.ensures
 
 pub returns : goal.returns
 returns g c = λ bytes judged.
@@ -27,6 +27,6 @@ returns g c = λ bytes judged.
     (λ none. subst (λ sc. (c.answer-result.new.self ≡ c.args.office.now) × (c.answer-result.new.scale ≡ sc) × Outright sc c.args.request c.answer-result.result) c.scale_mut.ensures.value
     (c.answer-result.ensures.outright none))
     (responded c.response_bytes.new.room)
-    (response_is c.args.moment.now c.copied-2.result (told_result c.args.request (contents_of c.answer-result.result)) (told_result c.copied-asked.result (contents_of c.answer-result.result)) _ c.copied-2.ensures
-    (ap (λ r. told_result r (contents_of c.answer-result.result)) c.copied-asked.ensures)
+    (response_is c.args.moment.now c.copied-2.result (response_to_result c.args.request (content_or_refusal c.answer-result.result)) (response_to_result c.copied-asked.result (content_or_refusal c.answer-result.result)) _ c.copied-2.ensures
+    (ap (λ r. response_to_result r (content_or_refusal c.answer-result.result)) c.copied-asked.ensures)
     (when_not_err c.response_bytes.result c.response_bytes.ensures.value (sym c.is_err.ensures.value ∙ c.if-is_err.false)))

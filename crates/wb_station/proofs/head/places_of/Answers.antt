@@ -1,4 +1,4 @@
-use Rattle.wb_station.specs.RequestBytes.{Reads, Received}
+use Rattle.wb_station.specs.RequestBytes.{ReadsAs, Received}
 use Rattle.wb_station.proofs.judgement.Heads.{read_at, read_front}
 use Rattle.wb_station.proofs.head.places_of.Goals as goal
 
@@ -10,4 +10,4 @@ returns-in-Some-clause-read c =
 pub returns-in-None-clause-none : goal.returns-in-None-clause-none
 returns-in-None-clause-none c =
     let missing = rw c.front_of.ensures at c.in-None.ensures.missing in
-    (λ (x : Received) (reads : Reads c.args.bytes.now x). missing x.head _ (read_front c.args.bytes.now x reads) reads.0.fields, c.headless.ensures)
+    (λ (x : Received) (reads : ReadsAs c.args.bytes.now x). missing x.head _ (read_front c.args.bytes.now x reads) reads.0.fields, c.headless.ensures)

@@ -4,7 +4,7 @@ use Rattle.wb_office.specs.declared.request.Request.{Request}
 use Rattle.wb_station.specs.declared.fault.HttpFault.{HttpFault}
 use Rattle.wb_station.specs.declared.fault.HttpFault.TheVariants.{HeadTooLarge, Malformed, Memory}
 use Rattle.wb_station.specs.HttpJudgement.{fault_without_head, judgement_of}
-use Rattle.wb_station.specs.RequestBytes.{IsRead, Reads, Received, fields}
+use Rattle.wb_station.specs.RequestBytes.{IsRead, ReadsAs, Received, fields}
 use Rattle.wb_station.specs.Routes.{route_of_target}
 use Rattle.wb_station.specs.UnlessMemoryRefused.{IsOf, WasJudged}
 use Rattle.wb_station.specs.WholeRequests.{TellsWhole}
@@ -15,7 +15,7 @@ use Rattle.wb_station.proofs.judgement.FirstFaults.{wanted}
 use Rattle.wb_station.proofs.judgement.WholeRequests.{whole_by_parts, whole_by_steps}
 use Rattle.wb_station.proofs.judged.judge_whole.Goals as goal
 
-module _ (bytes : List ℕ) (x : Received) (method target rest : List ℕ) (ps : List (List ℕ × List ℕ)) (reads : Reads bytes x)
+module _ (bytes : List ℕ) (x : Received) (method target rest : List ℕ) (ps : List (List ℕ × List ℕ)) (reads : ReadsAs bytes x)
     (m : method ≡ x.head.method) (t : target ≡ x.head.target) (p : ps ≡ fields x) (r : rest ≡ x.rest) where
   tells : (whole : Bool) → whole_by (sought_on (route_of_target target) method (said ps)) rest ≡ whole → TellsWhole bytes whole
   tells whole is = (Some x, reads, sym is ∙ whole_by_parts x method target rest ps m t p r ∙ sym (whole_by_steps bytes x))

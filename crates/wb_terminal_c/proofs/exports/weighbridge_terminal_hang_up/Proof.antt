@@ -3,7 +3,7 @@
 use Rattle.wb_terminal_c.proofs.Steps.{◌≡◌, ℕ, List, [], ◌∷◌, refl, w32, proved, full_share, id⊢, ftrue, flft, flent, fex, fsep, named, vint, vptr, fact, tables, WpFn, ‵, raw, ◌⊛◌, some, later, at_ret, ◌$◌, ◌∵◌, !, qed, done, by, move, keep, drop, use1, use3, split, join, fsplit, fjoin, fpack, fpick, pick, await, suffices, frame, group, enter, of_opd, lit, bin, addr, stop, no_more, and_then, first, branches, skips, exec, returns, returns_within, alloc_all, pass_all, free_all, look_at, get, through, sets, lands_as, env, Body, lft_new, lft_end, u32, yes, Is, shows, mem, part_at, uint_Makes, uint_Lawful, Ptr, RawPtr, block_ptr, lies_at, rawptr_vals, rawptr_Tells, MutRef, lends_ref, ref_back, plain, nothing, owned, heard, peeks, calls_at, lasts, on_entry, triple_of, framed, Stays, walk_of, says, stay_dropped, Goes-dropped, ends_at, lit<, if_non_null, null_ptr, Testable, tests_null, Logic, sem, SProp, ent, Ura, Model, Wired, Running}
 use Rattle.wb_instrument.specs.Setup.{Setup}
 use Rattle.wb_sics.specs.Event.{TerminalEvent}
-use Rattle.wb_terminal_c.specs.Keeps.{Keeps}
+use Rattle.wb_terminal_c.specs.Keeps.{KeepsTerminal}
 use Rattle.wb_terminal_c.specs.Placed.{terminal_at}
 use Rattle.wb_terminal_c.specs.declared.handle.Handle.{Handle}
 use Rattle.wb_terminal_c.specs.contracts.handle.Handle.{the_row}
@@ -61,7 +61,7 @@ module _ {M : Type 1} (𝓤 : Ura M) (𝓛 : Logic 𝓤) (𝓜 : Model 𝓤 𝓛
       calls_at ! (framed 𝓤 𝓛.H 𝓜 (tables 𝓤 𝓛.H 𝓜 𝓡 𝓡.env)) G (met 𝓤 𝓛 𝓜 𝓡 (code.calls-wb_terminal_c::handle::hang_up 𝓡.env wired)) z
       (and_then ! (get ! refl) (no_more !)) (λ v.
       use1 𝓛 (later (some (λ (r : ℕ). ((‵ (flft (α ∷ []) full_share) ⊛ ‵ ftrue) ⊛ ‵ (u32.own_val r (v ∷ []))) ⊛
-      some (λ (ws : Handle × Unit {0}). ‵ (lasts g.ended z.0.0 z.0.3 ws) ⊛ (raw (fact 𝓤 ((i : Setup) (j : List TerminalEvent) → Keeps old i j → Keeps ws.0 i (hang_up ∷ j))) ⊛ raw (fact 𝓤 (r ≡ 0))))))) (id⊢ 𝓤 _) $
+      some (λ (ws : Handle × Unit {0}). ‵ (lasts g.ended z.0.0 z.0.3 ws) ⊛ (raw (fact 𝓤 ((i : Setup) (j : List TerminalEvent) → KeepsTerminal old i j → KeepsTerminal ws.0 i (hang_up ∷ j))) ⊛ raw (fact 𝓤 (r ≡ 0))))))) (id⊢ 𝓤 _) $
       await ! tt $ pick ! (λ r. split ! $ split ! $ split ! $ lft_end ! tt $ move ! (2 ∷ []) $
       peeks ! u32 (Is u32) (shows 𝓛 u32) r (v ∷ []) (λ is. lands_as ! refl refl ((uint_Lawful 𝓛 w32).typed r _ is).0 $
       move ! (3 ∷ []) $ pick ! (λ ws. split ! $ move ! (1 ∷ []) $ split ! $ heard ! _ (λ one. heard ! _ (λ two. fsplit ! $ fsplit ! $
@@ -69,9 +69,9 @@ module _ {M : Type 1} (𝓤 : Ura M) (𝓛 : Logic 𝓤) (𝓜 : Model 𝓤 𝓛
       move ! (4 ∷ 6 ∷ 0 ∷ []) $ use3 𝓛 (later (‵ (part_at the_row full_share ws.0 b o))) (ref_back 𝓛 the_row (α ∷ []) γ ws.0 b o) $ await ! tt $
       returns ! (look_at ! 0 refl) $ free_all ! refl $ keep ! (0 ∷ 3 ∷ []) $
       suffices ! _ (ends_at 𝓛 f.ended stayed c (y (block_ptr b o)) v r (tt, tt) (tt, tt)) $
-      let kept : Keeps ws.0 s now = one s h keeps in
-      nothing ! $ fpack ! (Keeps ws.0 s now) (λ _. ftrue) kept $ move ! (1 ∷ 0 ∷ []) $ fjoin ! $
-      fpack ! Handle (λ x. fsep (lies_at the_row full_share (block_ptr b o) x) (fex (Keeps x s now) (λ _. ftrue))) ws.0 $
+      let kept : KeepsTerminal ws.0 s now = one s h keeps in
+      nothing ! $ fpack ! (KeepsTerminal ws.0 s now) (λ _. ftrue) kept $ move ! (1 ∷ 0 ∷ []) $ fjoin ! $
+      fpack ! Handle (λ x. fsep (lies_at the_row full_share (block_ptr b o) x) (fex (KeepsTerminal x s now) (λ _. ftrue))) ws.0 $
       move ! (1 ∷ 0 ∷ []) $ nothing ! $ nothing ! $ join ! $ nothing ! $ group ! 3 $ frame ! $ says ! (two) $ done !))))))))))))
 
 pub weighbridge_terminal_hang_up_spec : {M : Type 1} → statement M

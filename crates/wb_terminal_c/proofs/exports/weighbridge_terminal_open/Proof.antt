@@ -2,7 +2,7 @@
 -- judged, and where it is one, what `opened` makes is written into the room.
 use Rattle.wb_terminal_c.proofs.Steps.{◌≡◌, ℕ, [], ◌∷◌, ◌++◌, refl, ap, w32, proved, full_share, id⊢, Fml, ftrue, flft, fex, fsep, named, vint, fact, tables, WpFn, ‵, raw, ◌⊛◌, some, later, at_ret, ◌$◌, ◌∵◌, !, qed, done, by, move, keep, drop, use1, use2, split, join, fsplit, fjoin, fpack, pick, await, rewrite, suffices, frame, group, enter, of_opd, lit, bin, stop, no_more, and_then, assigns_last, first, branches, skips, exec, returns, returns_within, alloc_all, pass_all, free_all, look_at, get, through, sets, lands_as, env, u32, yes, Is, shows, part_at, uint_Makes, Ptr, RawPtr, block_ptr, lies_at, rawptr_vals, rawptr_Tells, plain, nothing, owned, heard, peeks, only, calls_at, lasts, triple_of, framed, Stays, walk_of, says, stay_dropped, Goes-dropped, ends_at, part_in, owns, ShrRef, shr_vals, shr_Tells, room_at, init, lit<, if_non_null, null_ptr, Testable, tests_null, Logic, sem, SProp, ent, Ura, Model, Wired, Running, Lft, Share}
 use Rattle.wb_instrument.specs.Setup.{Setup}
-use Rattle.wb_terminal_c.specs.Keeps.{Keeps}
+use Rattle.wb_terminal_c.specs.Keeps.{KeepsTerminal}
 use Rattle.wb_terminal_c.specs.Placed.{room_for_terminal}
 use Rattle.wb_terminal_c.specs.declared.handle.Handle.{Handle}
 use Rattle.wb_terminal_c.specs.contracts.handle.Handle.{the_row}
@@ -104,7 +104,7 @@ module _ {M : Type 1} (𝓤 : Ura M) (𝓛 : Logic 𝓤) (𝓜 : Model 𝓤 𝓛
       calls_at ! (framed 𝓤 𝓛.H 𝓜 (tables 𝓤 𝓛.H 𝓜 𝓡 𝓡.env)) G₂ (make_thm.met 𝓤 𝓛 𝓜 𝓡 (code.calls-wb_terminal_c::handle::opened 𝓡.env wired)) z₂
       (and_then ! (get ! refl) (no_more !)) (λ u.
       use1 𝓛 (later (some (λ (made : Handle). ((‵ (flft κ q) ⊛ ‵ ftrue) ⊛ ‵ (the_row.own_val made (u ∷ []))) ⊛
-      some (λ (ws' : Unit {0} × Unit {0}). ‵ (lasts make.ended z₂.0.0 z₂.0.3 ws') ⊛ raw (fact 𝓤 (Keeps made s [])))))) (id⊢ 𝓤 _) $
+      some (λ (ws' : Unit {0} × Unit {0}). ‵ (lasts make.ended z₂.0.0 z₂.0.3 ws') ⊛ raw (fact 𝓤 (KeepsTerminal made s [])))))) (id⊢ 𝓤 _) $
       await ! tt $ pick ! (λ made. split ! $ split ! $ split ! $ move ! (3 ∷ []) $ pick ! (λ ws'. split ! $ move ! (1 ∷ []) $ heard ! _ (λ keeps. drop ! $
       -- [the token; nothing; what was made; the answer; nothing; the room; the locals]
       move ! (2 ∷ []) $ peeks ! the_row (Is the_row) (shows 𝓛 the_row) made (u ∷ []) (λ is'.
@@ -117,8 +117,8 @@ module _ {M : Type 1} (𝓤 : Ura M) (𝓛 : Logic 𝓤) (𝓜 : Model 𝓤 𝓛
       -- [the terminal; the token; nothing; the answer; ..]
       returns ! (look_at ! 0 refl) $ free_all ! refl $ keep ! (0 ∷ 1 ∷ []) $
       suffices ! _ (ends_at 𝓛 f.ended stayed c (y (block_ptr b o)) (vint w32 r) r (tt, (tt, tt)) (tt, (tt, tt))) $
-      nothing ! $ fpack ! (Keeps made s []) (λ _. ftrue) keeps $ move ! (1 ∷ 0 ∷ []) $ fjoin ! $
-      fpack ! Handle (λ x. fsep (lies_at the_row full_share (block_ptr b o) x) (fex (Keeps x s []) (λ _. ftrue))) made $
+      nothing ! $ fpack ! (KeepsTerminal made s []) (λ _. ftrue) keeps $ move ! (1 ∷ 0 ∷ []) $ fjoin ! $
+      fpack ! Handle (λ x. fsep (lies_at the_row full_share (block_ptr b o) x) (fex (KeepsTerminal x s []) (λ _. ftrue))) made $
       rewrite ! 0 (λ (k : Bool). ‵ (opened_or_room k s (block_ptr b o))) e refl $
       move ! (1 ∷ []) $ nothing ! $ move ! (1 ∷ 0 ∷ []) $ join ! $ nothing ! $ nothing ! $ join ! $ nothing ! $ join ! $
       owned ! u32 _ (uint_Makes 𝓛 w32) r _ (refl, is.1) $ move ! (2 ∷ 1 ∷ 0 ∷ []) $ group ! 3 $ frame ! $ says ! opens $ done !))))))

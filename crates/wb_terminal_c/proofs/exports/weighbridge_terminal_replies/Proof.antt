@@ -3,7 +3,7 @@
 use Rattle.wb_terminal_c.proofs.Steps.{◌≡◌, ℕ, length, subst, List, [], ◌∷◌, refl, sym, ap, ◌∙◌, w64, proved, full_share, id⊢, ftrue, flft, flent, fex, fsep, named, vint, vptr, fact, tables, WpFn, ‵, raw, ◌⊛◌, some, later, at_ret, ◌$◌, ◌∵◌, !, qed, done, by, move, keep, drop, use1, use3, split, join, fsplit, fjoin, fpack, fpick, pick, await, suffices, frame, group, enter, of_opd, lit, bin, addr, stop, no_more, and_then, first, branches, skips, exec, returns, returns_within, alloc_all, pass_all, free_all, look_at, get, through, sets, lands_as, env, Body, lft_new, lft_end, usize, yes, Is, shows, mem, part_at, uint_Makes, uint_Lawful, Ptr, RawPtr, block_ptr, lies_at, rawptr_vals, rawptr_Tells, MutRef, lends_ref, ref_back, plain, nothing, owned, heard, peeks, calls_at, lasts, on_entry, triple_of, framed, Stays, walk_of, says, stay_dropped, Goes-dropped, ends_at, lit<, if_non_null, null_ptr, Testable, tests_null, Logic, sem, SProp, ent, Ura, Model, Wired, Running}
 use Rattle.wb_instrument.specs.Setup.{Setup}
 use Rattle.wb_sics.specs.Event.{TerminalEvent}
-use Rattle.wb_terminal_c.specs.Keeps.{Keeps}
+use Rattle.wb_terminal_c.specs.Keeps.{KeepsTerminal}
 use Rattle.wb_terminal_c.specs.Placed.{terminal_at}
 use Rattle.wb_terminal_c.specs.declared.handle.Handle.{Handle}
 use Rattle.wb_terminal_c.specs.contracts.handle.Handle.{the_row}
@@ -68,9 +68,9 @@ module _ {M : Type 1} (𝓤 : Ura M) (𝓛 : Logic 𝓤) (𝓜 : Model 𝓤 𝓛
       move ! (4 ∷ 6 ∷ 0 ∷ []) $ use3 𝓛 (later (‵ (part_at the_row full_share ws.0 b o))) (ref_back 𝓛 the_row (α ∷ []) γ ws.0 b o) $ await ! tt $
       returns ! (look_at ! 0 refl) $ free_all ! refl $ keep ! (0 ∷ 3 ∷ []) $
       suffices ! _ (ends_at 𝓛 f.ended stayed c (y (block_ptr b o)) v r (tt, tt) (tt, tt)) $
-      let kept : Keeps ws.0 s now = subst (λ (x : Handle). Keeps x s h) (sym two) keeps in
-      nothing ! $ fpack ! (Keeps ws.0 s now) (λ _. ftrue) kept $ move ! (1 ∷ 0 ∷ []) $ fjoin ! $
-      fpack ! Handle (λ x. fsep (lies_at the_row full_share (block_ptr b o) x) (fex (Keeps x s now) (λ _. ftrue))) ws.0 $
+      let kept : KeepsTerminal ws.0 s now = subst (λ (x : Handle). KeepsTerminal x s h) (sym two) keeps in
+      nothing ! $ fpack ! (KeepsTerminal ws.0 s now) (λ _. ftrue) kept $ move ! (1 ∷ 0 ∷ []) $ fjoin ! $
+      fpack ! Handle (λ x. fsep (lies_at the_row full_share (block_ptr b o) x) (fex (KeepsTerminal x s now) (λ _. ftrue))) ws.0 $
       move ! (1 ∷ 0 ∷ []) $ nothing ! $ nothing ! $ join ! $ nothing ! $ group ! 3 $ frame ! $ says ! (one ∙ ap length keeps.replies) $ done !))))))))))))
 
 pub weighbridge_terminal_replies_spec : {M : Type 1} → statement M

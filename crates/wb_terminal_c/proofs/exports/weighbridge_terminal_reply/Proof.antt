@@ -4,7 +4,7 @@
 use Rattle.wb_terminal_c.proofs.Steps.{◌≡◌, ℕ, length, subst, List, [], ◌∷◌, ◌++◌, refl, sym, ap, ◌∙◌, w64, MutBor, proved, full_share, id⊢, Fml, ftrue, flft, fres, flent, fex, fsep, named, vint, vptr, fact, tables, WpFn, ‵, raw, ◌⊛◌, some, later, at_ret, ◌$◌, ◌∵◌, !, qed, done, by, move, keep, drop, use1, use3, split, join, fsplit, fjoin, fpack, fpick, feq_l, pick, await, suffices, frame, group, enter, of_opd, lit, bin, addr, stop, fld, hop, no_more, and_then, first, branches, skips, exec, returns, returns_within, alloc_all, pass_all, free_all, look_at, get, through, sets, lands_as, env, Body, lft_new, lft_end, u8, usize, yes, Is, shows, mem, part_at, uint_Makes, uint_vals, uint_Tells, uint_Lawful, Ptr, RawPtr, block_ptr, lies_at, rawptr_vals, rawptr_Tells, MutRef, lends_ref, ref_back, plain, nothing, owned, heard, peeks, calls_at, lasts, triple_of, framed, Stays, walk_of, says, stay_dropped, Goes-dropped, ends_at, owns, get_in, look_in_at, from, whole, sub, agg, MutSlice, mut_slice_vals, mut_slice_Tells, finally, gave_slice, Goes-gave_slice, lit<, ◌<◌, ◌^◌, if_non_null, null_ptr, Testable, tests_null, Logic, sem, SProp, ent, Ura, Model, Wired, Running, Lft, Share}
 use Rattle.wb_instrument.specs.Setup.{Setup}
 use Rattle.wb_sics.specs.Event.{TerminalEvent}
-use Rattle.wb_terminal_c.specs.Keeps.{Keeps}
+use Rattle.wb_terminal_c.specs.Keeps.{KeepsTerminal}
 use Rattle.wb_terminal_c.specs.Placed.{terminal_at}
 use Rattle.wb_terminal_c.specs.declared.handle.Handle.{Handle}
 use Rattle.wb_terminal_c.specs.contracts.handle.Handle.{the_row}
@@ -85,9 +85,9 @@ module _ {M : Type 1} (𝓤 : Ura M) (𝓛 : Logic 𝓤) (𝓜 : Model 𝓤 𝓛
       -- [the buffer; nothing; the handle; its borrow; the result; the buffer's token; the locals]
       returns ! (look_at ! 0 refl) $ free_all ! refl $ keep ! (2 ∷ 4 ∷ 0 ∷ 5 ∷ []) $
       suffices ! _ (ends_at 𝓛 f.ended stayed c (y (block_ptr b o)) v r (tt, (tt, (ws.1.1.0, tt))) (tt, (tt, (as_long, tt)))) $
-      let kept : Keeps ws.0 s h = subst (λ (x : Handle). Keeps x s h) (sym same) keeps in
-      nothing ! $ fpack ! (Keeps ws.0 s h) (λ _. ftrue) kept $ move ! (1 ∷ 0 ∷ []) $ fjoin ! $
-      fpack ! Handle (λ x. fsep (lies_at the_row full_share (block_ptr b o) x) (fex (Keeps x s h) (λ _. ftrue))) ws.0 $
+      let kept : KeepsTerminal ws.0 s h = subst (λ (x : Handle). KeepsTerminal x s h) (sym same) keeps in
+      nothing ! $ fpack ! (KeepsTerminal ws.0 s h) (λ _. ftrue) kept $ move ! (1 ∷ 0 ∷ []) $ fjoin ! $
+      fpack ! Handle (λ x. fsep (lies_at the_row full_share (block_ptr b o) x) (fex (KeepsTerminal x s h) (λ _. ftrue))) ws.0 $
       move ! (2 ∷ []) $ nothing ! $ move ! (1 ∷ 0 ∷ []) $ join ! $ nothing ! $ join ! $ nothing ! $ join ! $ move ! (3 ∷ 0 ∷ 2 ∷ []) $ group ! 3 $ frame ! $
       says ! (count ∙ ap (λ i. (copied (slice_get i k) buffer.now).0) keeps.replies, after ∙ ap (λ i. (copied (slice_get i k) buffer.now).1) keeps.replies) $ done !))))))))))))))
 
