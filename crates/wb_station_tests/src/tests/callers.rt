@@ -5,7 +5,7 @@ use std::alloc::Global;
 use std::process::Abort;
 use std::test::Fail;
 use wb_journal::{Key, Moment, Plate};
-use wb_office::{Answer, Office};
+use wb_office::{Answer, Office, Refusal};
 use wb_scale::Scale;
 use wb_station::Station;
 use wb_station_uses::office::weigh_first;
@@ -34,9 +34,19 @@ fn weighed(alloc: Global, at: Moment, begins: &str) -> Result<Store<MemStore>, F
     let mut scale = bridge(alloc)?;
     let mut office = Office::new(store(Connection::open_in_memory(alloc)?)?);
     let reading = Reading::of(9_170);
-    match weigh_first(alloc, &mut office, &mut scale, reading, at, key, plate) {
-        Ok(Answer::Slip(text)) if text.as_str().starts_with(begins) => Ok(office.into_store()),
-        _ => Err("another answer".into()),
+    let answer = weigh_first(alloc, &mut office, &mut scale, reading, at, key, plate);
+    if is_slip(&answer, begins) {
+        Ok(office.into_store())
+    } else {
+        Err("another answer".into())
+    }
+}
+
+/// Whether the answer is a slip that begins so.
+fn is_slip(answer: &Result<Answer, Refusal>, begins: &str) -> bool {
+    match answer {
+        Ok(Answer::Slip(text)) => text.as_str().starts_with(begins),
+        _ => false,
     }
 }
 
