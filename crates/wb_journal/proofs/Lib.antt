@@ -1,8 +1,12 @@
 pub mod Appends
 pub mod ByNumber
 pub mod Calendar
+pub mod CheckScan
 pub mod Closers
 pub mod Faults
+pub mod FaultsOfV1
+pub mod Newest
+pub mod Numbers
 pub mod Nearest
 pub mod Pairing
 pub mod Partners
@@ -12,5 +16,8 @@ pub mod PurgeBound
 pub mod PurgePass
 pub mod PurgeScan
 pub mod Search
+pub mod SoundJournal
+pub mod SoundKept
+pub mod SoundChained
 pub mod Theorems
 pub mod offered

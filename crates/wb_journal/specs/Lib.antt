@@ -9,9 +9,12 @@ pub mod Digest
 pub mod Rising
 pub mod Pairs
 pub mod Retention
+pub mod Chain
 pub mod Check
+pub mod Chaining
 pub mod Civil
 pub mod Net
 pub mod Texts
 pub mod Laws
+pub mod LawsOfChain
 pub mod helpers
