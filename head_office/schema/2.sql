@@ -62,7 +62,7 @@ begin
     -- no service writes a previous digest of another form
     select number, key, kind, plate, moment, gross_kg, preset_kg, interval_kg, max_kg, serial, digest, previous,
         encode(digest_of(number, key, kind, plate, moment, gross_kg, preset_kg, interval_kg, max_kg, serial, previous), 'hex') = digest
-            and coalesce(previous ~ '^[0-9a-f]{64}$', true) as sound
+            and coalesce(length(previous) = 64 and previous ~ '^[0-9a-f]+$', true) as sound
     from handed where login = session_user and within = pg_current_xact_id();
     delete from handed where login = session_user;
     analyze judged;
@@ -110,18 +110,14 @@ begin
     where moment < former
     union all
     -- a new record and the one below it, in the export or stored; the export's own may have been changed since
-    select 'unchained', s.number, s.number, format('previous %s, after %s', coalesce(s.previous, 'none'), coalesce(s.below, encode(e.digest, 'hex'), 'none'))
-    from (select c.*, lag(number) over w is null as is_least, case when lag(number) over w = number - 1 then lag(digest) over w end as below,
-            case when lag(number) over w = number - 1 then lag(previous) over w is not null end as below_is_chained
-        from compared c window w as (order by number)) s
-    left join entry e on e.journal = its and e.number = s.number - 1
-    where s.sound and not s.known and case
-        when s.previous is null then coalesce(s.below_is_chained, e.previous is not null)
-        when s.previous = s.below or s.previous = encode(e.digest, 'hex') then false
+    select 'unchained', r.number, r.number, format('previous %s, after %s', coalesce(r.previous, 'none'), coalesce(b.digest, encode(e.digest, 'hex'), 'none'))
+    from compared r left join compared b on b.number = r.number - 1 left join entry e on e.journal = its and e.number = r.number - 1
+    where r.sound and not r.known and case
+        when r.previous is null then b.previous is not null or e.previous is not null
+        when r.previous = b.digest or r.previous = encode(e.digest, 'hex') then false
         -- zeros: nothing stood below; what is stored here from below was of age, and purged
-        when s.previous = repeat('0', 64) then not s.is_least or s.below is not null
-            or (s.moment)::date <= (e.moment at time zone 'UTC')::date + days
-        else s.number = 1 or s.below is not null or e.number is not null end
+        when r.previous = repeat('0', 64) then r.number > lowest or r.moment::date <= (e.moment at time zone 'UTC')::date + days
+        else r.number = 1 or b.number is not null or e.number is not null end
     union all
     select case when count(e.number) > 0 then 'missing' else 'unseen' end, a, z, format('%s of them stored then', count(e.number))
     from (select lag(number, 1, coalesce(before, 0)) over (order by number) + 1 as a, number - 1 as z from judged) gap
