@@ -13,8 +13,10 @@ LATER = 1741599000      # 2025-03-10 09:30:00
 MORNING = "2025-03-10 08:00:00"
 HALF_PAST_NINE = "2025-03-10 09:30:00"
 PLATE_LINE = "E 20 kg MAX 60000 kg SERIAL WB01"
-ENTRY_TEXT = "version 1\nnumber {}\nkey {}\nkind {}\nplate {}\nmoment {}\ngross {}\npreset {}\ninterval 20\nmax 60000\nserial WB01\n"
-JOURNAL_HEAD = "number,key,kind,plate,moment,gross_kg,preset_kg,interval_kg,max_kg,serial,digest"
+ENTRY_TEXT = ("version 2\nnumber {}\nkey {}\nkind {}\nplate {}\nmoment {}\ngross {}\npreset {}\ninterval 20\nmax 60000\nserial WB01\n"
+              "previous {}\n")
+ZEROS = "0" * 64
+JOURNAL_HEAD = "number,key,kind,plate,moment,gross_kg,preset_kg,interval_kg,max_kg,serial,digest,previous"
 TICKETS_HEAD = "ticket,kind,plate,first,at,gross_kg,tare_kg,net_kg"
 HISTORIES = []
 
@@ -25,8 +27,8 @@ def history(name, trace, wanted, options="", complaint="", status=0):
     HISTORIES.append((name, options, data, "".join(line + "\n" for line in wanted), complaint, status))
 
 
-def digest(number, key, kind, plate, moment, gross="-", preset="-"):
-    return hashlib.sha256(ENTRY_TEXT.format(number, key, kind, plate, moment, gross, preset).encode()).hexdigest()
+def digest(number, key, kind, plate, moment, gross="-", preset="-", previous=ZEROS):
+    return hashlib.sha256(ENTRY_TEXT.format(number, key, kind, plate, moment, gross, preset, previous).encode()).hexdigest()
 
 
 def weighing(moment, key, kind, plate):
@@ -66,7 +68,7 @@ def ticket(number, plate, lines, net, status=201):
 
 # A pair, used often.
 D1 = digest(1, "K1", "first", "AB-12", M, 18340)
-D2 = digest(2, "K2", "second", "AB-12", LATER, 8140)
+D2 = digest(2, "K2", "second", "AB-12", LATER, 8140, previous=D1)
 FIRST_BLOCK = block("FIRST", 1, MORNING, D1, 18340)
 SLIP_1 = slip(1, "AB-12", *FIRST_BLOCK)
 TICKET_2 = ticket(2, "AB-12", FIRST_BLOCK + block("SECOND", 2, HALF_PAST_NINE, D2, 8140), 10200)
@@ -197,6 +199,7 @@ history("42 below min, then not cleared", ["r 190 4", weighing(M, "K1", "first",
                                            weighing(M, "K2", "first", "CD-34")],
         answer(409, "refused 8 below_min") + slip(1, "AB-12", *block("FIRST", 1, MORNING, digest(1, "K1", "first", "AB-12", M, 400), 400))
         + answer(409, "refused 11 not_cleared"))
+# The entry below it is purged, so its previous digest is zeros.
 D3 = digest(3, "K3", "first", "CD-34", 1749427200, 18340)
 history("43 purges at the bound", PAIR + ["o 1749427199 POST /purge", "o 1749427200 POST /purge",
                                           weighing(1749427200, "K1", "first", "AB-12"), "r 9170 4", weighing(1749427200, "K3", "first",
@@ -214,19 +217,20 @@ history("44 body shorter than its length", [raw(M, b"POST /purge HTTP/1.1\r\nCon
 history("45 capacity two", ["r 0", "r 9170 4", weighing(M, "K1", "first", "AB-12"), "r 0", "r 9170 4", weighing(M, "K2", "first", "CD-34"),
                             "r 0", "r 4070 4", weighing(M, "K3", "second", "AB-12")],
         SLIP_1 + answer(409, "refused 14 journal_full")
-        + ticket(2, "AB-12", FIRST_BLOCK + block("SECOND", 2, MORNING, digest(2, "K3", "second", "AB-12", M, 8140), 8140), 10200),
+        + ticket(2, "AB-12", FIRST_BLOCK + block("SECOND", 2, MORNING, digest(2, "K3", "second", "AB-12", M, 8140, previous=D1), 8140), 10200),
         "--capacity 2")
 DAY = 86400
+A_1 = digest(1, "A1", "first", "A", M, 18340)
+B_2 = digest(2, "B1", "first", "B", M, 18340, previous=A_1)
+A_3 = digest(3, "A2", "second", "A", M, 8140, previous=B_2)
+B_4 = digest(4, "B2", "void", "B", M + 91 * DAY, previous=A_3)
 history("46 an open First holds back a pair",
         ["r 0", "r 9170 4", weighing(M, "A1", "first", "A"), "r 0", "r 9170 4", weighing(M, "B1", "first", "B"), "r 0", "r 4070 4",
          weighing(M, "A2", "second", "A"), f"o {M + 91 * DAY} POST /purge", void(M + 91 * DAY, "B2", "B"), f"o {M + 91 * DAY} POST /purge",
          f"o {M + 181 * DAY} POST /purge", f"o {M + 182 * DAY} POST /purge"],
-        slip(1, "A", *block("FIRST", 1, MORNING, digest(1, "A1", "first", "A", M, 18340), 18340))
-        + slip(2, "B", *block("FIRST", 2, MORNING, digest(2, "B1", "first", "B", M, 18340), 18340))
-        + ticket(3, "A", block("FIRST", 1, MORNING, digest(1, "A1", "first", "A", M, 18340), 18340)
-                 + block("SECOND", 3, MORNING, digest(3, "A2", "second", "A", M, 8140), 8140), 10200)
-        + answer(200, "PURGED 0")
-        + slip(4, "B", *block("VOID", 4, "2025-06-09 08:00:00", digest(4, "B2", "void", "B", M + 91 * DAY)))
+        slip(1, "A", *block("FIRST", 1, MORNING, A_1, 18340)) + slip(2, "B", *block("FIRST", 2, MORNING, B_2, 18340))
+        + ticket(3, "A", block("FIRST", 1, MORNING, A_1, 18340) + block("SECOND", 3, MORNING, A_3, 8140), 10200)
+        + answer(200, "PURGED 0") + slip(4, "B", *block("VOID", 4, "2025-06-09 08:00:00", B_4))
         + answer(200, "PURGED 0") + answer(200, "PURGED 0") + answer(200, "PURGED 4"))
 SINGLE_1 = ticket(1, "AB-12", block("SINGLE", 1, MORNING, digest(1, "K1", "single", "AB-12", M, 18340, 5000), 18340, 5000), 13340)
 history("47 a single over a preset", ["r 0", "t TA 5003 kg", "r 9170 4", weighing(M, "K1", "first", "AB-12"),
@@ -240,12 +244,14 @@ history("49 tables and wrong methods", PAIR + [f"o {LATER} GET /tickets.csv", f"
                                                f"o {LATER} GET /journal.csv", f"o {LATER} GET /tickets/2", f"o {LATER} GET /check"],
         PAIR_PRINTED + answer(200, TICKETS_HEAD, "2,pair,AB-12,1,2025-03-10 09:30:00,18340,8140,10200")
         + answer(404, "refused 16 no_ticket") + answer(405, "fault 405 wrong_method")
-        + answer(200, JOURNAL_HEAD, f"1,K1,first,AB-12,2025-03-10 08:00:00,18340,,20,60000,WB01,{D1}",
-                 f"2,K2,second,AB-12,2025-03-10 09:30:00,8140,,20,60000,WB01,{D2}")
+        + answer(200, JOURNAL_HEAD, f"1,K1,first,AB-12,2025-03-10 08:00:00,18340,,20,60000,WB01,{D1},{ZEROS}",
+                 f"2,K2,second,AB-12,2025-03-10 09:30:00,8140,,20,60000,WB01,{D2},{D1}")
         + ["o 200"] + TICKET_2[1:] + answer(200, "SOUND 2"))
 # Office: the requests that were judged by hand.
-TICKET_SAME = ticket(2, "AB-12", FIRST_BLOCK + block("SECOND", 2, MORNING, digest(2, "K2", "second", "AB-12", M, 18340), 18340), 0)
-VOID_4 = slip(4, "AB-12", *block("VOID", 4, MORNING, digest(4, "K5", "void", "AB-12", M)))
+SAME_2 = digest(2, "K2", "second", "AB-12", M, 18340, previous=D1)
+FIRST_3 = digest(3, "K3", "first", "AB-12", M, 8140, previous=SAME_2)
+TICKET_SAME = ticket(2, "AB-12", FIRST_BLOCK + block("SECOND", 2, MORNING, SAME_2, 18340), 0)
+VOID_4 = slip(4, "AB-12", *block("VOID", 4, MORNING, digest(4, "K5", "void", "AB-12", M, previous=FIRST_3)))
 FIRST_AB = weighing(M, "K1", "first", "AB-12")
 NO_TICKET = answer(404, "refused 16 no_ticket")
 history("50 requests 1 to 30",
@@ -265,20 +271,23 @@ history("50 requests 1 to 30",
         + answer(409, "refused 10 no_preset") + ["t TAC A"] + SLIP_1 * 2 + answer(409, "refused 1 key_reused") * 3
         + answer(409, "refused 3 clock_back") + answer(409, "refused 11 not_cleared") + answer(409, "refused 12 already_open")
         + answer(409, "refused 13 no_open") + TICKET_SAME + answer(409, "refused 11 not_cleared") + answer(409, "refused 13 no_open")
-        + slip(3, "AB-12", *block("FIRST", 3, MORNING, digest(3, "K3", "first", "AB-12", M, 8140), 8140)) + VOID_4
+        + slip(3, "AB-12", *block("FIRST", 3, MORNING, FIRST_3, 8140)) + VOID_4
         + answer(409, "refused 13 no_open") + VOID_4 + ["t TA A       5000 kg"] + TICKET_SAME + NO_TICKET * 5 + ["o 200"] + TICKET_SAME[1:])
 LONG_KEY = "Abcdefghij-0123456789-ABCDEFGHIJ"
-LONG_BLOCK = block("FIRST", 1, MORNING, digest(1, LONG_KEY, "first", "AB-12", M, 18340), 18340)
+LONG_1 = digest(1, LONG_KEY, "first", "AB-12", M, 18340)
+LONG_BLOCK = block("FIRST", 1, MORNING, LONG_1, 18340)
+S_2 = digest(2, "S1", "single", "EF-56", M, 18340, 5000, LONG_1)
+X_3 = digest(3, "X1", "second", "AB-12", M, 18340, previous=S_2)
 history("51 requests 31 to 38",
         ["r 0", "r 9170 4", weighing(M, LONG_KEY + "x", "first", "AB-12"), weighing(M, LONG_KEY, "first", "AB-12"), "t TA 5000 kg", "r 0",
          "r 9170 4", weighing(M, "S1", "single", "EF-56"), "r 0", "r 9170 4", weighing(M, "S2", "single", "EF-56"), "t TAC",
          weighing(M, "F2", "first", "AB-12"), weighing(M, "F2", "first", "GH-78"), weighing(M, "X1", "second", "AB-12"),
          void(M, "V1", "AB-12")],
         answer(422, "fault 422 bad_field") + slip(1, "AB-12", *LONG_BLOCK) + ["t TA A       5000 kg"]
-        + ticket(2, "EF-56", block("SINGLE", 2, MORNING, digest(2, "S1", "single", "EF-56", M, 18340, 5000), 18340, 5000), 13340)
+        + ticket(2, "EF-56", block("SINGLE", 2, MORNING, S_2, 18340, 5000), 13340)
         + answer(409, "refused 14 journal_full") + ["t TAC A"] + answer(409, "refused 12 already_open") + answer(409,
             "refused 14 journal_full")
-        + ticket(3, "AB-12", LONG_BLOCK + block("SECOND", 3, MORNING, digest(3, "X1", "second", "AB-12", M, 18340), 18340), 0)
+        + ticket(3, "AB-12", LONG_BLOCK + block("SECOND", 3, MORNING, X_3, 18340), 0)
         + answer(409, "refused 13 no_open"), "--capacity 3")
 history("52 requests 39 to 43",
         PAIR + ["o 1749427199 POST /purge", "o 1749427200 POST /purge", "r lost", weighing(5, "K1", "second", "ZZ"), "r 0", "r 9170 4",
@@ -286,33 +295,36 @@ history("52 requests 39 to 43",
         PAIR_PRINTED + answer(200, "PURGED 0") + answer(200, "PURGED 2") + answer(410, "refused 2 gone")
         + slip(3, "AB-12", *block("FIRST", 3, "1970-01-01 00:00:05", digest(3, "K3", "first", "AB-12", 5, 18340), 18340))
         + NO_TICKET + answer(200, "SOUND 1"))
-A1 = block("FIRST", 1, "1970-01-01 00:00:00", digest(1, "A1", "first", "A", 0, 18340), 18340)
-B1 = block("FIRST", 2, "1970-01-01 00:00:00", digest(2, "B1", "first", "B", 0, 18340), 18340)
 OLD = 91 * DAY
+OLD_1 = digest(1, "A1", "first", "A", 0, 18340)
+OLD_2 = digest(2, "B1", "first", "B", 0, 18340, previous=OLD_1)
+OLD_3 = digest(3, "B2", "second", "B", 0, 8140, previous=OLD_2)
+OLD_4 = digest(4, "A2", "second", "A", OLD, 8140, previous=OLD_3)
+A1 = block("FIRST", 1, "1970-01-01 00:00:00", OLD_1, 18340)
+B1 = block("FIRST", 2, "1970-01-01 00:00:00", OLD_2, 18340)
 history("53 requests 44 and 45",
         ["r 0", "r 9170 4", weighing(0, "A1", "first", "A"), "r 0", "r 9170 4", weighing(0, "B1", "first", "B"), "r 0", "r 4070 4",
          weighing(0, "B2", "second", "B"), f"o {OLD} POST /purge", "r 0", "r 4070 4", weighing(OLD, "A2", "second", "A"),
          f"o {OLD} POST /purge", f"o {OLD} GET /check"],
         slip(1, "A", *A1) + slip(2, "B", *B1)
-        + ticket(3, "B", B1 + block("SECOND", 3, "1970-01-01 00:00:00", digest(3, "B2", "second", "B", 0, 8140), 8140), 10200)
+        + ticket(3, "B", B1 + block("SECOND", 3, "1970-01-01 00:00:00", OLD_3, 8140), 10200)
         + answer(200, "PURGED 0")
-        + ticket(4, "A", A1 + block("SECOND", 4, "1970-04-02 00:00:00", digest(4, "A2", "second", "A", OLD, 8140), 8140), 10200)
+        + ticket(4, "A", A1 + block("SECOND", 4, "1970-04-02 00:00:00", OLD_4, 8140), 10200)
         + answer(200, "PURGED 0") + answer(200, "SOUND 4"))
+# The entry below it stood when it was appended, so it is chained to that one for good.
+YOUNG = digest(3, "S1", "single", "EF-56", 1749427200, 18340, 5000, D2)
+YOUNG_BLOCK = block("SINGLE", 3, "2025-06-09 00:00:00", YOUNG, 18340, 5000)
 history("54 request 46",
         PAIR + ["r 0", "t TA 5000 kg", "r 9170 4", weighing(1749427200, "S1", "single", "EF-56"), "o 1749427200 POST /purge",
                 "o 1749427200 GET /check", "o 0 GET /tickets/3", weighing(1749427199, "S2", "single", "EF-56"), "o 9999999999 POST /purge"],
         PAIR_PRINTED + ["t TA A       5000 kg"]
-        + ticket(3, "EF-56", block("SINGLE", 3, "2025-06-09 00:00:00", digest(3, "S1", "single", "EF-56", 1749427200, 18340, 5000), 18340,
-            5000),
-                 13340)
+        + ticket(3, "EF-56", YOUNG_BLOCK, 13340)
         + answer(200, "PURGED 2") + answer(200, "SOUND 1")
-        + ticket(3, "EF-56", block("SINGLE", 3, "2025-06-09 00:00:00", digest(3, "S1", "single", "EF-56", 1749427200, 18340, 5000), 18340,
-            5000),
-                 13340, status=200)
+        + ticket(3, "EF-56", YOUNG_BLOCK, 13340, status=200)
         + answer(409, "refused 3 clock_back") + answer(200, "PURGED 1"))
-S3 = digest(3, "S3", "single", "EF-56", LATER, 18340, 5000)
-F4 = digest(4, "F4", "first", "EF-56", LATER, 18340)
-V5 = digest(5, "V5", "void", "EF-56", LATER)
+S3 = digest(3, "S3", "single", "EF-56", LATER, 18340, 5000, D2)
+F4 = digest(4, "F4", "first", "EF-56", LATER, 18340, previous=S3)
+V5 = digest(5, "V5", "void", "EF-56", LATER, previous=F4)
 history("55 requests 47 and 48",
         PAIR + ["r 0", "t TA 5000 kg", "r 9170 4", weighing(LATER, "S3", "single", "EF-56"), "t @", "r 0", "r 9170 4",
                 weighing(LATER, "F4", "first", "EF-56"), void(LATER, "V5", "EF-56"), f"o {LATER} GET /tickets.csv",
@@ -322,11 +334,11 @@ history("55 requests 47 and 48",
         + slip(4, "EF-56", *block("FIRST", 4, HALF_PAST_NINE, F4, 18340)) + slip(5, "EF-56", *block("VOID", 5, HALF_PAST_NINE, V5))
         + answer(200, TICKETS_HEAD, "2,pair,AB-12,1,2025-03-10 09:30:00,18340,8140,10200",
                  "3,preset,EF-56,,2025-03-10 09:30:00,18340,5000,13340")
-        + answer(200, JOURNAL_HEAD, f"1,K1,first,AB-12,2025-03-10 08:00:00,18340,,20,60000,WB01,{D1}",
-                 f"2,K2,second,AB-12,2025-03-10 09:30:00,8140,,20,60000,WB01,{D2}",
-                 f"3,S3,single,EF-56,2025-03-10 09:30:00,18340,5000,20,60000,WB01,{S3}",
-                 f"4,F4,first,EF-56,2025-03-10 09:30:00,18340,,20,60000,WB01,{F4}",
-                 f"5,V5,void,EF-56,2025-03-10 09:30:00,,,20,60000,WB01,{V5}"))
+        + answer(200, JOURNAL_HEAD, f"1,K1,first,AB-12,2025-03-10 08:00:00,18340,,20,60000,WB01,{D1},{ZEROS}",
+                 f"2,K2,second,AB-12,2025-03-10 09:30:00,8140,,20,60000,WB01,{D2},{D1}",
+                 f"3,S3,single,EF-56,2025-03-10 09:30:00,18340,5000,20,60000,WB01,{S3},{D2}",
+                 f"4,F4,first,EF-56,2025-03-10 09:30:00,18340,,20,60000,WB01,{F4},{S3}",
+                 f"5,V5,void,EF-56,2025-03-10 09:30:00,,,20,60000,WB01,{V5},{F4}"))
 # Office: HTTP.
 SOUND = answer(200, "SOUND 0")
 MALFORMED = answer(400, "fault 400 malformed")

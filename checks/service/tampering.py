@@ -2,7 +2,7 @@
 
 import sqlite3
 
-from journal import digest_of
+from journal import ZEROS, digest_of
 
 KINDS = ("first", "second", "single", "void")
 
@@ -30,13 +30,19 @@ class File:
         self.do(f"UPDATE journal SET {what} WHERE number = ?", *values, number)
 
     def forge(self, number, what=None, *values):
-        """Changes an entry, and makes its digest anew."""
+        """Changes an entry, and makes its digest anew. The entry above it still holds the digest of before."""
         if what:
             self.change(number, what, *values)
-        columns = "number, request_key, kind, plate, moment, ifnull(gross_kg, '-'), ifnull(preset_kg, '-'), max_kg, serial"
-        number, key, kind, plate, moment, gross, preset, most, serial = self.do(f"SELECT {columns} FROM journal WHERE number = ?", number)[0]
-        digest = digest_of(number, key, KINDS[kind - 1], plate, moment, gross, preset, most, serial)
+        columns = "number, request_key, kind, plate, moment, ifnull(gross_kg, '-'), ifnull(preset_kg, '-'), max_kg, serial, previous"
+        number, key, kind, plate, moment, gross, preset, most, serial, previous = self.do(f"SELECT {columns} FROM journal WHERE number = ?", number)[0]
+        digest = digest_of(number, key, KINDS[kind - 1], plate, moment, gross, preset, most, serial, previous)
         self.do("UPDATE journal SET digest = ? WHERE number = ?", digest, number)
+
+    def relink(self, number):
+        """Makes the entries from this number on anew, each with the digest of the one below it where that stands."""
+        for at, in self.do("SELECT number FROM journal WHERE number >= ? ORDER BY number", number):
+            below = self.do("SELECT digest FROM journal WHERE number = ?", at - 1)
+            self.forge(at, "previous = ?", below[0][0] if below else ZEROS)
 
     def take_out(self, where):
         self.do(f"DELETE FROM journal WHERE {where}")

@@ -23,6 +23,9 @@ pub const MORNING: u64 = 1_741_593_600;
 /// An hour and a half later.
 pub const LATER: u64 = 1_741_599_000;
 
+/// The digest that an entry holds of the one before where none stood.
+pub const ZEROS: &str = "0000000000000000000000000000000000000000000000000000000000000000";
+
 /// An entry in plain numbers and texts.
 #[derive(Clone, Copy, Drop)]
 pub struct Plain<'a> {
@@ -34,6 +37,8 @@ pub struct Plain<'a> {
     pub moment: u64,
     pub gross_kg: Option<u32>,
     pub preset_kg: Option<u32>,
+    /// The digest of the entry before.
+    pub previous: &'a str,
 }
 
 /// The entry, without a digest. None if a part of it isn't within its limits.
@@ -50,5 +55,6 @@ pub fn unsealed(plain: &Plain<'_>) -> Option<Entry> {
         max_kg: ROAD.max_kg,
         serial: Serial::new(ROAD.serial)?,
         digest: Digest::empty(),
+        previous: Digest::new(plain.previous)?,
     })
 }

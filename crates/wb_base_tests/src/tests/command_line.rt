@@ -135,9 +135,9 @@ static EXPORTS: [Row; 2] = [
 static VERSIONS: [Row; 2] = [
     Row(
         "weighbridge --version",
-        "words, status 0: weighbridge 1.0.0\n",
+        "words, status 0: weighbridge 2.0.0\n",
     ),
-    Row("weighbridge -V", "words, status 0: weighbridge 1.0.0\n"),
+    Row("weighbridge -V", "words, status 0: weighbridge 2.0.0\n"),
 ];
 
 /// Words, and what their refusal holds.

@@ -67,7 +67,7 @@ static REFUSED: [Refused; 8] = [
     Refused(
         "weighbridge-converter --version",
         "0: ",
-        "weighbridge-converter 1.0.0",
+        "weighbridge-converter 2.0.0",
     ),
 ];
 

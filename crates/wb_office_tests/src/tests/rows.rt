@@ -5,10 +5,10 @@ use wb_journal::Kind;
 use wb_road::{LATER, MORNING};
 
 const SLIP: &str =
-    "WEIGHING SLIP 1\nPLATE AB-12\nFIRST NO 1\nAT 2025-03-10 08:00:00\nG      18340 kg\nE 20 kg MAX 60000 kg SERIAL WB01\nDIGEST 1ff0f144d39a8d0890cc2c886fab380c93a9dd98d1d16ca37031b262a56fd3b3\n";
+    "WEIGHING SLIP 1\nPLATE AB-12\nFIRST NO 1\nAT 2025-03-10 08:00:00\nG      18340 kg\nE 20 kg MAX 60000 kg SERIAL WB01\nDIGEST a982a0aaef75f8622de6a96ef3a1d8ddd9de4bd18d9cda420eeb00dfbfcfa68c\n";
 
 const TICKET: &str =
-    "WEIGHING TICKET 2\nPLATE AB-12\nFIRST NO 1\nAT 2025-03-10 08:00:00\nG      18340 kg\nE 20 kg MAX 60000 kg SERIAL WB01\nDIGEST 1ff0f144d39a8d0890cc2c886fab380c93a9dd98d1d16ca37031b262a56fd3b3\nSECOND NO 2\nAT 2025-03-10 09:30:00\nG       8140 kg\nE 20 kg MAX 60000 kg SERIAL WB01\nDIGEST 0cc09cd58f03a59c03e87a55f97d3a8262963dcfe6244de45c39d2f4c9e62d56\nN      10200 kg\n";
+    "WEIGHING TICKET 2\nPLATE AB-12\nFIRST NO 1\nAT 2025-03-10 08:00:00\nG      18340 kg\nE 20 kg MAX 60000 kg SERIAL WB01\nDIGEST a982a0aaef75f8622de6a96ef3a1d8ddd9de4bd18d9cda420eeb00dfbfcfa68c\nSECOND NO 2\nAT 2025-03-10 09:30:00\nG       8140 kg\nE 20 kg MAX 60000 kg SERIAL WB01\nDIGEST b3b5f9b7b253a32759e7f7696c8248ad2d85333673358587ad599ef71b8e7d3e\nN      10200 kg\n";
 
 const PAIR: &[Step] = &[
     Step::Load(0),
@@ -61,7 +61,7 @@ const ABSENT_WEIGHTS: &[Step] = &[
     Step::Ask(
         MORNING,
         Asks::Journal,
-        "number,key,kind,plate,moment,gross_kg,preset_kg,interval_kg,max_kg,serial,digest\n1,K1,first,AB-12,2025-03-10 08:00:00,18340,,20,60000,WB01,1ff0f144d39a8d0890cc2c886fab380c93a9dd98d1d16ca37031b262a56fd3b3\n2,K2,void,AB-12,2025-03-10 08:00:00,,,20,60000,WB01,e4683fc4a739b53db3dc54e3484bee95fe5c9c0b6cd453d985c47e155a359783\n",
+        "number,key,kind,plate,moment,gross_kg,preset_kg,interval_kg,max_kg,serial,digest,previous\n1,K1,first,AB-12,2025-03-10 08:00:00,18340,,20,60000,WB01,a982a0aaef75f8622de6a96ef3a1d8ddd9de4bd18d9cda420eeb00dfbfcfa68c,0000000000000000000000000000000000000000000000000000000000000000\n2,K2,void,AB-12,2025-03-10 08:00:00,,,20,60000,WB01,f871ae4558c34d72bbb21d40d0eb72892e137ecfea2731d745e93887f5a42504,a982a0aaef75f8622de6a96ef3a1d8ddd9de4bd18d9cda420eeb00dfbfcfa68c\n",
     ),
 ];
 
@@ -81,7 +81,7 @@ const DAMAGED_JOURNAL: &[Step] = &[
     Step::Ask(
         LATER,
         Asks::Journal,
-        "number,key,kind,plate,moment,gross_kg,preset_kg,interval_kg,max_kg,serial,digest\n1,K1,first,AB-12,2025-03-10 08:00:00,18360,,20,60000,WB01,1ff0f144d39a8d0890cc2c886fab380c93a9dd98d1d16ca37031b262a56fd3b3\n2,K2,second,AB-12,2025-03-10 09:30:00,8140,,20,60000,WB01,0cc09cd58f03a59c03e87a55f97d3a8262963dcfe6244de45c39d2f4c9e62d56\n",
+        "number,key,kind,plate,moment,gross_kg,preset_kg,interval_kg,max_kg,serial,digest,previous\n1,K1,first,AB-12,2025-03-10 08:00:00,18360,,20,60000,WB01,a982a0aaef75f8622de6a96ef3a1d8ddd9de4bd18d9cda420eeb00dfbfcfa68c,0000000000000000000000000000000000000000000000000000000000000000\n2,K2,second,AB-12,2025-03-10 09:30:00,8140,,20,60000,WB01,b3b5f9b7b253a32759e7f7696c8248ad2d85333673358587ad599ef71b8e7d3e,a982a0aaef75f8622de6a96ef3a1d8ddd9de4bd18d9cda420eeb00dfbfcfa68c\n",
     ),
     Step::Ask(LATER, Asks::Tickets, "damaged"),
 ];
@@ -137,7 +137,7 @@ const PRESET_TARE: &[Step] = &[
         "K1",
         Kind::Single,
         "AB-12",
-        "WEIGHING TICKET 1\nPLATE AB-12\nSINGLE NO 1\nAT 2025-03-10 08:00:00\nG      18340 kg\nPT       5000 kg\nE 20 kg MAX 60000 kg SERIAL WB01\nDIGEST b47017055431509bf71a7977ea17666a2b5bf19fff2edb2f3562435c6a4e4b97\nN      13340 kg\n",
+        "WEIGHING TICKET 1\nPLATE AB-12\nSINGLE NO 1\nAT 2025-03-10 08:00:00\nG      18340 kg\nPT       5000 kg\nE 20 kg MAX 60000 kg SERIAL WB01\nDIGEST 1cabf2920d3f2cb68d9c21efffa641b493539d7d18d6f67f249f4e51ec86c1b5\nN      13340 kg\n",
     ),
     Step::Ask(
         MORNING,
@@ -167,6 +167,7 @@ const CHANGED: &[Step] = &[
     Step::Weigh(LATER, "K3", Kind::First, "CD-34", "WEIGHING SLIP 3\n"),
     Step::Load(0),
     Step::Load(4_070),
+    // Entries 1 and 3 don't fit their digests. Each is still chained to the one before, and the check names the lesser.
     Step::Change("UPDATE journal SET gross_kg = 18360 WHERE kind = 1"),
     Step::Ask(LATER, Asks::Check, "DAMAGED 1"),
     Step::Ask(LATER, Asks::Ticket(2), "damaged"),
@@ -182,6 +183,45 @@ const CHANGED: &[Step] = &[
 #[test]
 fn finds_what_another_hand_changed(rt: HostRuntime) -> Result<(), Fail> {
     day(&rt, rt.alloc(), 1_000, CHANGED)
+}
+
+const MADE_ANEW: &[Step] = &[
+    Step::Load(0),
+    Step::Load(9_170),
+    Step::Weigh(MORNING, "K1", Kind::First, "AB-12", SLIP),
+    Step::Load(0),
+    Step::Load(4_070),
+    Step::Weigh(LATER, "K2", Kind::Second, "AB-12", TICKET),
+    // Entry 1 fits its digest again, but entry 2 is chained to the digest of before: the check names 2.
+    Step::Change(
+        "UPDATE journal SET gross_kg = 18360, digest = 'eba23531a9d727ecf55fe0311e70eb4482f3f871908d8e4fb0018b1c4730bb65' WHERE number = 1",
+    ),
+    Step::Ask(LATER, Asks::Check, "DAMAGED 2"),
+    Step::Ask(LATER, Asks::Tickets, "damaged"),
+];
+
+#[test]
+fn finds_a_digest_that_was_made_anew(rt: HostRuntime) -> Result<(), Fail> {
+    day(&rt, rt.alloc(), 1_000, MADE_ANEW)
+}
+
+const TAKEN_OUT: &[Step] = &[
+    Step::Load(0),
+    Step::Load(9_170),
+    Step::Weigh(MORNING, "K1", Kind::First, "AB-12", SLIP),
+    Step::Void(MORNING, "K2", "AB-12", "WEIGHING SLIP 2\n"),
+    Step::Load(0),
+    Step::Load(9_170),
+    Step::Weigh(MORNING, "K3", Kind::First, "AB-12", "WEIGHING SLIP 3\n"),
+    // No entry stands at 2, which is between the least number and the greatest: the check names it.
+    Step::Change("DELETE FROM journal WHERE number = 2"),
+    Step::Ask(MORNING, Asks::Check, "DAMAGED 2"),
+    Step::Ask(MORNING, Asks::Tickets, "damaged"),
+];
+
+#[test]
+fn finds_that_an_entry_was_taken_out(rt: HostRuntime) -> Result<(), Fail> {
+    day(&rt, rt.alloc(), 1_000, TAKEN_OUT)
 }
 
 const TWO_PLACES: &[Step] = &[

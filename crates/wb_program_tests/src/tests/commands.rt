@@ -7,7 +7,7 @@ use std::str;
 use std::test::Fail;
 use wb_journal::{Entry, Kind};
 use wb_program::{PrintFault, What, print_check, print_export};
-use wb_road::{LATER, MORNING, Plain, unsealed};
+use wb_road::{LATER, MORNING, Plain, ZEROS, unsealed};
 use wb_sources::converter_line;
 use wb_store::{Store, StoreFault};
 use wb_window::Reading;
@@ -16,9 +16,17 @@ const TICKETS: &str =
     "ticket,kind,plate,first,at,gross_kg,tare_kg,net_kg\n2,pair,AB-12,1,2025-03-10 09:30:00,18340,8140,10200\n";
 
 const JOURNAL: &str =
-    "number,key,kind,plate,moment,gross_kg,preset_kg,interval_kg,max_kg,serial,digest\n1,K1,first,AB-12,2025-03-10 08:00:00,18340,,20,60000,WB01,1ff0f144d39a8d0890cc2c886fab380c93a9dd98d1d16ca37031b262a56fd3b3\n2,K2,second,AB-12,2025-03-10 09:30:00,8140,,20,60000,WB01,0cc09cd58f03a59c03e87a55f97d3a8262963dcfe6244de45c39d2f4c9e62d56\n3,K3,first,AB-12,2025-03-10 09:30:00,18340,,20,60000,WB01,2df787db950f1a08430facec636ce9101fc1faabc1c6e06780e363463ffd4f3d\n";
+    "number,key,kind,plate,moment,gross_kg,preset_kg,interval_kg,max_kg,serial,digest,previous\n1,K1,first,AB-12,2025-03-10 08:00:00,18340,,20,60000,WB01,a982a0aaef75f8622de6a96ef3a1d8ddd9de4bd18d9cda420eeb00dfbfcfa68c,0000000000000000000000000000000000000000000000000000000000000000\n2,K2,second,AB-12,2025-03-10 09:30:00,8140,,20,60000,WB01,b3b5f9b7b253a32759e7f7696c8248ad2d85333673358587ad599ef71b8e7d3e,a982a0aaef75f8622de6a96ef3a1d8ddd9de4bd18d9cda420eeb00dfbfcfa68c\n3,K3,first,AB-12,2025-03-10 09:30:00,18340,,20,60000,WB01,01e30b024cfd10a6e9470e5e74cd213a6ca5558594c34dd75eaef2e83393cfa5,b3b5f9b7b253a32759e7f7696c8248ad2d85333673358587ad599ef71b8e7d3e\n";
 
-fn entry(number: u32, key: &str, kind: Kind, moment: u64, gross_kg: u32) -> Result<Entry, Fail> {
+/// An entry behind one with this digest.
+fn entry(
+    number: u32,
+    key: &str,
+    kind: Kind,
+    moment: u64,
+    gross_kg: u32,
+    previous: &str,
+) -> Result<Entry, Fail> {
     let entry = unsealed(&Plain {
         number,
         key,
@@ -27,18 +35,20 @@ fn entry(number: u32, key: &str, kind: Kind, moment: u64, gross_kg: u32) -> Resu
         moment,
         gross_kg: Some(gross_kg),
         preset_kg: None,
+        previous,
     });
     Ok(entry.ok_or("limits")?)
 }
 
 /// Stores a pair of weighings and another first one. The very first has its digest, or none.
 fn weigh(store: &mut Store<MemStore>, is_sound: bool) -> Result<(), Fail> {
-    let first = entry(1, "K1", Kind::First, MORNING, 18_340)?;
-    let second = entry(2, "K2", Kind::Second, LATER, 8_140)?;
-    let third = entry(3, "K3", Kind::First, LATER, 18_340)?;
-    store.append(&if is_sound { first.sealed() } else { first })?;
-    store.append(&second.sealed())?;
-    store.append(&third.sealed())?;
+    let first = entry(1, "K1", Kind::First, MORNING, 18_340, ZEROS)?;
+    let first = if is_sound { first.sealed() } else { first };
+    let second = entry(2, "K2", Kind::Second, LATER, 8_140, first.digest().as_str())?.sealed();
+    let third = entry(3, "K3", Kind::First, LATER, 18_340, second.digest().as_str())?.sealed();
+    store.append(&first)?;
+    store.append(&second)?;
+    store.append(&third)?;
     Ok(())
 }
 
@@ -58,6 +68,7 @@ const OF_A_SOUND_JOURNAL: &[Row] = &[
     (Asked::Export(What::Tickets, Ok(())), TICKETS),
 ];
 
+/// Entry 1 has no digest, and entry 2 holds that of it, so the check names 1.
 const OF_A_DAMAGED_JOURNAL: &[Row] = &[
     (Asked::Check(Ok(false)), "DAMAGED 1\n"),
     (Asked::Export(What::Tickets, Err(PrintFault::Damaged)), ""),
@@ -111,6 +122,7 @@ const REPORTED: &[(PrintFault, &str)] = &[
     (PrintFault::Store(StoreFault::Size), "store 3 size"),
     (PrintFault::Store(StoreFault::Foreign), "store 4 foreign"),
     (PrintFault::Store(StoreFault::Closed), "store 5 closed"),
+    (PrintFault::Store(StoreFault::OldVersion), "store 6 old_version"),
     (PrintFault::Damaged, "refused 17 damaged"),
     (PrintFault::Write, "write fault"),
     (PrintFault::Memory, "want of memory"),

@@ -14,7 +14,7 @@ const LINES: [(&str, &str); 33] = [
     ("t SI", "t S S      18340 kg\n"),
     (
         "o 1741593600 POST /weighings key=K1&kind=first&plate=AB-12",
-        "o 201\n| WEIGHING SLIP 1\n| PLATE AB-12\n| FIRST NO 1\n| AT 2025-03-10 08:00:00\n| G      18340 kg\n| E 20 kg MAX 60000 kg SERIAL WB01\n| DIGEST 1ff0f144d39a8d0890cc2c886fab380c93a9dd98d1d16ca37031b262a56fd3b3\n",
+        "o 201\n| WEIGHING SLIP 1\n| PLATE AB-12\n| FIRST NO 1\n| AT 2025-03-10 08:00:00\n| G      18340 kg\n| E 20 kg MAX 60000 kg SERIAL WB01\n| DIGEST a982a0aaef75f8622de6a96ef3a1d8ddd9de4bd18d9cda420eeb00dfbfcfa68c\n",
     ),
     (
         "# its answer was lost, so the same request is sent again",
@@ -22,7 +22,7 @@ const LINES: [(&str, &str); 33] = [
     ),
     (
         "o 1741593660 POST /weighings key=K1&kind=first&plate=AB-12",
-        "o 201\n| WEIGHING SLIP 1\n| PLATE AB-12\n| FIRST NO 1\n| AT 2025-03-10 08:00:00\n| G      18340 kg\n| E 20 kg MAX 60000 kg SERIAL WB01\n| DIGEST 1ff0f144d39a8d0890cc2c886fab380c93a9dd98d1d16ca37031b262a56fd3b3\n",
+        "o 201\n| WEIGHING SLIP 1\n| PLATE AB-12\n| FIRST NO 1\n| AT 2025-03-10 08:00:00\n| G      18340 kg\n| E 20 kg MAX 60000 kg SERIAL WB01\n| DIGEST a982a0aaef75f8622de6a96ef3a1d8ddd9de4bd18d9cda420eeb00dfbfcfa68c\n",
     ),
     ("r 0 4", ""),
     (
@@ -34,7 +34,7 @@ const LINES: [(&str, &str); 33] = [
     ("t SI", "t S S      13340 kg\n"),
     (
         "o 1741595400 POST /weighings key=K2&kind=single&plate=CD-34",
-        "o 201\n| WEIGHING TICKET 2\n| PLATE CD-34\n| SINGLE NO 2\n| AT 2025-03-10 08:30:00\n| G      18340 kg\n| PT       5000 kg\n| E 20 kg MAX 60000 kg SERIAL WB01\n| DIGEST 5f0c664abb8c2d0e37a40c7be217f6f9b0d4b09af4a18d98d64ee3b0f1c8cb52\n| N      13340 kg\n",
+        "o 201\n| WEIGHING TICKET 2\n| PLATE CD-34\n| SINGLE NO 2\n| AT 2025-03-10 08:30:00\n| G      18340 kg\n| PT       5000 kg\n| E 20 kg MAX 60000 kg SERIAL WB01\n| DIGEST 19756685d83846112a367cf124ecbfcb64fd53ebb0a82f303fc6bb58a2c85a4b\n| N      13340 kg\n",
     ),
     ("t TAC", "t TAC A\n"),
     (
@@ -49,12 +49,12 @@ const LINES: [(&str, &str); 33] = [
     ("r 6500 4", ""),
     (
         "o 1741595520 POST /weighings key=K3&kind=first&plate=EF-56",
-        "o 201\n| WEIGHING SLIP 3\n| PLATE EF-56\n| FIRST NO 3\n| AT 2025-03-10 08:32:00\n| G      13000 kg\n| E 20 kg MAX 60000 kg SERIAL WB01\n| DIGEST f02b55a2d4d7563cc7ab610a63486d6fadaa1d9fba514efeceeb93df6f5ad04a\n",
+        "o 201\n| WEIGHING SLIP 3\n| PLATE EF-56\n| FIRST NO 3\n| AT 2025-03-10 08:32:00\n| G      13000 kg\n| E 20 kg MAX 60000 kg SERIAL WB01\n| DIGEST da45d89cd5aa694edba7fa731970e07b76bd0dcb8767b88be2b6fe186388512d\n",
     ),
     ("# it leaves for good, so its weighing is voided", ""),
     (
         "o 1741595580 POST /voids key=K4&plate=EF-56",
-        "o 201\n| WEIGHING SLIP 4\n| PLATE EF-56\n| VOID NO 4\n| AT 2025-03-10 08:33:00\n| E 20 kg MAX 60000 kg SERIAL WB01\n| DIGEST 3b06b2fbd2e45db603494683aa296c42a633af7541fd6bf08353b7d651004b04\n",
+        "o 201\n| WEIGHING SLIP 4\n| PLATE EF-56\n| VOID NO 4\n| AT 2025-03-10 08:33:00\n| E 20 kg MAX 60000 kg SERIAL WB01\n| DIGEST 0f651808e87eb1100a5174bea95bae82dd1e6f2dc13ef2fbe3b6bd05fd2c27e8\n",
     ),
     ("r 0 4", ""),
     (
@@ -64,7 +64,7 @@ const LINES: [(&str, &str); 33] = [
     ("r 4070 4", ""),
     (
         "o 1741599000 POST /weighings key=K5&kind=second&plate=AB-12",
-        "o 201\n| WEIGHING TICKET 5\n| PLATE AB-12\n| FIRST NO 1\n| AT 2025-03-10 08:00:00\n| G      18340 kg\n| E 20 kg MAX 60000 kg SERIAL WB01\n| DIGEST 1ff0f144d39a8d0890cc2c886fab380c93a9dd98d1d16ca37031b262a56fd3b3\n| SECOND NO 5\n| AT 2025-03-10 09:30:00\n| G       8140 kg\n| E 20 kg MAX 60000 kg SERIAL WB01\n| DIGEST 5ae933d8044e929657f68d58acf0c9bfb5aca62cf497928b36322744b3fa24dd\n| N      10200 kg\n",
+        "o 201\n| WEIGHING TICKET 5\n| PLATE AB-12\n| FIRST NO 1\n| AT 2025-03-10 08:00:00\n| G      18340 kg\n| E 20 kg MAX 60000 kg SERIAL WB01\n| DIGEST a982a0aaef75f8622de6a96ef3a1d8ddd9de4bd18d9cda420eeb00dfbfcfa68c\n| SECOND NO 5\n| AT 2025-03-10 09:30:00\n| G       8140 kg\n| E 20 kg MAX 60000 kg SERIAL WB01\n| DIGEST 35282493bc42d10c9f0af97b1a2f0673826d7452faa2cc28bd145359dfc7e532\n| N      10200 kg\n",
     ),
     ("r 0 4", ""),
     ("o 1741599060 GET /check", "o 200\n| SOUND 5\n"),

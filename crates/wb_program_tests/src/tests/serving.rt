@@ -85,7 +85,7 @@ const SERVICES: &[Service] = &[
         turns: &[CALM, LOADED, LOADED, LOADED, WEIGHED_AND_ASKED, WEIGHED],
         limit: 1_000,
         end: ServeEnd::Turns(6),
-        handed: "reply: S S      18340 kg\r\nresponse: HTTP/1.1 201 Created\r\nDate: Mon, 10 Mar 2025 08:00:00 GMT\r\nContent-Type: text/plain; charset=utf-8\r\nContent-Length: 183\r\nConnection: close\r\n\r\nWEIGHING SLIP 1\nPLATE AB-12\nFIRST NO 1\nAT 2025-03-10 08:00:00\nG      18340 kg\nE 20 kg MAX 60000 kg SERIAL WB01\nDIGEST 1ff0f144d39a8d0890cc2c886fab380c93a9dd98d1d16ca37031b262a56fd3b3\nresponse: HTTP/1.1 201 Created\r\nDate: Mon, 10 Mar 2025 08:00:00 GMT\r\nContent-Type: text/plain; charset=utf-8\r\nContent-Length: 183\r\nConnection: close\r\n\r\nWEIGHING SLIP 1\nPLATE AB-12\nFIRST NO 1\nAT 2025-03-10 08:00:00\nG      18340 kg\nE 20 kg MAX 60000 kg SERIAL WB01\nDIGEST 1ff0f144d39a8d0890cc2c886fab380c93a9dd98d1d16ca37031b262a56fd3b3\n",
+        handed: "reply: S S      18340 kg\r\nresponse: HTTP/1.1 201 Created\r\nDate: Mon, 10 Mar 2025 08:00:00 GMT\r\nContent-Type: text/plain; charset=utf-8\r\nContent-Length: 183\r\nConnection: close\r\n\r\nWEIGHING SLIP 1\nPLATE AB-12\nFIRST NO 1\nAT 2025-03-10 08:00:00\nG      18340 kg\nE 20 kg MAX 60000 kg SERIAL WB01\nDIGEST a982a0aaef75f8622de6a96ef3a1d8ddd9de4bd18d9cda420eeb00dfbfcfa68c\nresponse: HTTP/1.1 201 Created\r\nDate: Mon, 10 Mar 2025 08:00:00 GMT\r\nContent-Type: text/plain; charset=utf-8\r\nContent-Length: 183\r\nConnection: close\r\n\r\nWEIGHING SLIP 1\nPLATE AB-12\nFIRST NO 1\nAT 2025-03-10 08:00:00\nG      18340 kg\nE 20 kg MAX 60000 kg SERIAL WB01\nDIGEST a982a0aaef75f8622de6a96ef3a1d8ddd9de4bd18d9cda420eeb00dfbfcfa68c\n",
         answered: "0tnLtnLtnLtnLtomLtome",
     },
     Service {

@@ -28,8 +28,8 @@ const ALL: &[Row] = &[
     ),
     (
         "GET /journal.csv HTTP/1.1\r\n\r\n",
-        382_647,
-        "8c7993c9d6d41e67ce7035de7b1b89d495ccf4b728b8b84b8062276fcbd90e41",
+        577_656,
+        "13bd25a2757cd250cfc5d6f6fdf1a3407dee084696c28c30f4ac02b8285beb16",
     ),
     (
         "GET /tickets.csv HTTP/1.1\r\n\r\n",
@@ -39,7 +39,7 @@ const ALL: &[Row] = &[
     (
         "GET /tickets/3000 HTTP/1.1\r\n\r\n",
         366,
-        "169771ee219b5ae25c5eacb177f32c37427ae22ba8f7c92d696c627843225edf",
+        "8acfaab3845980c4d2b655dfa3bc98f5b3327590cc427cc8e1db645d2f11a49d",
     ),
 ];
 
@@ -52,8 +52,8 @@ const LEFT: &[Row] = &[
     ),
     (
         "GET /journal.csv HTTP/1.1\r\n\r\n",
-        262_123,
-        "db8009311b072c54466393b9f4b47f493cbdf4fa86b13ef860b02bb1ffc14b99",
+        394_732,
+        "e78202547fabec5953f9018e57ec7617f54529e06a4fbcaa3e7fc0685da51b95",
     ),
     (
         "GET /tickets.csv HTTP/1.1\r\n\r\n",
