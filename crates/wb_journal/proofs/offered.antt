@@ -1,4 +1,6 @@
 -- Lemmas for the crates above; nothing else of these proofs is used there.
+pub mod Chained
+pub mod Digests
 pub mod Kept
 pub mod Members
 pub mod Open
