@@ -14,6 +14,11 @@ const EXPORT_EXAMPLE: &str = "Example:
   weighbridge export --file journal.db --what tickets > tickets.csv
 The tickets of a damaged journal are refused (status 1).";
 
+const MIGRATE_EXAMPLE: &str = "Example:
+  weighbridge migrate --file journal.db --to journal-2.db
+writes the journal of version 1 in journal.db into the new file journal-2.db as version 2, and prints MIGRATED and how many
+entries there are. journal.db stays as it is. Stop the service first.";
+
 /// The file of a journal.
 pub(crate) fn file_argument<'a>(alloc: Global, help: &'a str) -> Arg<'a> {
     Arg::new(alloc, "file")
@@ -51,11 +56,46 @@ pub(crate) fn export_command<'a>(alloc: Global) -> Result<Command<'a>, AllocErro
     export.arg(what_argument(alloc))
 }
 
+/// The file that a journal is written to.
+fn to_argument<'a>(alloc: Global) -> Arg<'a> {
+    Arg::new(alloc, "to")
+        .long("to")
+        .value_name("FILE")
+        .required(true)
+        .action(ArgAction::Set)
+        .help(
+            "file of the journal as version 2, made if it isn't there; one that is not empty is refused",
+        )
+}
+
+/// The subcommand `migrate`.
+pub(crate) fn migrate_command<'a>(alloc: Global) -> Result<Command<'a>, AllocError> {
+    let migrate = Command::new(alloc, "migrate")
+        .about("writes the journal in a file of version 1 into a new file, as version 2")
+        .after_help(MIGRATE_EXAMPLE)
+        .arg(file_argument(
+            alloc,
+            "file of the journal of version 1, which has to be there",
+        ))?;
+    migrate.arg(to_argument(alloc))
+}
+
 /// The file that the words name. None if they name none, which `clap` doesn't let through.
 pub(crate) fn file(alloc: Global, words: &ArgMatches<'_>) -> Result<Option<String>, AllocError> {
     match words.get_str("file") {
         Some(file) => Ok(Some(String::from_str(alloc, file)?)),
         None => Ok(None),
+    }
+}
+
+/// From which file into which a journal is to be brought over. Nothing if a file isn't named, which `clap` doesn't let through.
+pub(crate) fn migration_of(alloc: Global, words: &ArgMatches<'_>) -> Result<Asked, AllocError> {
+    let Some(from) = file(alloc, words)? else {
+        return Ok(Asked::Nothing);
+    };
+    match words.get_str("to") {
+        Some(to) => Ok(Asked::Migrate(from, String::from_str(alloc, to)?)),
+        None => Ok(Asked::Nothing),
     }
 }
 

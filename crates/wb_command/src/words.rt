@@ -1,5 +1,7 @@
 //! The words of the command line.
-use crate::journal_words::{check_command, export_command, export_of, file};
+use crate::journal_words::{
+    check_command, export_command, export_of, file, migrate_command, migration_of,
+};
 use crate::service_words::{Service, serve_command, service_of};
 use crate::setup_words::{SetupFault, instrument, with_setup};
 use clap::{ArgMatches, Command};
@@ -29,6 +31,8 @@ pub enum Asked {
     ExportJournal(String),
     /// The tickets of the journal in this file are to be exported.
     ExportTickets(String),
+    /// The journal of version 1 in the first file is to be brought into the second, as version 2.
+    Migrate(String, String),
     /// The setup is refused.
     SetupRefused(SetupFault),
     /// The words are refused, or ask for help or the version.
@@ -56,6 +60,7 @@ fn asked_of(alloc: Global, name: &str, words: &ArgMatches<'_>) -> Result<Asked, 
         "serve" => serve_of(alloc, words),
         "check" => check_of(alloc, words),
         "export" => export_of(alloc, words),
+        "migrate" => migration_of(alloc, words),
         _ => Ok(Asked::Nothing),
     }
 }
@@ -101,14 +106,16 @@ enum Subcommand {
     Serve,
     Check,
     Export,
+    Migrate,
 }
 
 /// The subcommands, in the order in which help shows them.
-static SUBCOMMANDS: [Subcommand; 4] = [
+static SUBCOMMANDS: [Subcommand; 5] = [
     Subcommand::Replay,
     Subcommand::Serve,
     Subcommand::Check,
     Subcommand::Export,
+    Subcommand::Migrate,
 ];
 
 fn subcommand_of<'a>(alloc: Global, name: Subcommand) -> Result<Command<'a>, AllocError> {
@@ -117,6 +124,7 @@ fn subcommand_of<'a>(alloc: Global, name: Subcommand) -> Result<Command<'a>, All
         Subcommand::Serve => serve_command(alloc),
         Subcommand::Check => check_command(alloc),
         Subcommand::Export => export_command(alloc),
+        Subcommand::Migrate => migrate_command(alloc),
     }
 }
 

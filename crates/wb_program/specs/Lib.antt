@@ -10,7 +10,8 @@ pub mod Replayed
 -- The service: what comes in a turn, and how it ends.
 pub mod Turns
 pub mod Served
--- What a check and the exports print.
+-- What a check, the exports and a migration print.
 pub mod CheckAndExports
+pub mod Migrated
 -- What private functions' contracts need besides.
 pub mod helpers

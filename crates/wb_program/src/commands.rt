@@ -91,7 +91,11 @@ fn print_finding<O: Write>(finding: Finding, writer: &mut O) -> Result<bool, Pri
 }
 
 /// Prints a word and a number on a line.
-fn print_number<O: Write>(word: &[u8], number: u64, writer: &mut O) -> Result<(), PrintFault>
+pub(crate) fn print_number<O: Write>(
+    word: &[u8],
+    number: u64,
+    writer: &mut O,
+) -> Result<(), PrintFault>
     ensures { MatchResult result
         (λ _. Appends (O.contents writer.old) (O.contents writer.new)
         (word.now ++ decimal number ++ codes "\n"))

@@ -1,9 +1,11 @@
 //! The program `weighbridge`: the process's own streams and files around what `wb_program` does, as its command line asks.
 #![tactic(auto)]
 
+mod migrating;
 mod service;
 mod sources;
 
+use crate::migrating::migrate_file;
 use crate::service::serve_bridge;
 use crate::sources::{KIT, SOURCES};
 use clap::error::ErrorKind;
@@ -30,6 +32,7 @@ fn main(rt: HostRuntime) -> io::Result<ExitCode> {
         Asked::Check(path) => run_print(&rt, path.as_str(), Print::Check),
         Asked::ExportJournal(path) => run_print(&rt, path.as_str(), Print::Export(What::Journal)),
         Asked::ExportTickets(path) => run_print(&rt, path.as_str(), Print::Export(What::Tickets)),
+        Asked::Migrate(from, to) => run_migrate(&rt, from.as_str(), to.as_str()),
         Asked::SetupRefused(fault) => {
             eprintln!(rt; "{fault}")?;
             Ok(ExitCode::from(fault.status()))
@@ -119,6 +122,17 @@ fn print_from<D: Alter>(
         Print::Export(what) => {
             print_export(rt.alloc(), store, what, out)?;
             Ok(true)
+        }
+    }
+}
+
+/// Migrates a journal, or reports the fault that was met.
+fn run_migrate(rt: &HostRuntime, from: &str, to: &str) -> io::Result<ExitCode> {
+    match migrate_file(rt, from, to) {
+        Ok(()) => Ok(ExitCode::SUCCESS),
+        Err(fault) => {
+            eprintln!(rt; "{fault}")?;
+            Ok(ExitCode::from(FAULT))
         }
     }
 }

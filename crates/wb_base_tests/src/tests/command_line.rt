@@ -132,6 +132,17 @@ static EXPORTS: [Row; 2] = [
     ),
 ];
 
+static MIGRATIONS: [Row; 2] = [
+    Row(
+        "weighbridge migrate --file journal.db --to new.db",
+        "migrate: journal.db to new.db",
+    ),
+    Row(
+        "weighbridge migrate --to=new.db --file=journal.db",
+        "migrate: journal.db to new.db",
+    ),
+];
+
 static VERSIONS: [Row; 2] = [
     Row(
         "weighbridge --version",
@@ -141,7 +152,7 @@ static VERSIONS: [Row; 2] = [
 ];
 
 /// Words, and what their refusal holds.
-static REFUSALS: [Row; 28] = [
+static REFUSALS: [Row; 32] = [
     Row("weighbridge", "replay"),
     Row("weighbridge weigh", "weigh"),
     Row("weighbridge replay --load 1", "--load"),
@@ -200,10 +211,17 @@ static REFUSALS: [Row; 28] = [
         "Journal",
     ),
     Row("weighbridge export --file journal.db --what", "tickets"),
+    Row("weighbridge migrate --to new.db", "--file"),
+    Row("weighbridge migrate --file journal.db", "--to"),
+    Row("weighbridge migrate journal.db new.db", "journal.db"),
+    Row(
+        "weighbridge migrate --file a.db --to b.db --what journal",
+        "--what",
+    ),
 ];
 
 /// Words, and what their help holds.
-static HELP: [Row; 34] = [
+static HELP: [Row; 39] = [
     Row(
         "weighbridge --help",
         "terminal and office of a public weighbridge",
@@ -212,6 +230,7 @@ static HELP: [Row; 34] = [
     Row("weighbridge --help", "\n  serve "),
     Row("weighbridge --help", "\n  check "),
     Row("weighbridge --help", "\n  export "),
+    Row("weighbridge --help", "\n  migrate "),
     Row("weighbridge replay --help", "replays a trace"),
     Row("weighbridge replay --help", "--interval"),
     Row("weighbridge replay --help", "--max"),
@@ -252,6 +271,13 @@ static HELP: [Row; 34] = [
     Row(
         "weighbridge export --help",
         "  weighbridge export --file journal.db --what tickets",
+    ),
+    Row("weighbridge migrate --help", "as version 2"),
+    Row("weighbridge migrate --help", "--file <FILE>"),
+    Row("weighbridge migrate --help", "--to <FILE>"),
+    Row(
+        "weighbridge migrate --help",
+        "  weighbridge migrate --file journal.db --to journal-2.db\n",
     ),
 ];
 
@@ -310,6 +336,11 @@ fn write_both(what: &str, file: &str, text: &mut String) -> Result<(), Fail> {
     push(file, text)
 }
 
+fn write_migration(from: &str, to: &str, text: &mut String) -> Result<(), Fail> {
+    write_both("migrate: ", from, text)?;
+    write_both(" to ", to, text)
+}
+
 fn write_fault(fault: &SetupFault, text: &mut String) -> Result<(), Fail> {
     Ok(write!(text, "status {}: {fault}", fault.status())?)
 }
@@ -326,6 +357,7 @@ fn write_asked(asked: &Asked, text: &mut String) -> Result<(), Fail> {
         Asked::Check(file) => write_both("check: ", file.as_str(), text),
         Asked::ExportJournal(file) => write_both("export journal: ", file.as_str(), text),
         Asked::ExportTickets(file) => write_both("export tickets: ", file.as_str(), text),
+        Asked::Migrate(from, to) => write_migration(from.as_str(), to.as_str(), text),
         Asked::SetupRefused(fault) => write_fault(fault, text),
         Asked::WordsRefused(error) => write_error(error, text),
         Asked::Nothing => write_both("nothing", "", text),
@@ -398,6 +430,11 @@ fn asks_for_the_check_of_a_file(rt: HostRuntime) -> Result<(), Fail> {
 #[test]
 fn asks_for_either_export_of_a_file(rt: HostRuntime) -> Result<(), Fail> {
     are_understood(&rt, rt.alloc(), &EXPORTS)
+}
+
+#[test]
+fn asks_for_the_migration_of_a_file_into_another(rt: HostRuntime) -> Result<(), Fail> {
+    are_understood(&rt, rt.alloc(), &MIGRATIONS)
 }
 
 #[test]

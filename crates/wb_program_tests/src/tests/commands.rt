@@ -45,7 +45,15 @@ fn weigh(store: &mut Store<MemStore>, is_sound: bool) -> Result<(), Fail> {
     let first = entry(1, "K1", Kind::First, MORNING, 18_340, ZEROS)?;
     let first = if is_sound { first.sealed() } else { first };
     let second = entry(2, "K2", Kind::Second, LATER, 8_140, first.digest().as_str())?.sealed();
-    let third = entry(3, "K3", Kind::First, LATER, 18_340, second.digest().as_str())?.sealed();
+    let third = entry(
+        3,
+        "K3",
+        Kind::First,
+        LATER,
+        18_340,
+        second.digest().as_str(),
+    )?
+    .sealed();
     store.append(&first)?;
     store.append(&second)?;
     store.append(&third)?;
@@ -122,7 +130,20 @@ const REPORTED: &[(PrintFault, &str)] = &[
     (PrintFault::Store(StoreFault::Size), "store 3 size"),
     (PrintFault::Store(StoreFault::Foreign), "store 4 foreign"),
     (PrintFault::Store(StoreFault::Closed), "store 5 closed"),
-    (PrintFault::Store(StoreFault::OldVersion), "store 6 old_version"),
+    (
+        PrintFault::Store(StoreFault::OldVersion),
+        "store 6 old_version",
+    ),
+    (
+        PrintFault::Store(StoreFault::NotVersion1),
+        "store 7 not_version_1",
+    ),
+    (PrintFault::Store(StoreFault::NotEmpty), "store 8 not_empty"),
+    (
+        PrintFault::Store(StoreFault::Damaged(2)),
+        "store 9 damaged 2",
+    ),
+    (PrintFault::Store(StoreFault::Gap(2)), "store 10 gap 2"),
     (PrintFault::Damaged, "refused 17 damaged"),
     (PrintFault::Write, "write fault"),
     (PrintFault::Memory, "want of memory"),
