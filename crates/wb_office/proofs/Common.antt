@@ -14,11 +14,12 @@ pub use Rattle.sqlite.specs.Store.{Ghosts}
 pub use Rattle.wb_instrument.specs.Limits.{is_over, is_under}
 pub use Rattle.wb_instrument.specs.Rounding.{round}
 pub use Rattle.wb_instrument.specs.Setup.{IsSetup, Setup, intervals}
-pub use Rattle.wb_journal.proofs.Theorems.{law_of_closing}
+pub use Rattle.wb_journal.proofs.Newest.{newest-more, newest-none, newest-some}
+pub use Rattle.wb_journal.proofs.Theorems.{law_of_addition, law_of_closing, law_of_kept}
 pub use Rattle.wb_journal.proofs.offered.Kept.{kept-partner}
 pub use Rattle.wb_journal.proofs.offered.Members.{Among, among-contains, among-either, find-absent, find-among}
 pub use Rattle.wb_journal.proofs.offered.Seals.{sound-sealed}
-pub use Rattle.wb_journal.specs.Check.{finding, finding_in, is_faulty}
+pub use Rattle.wb_journal.specs.Check.{AreSound, finding, finding_in, least_faulty}
 pub use Rattle.wb_journal.specs.Digest.{is_sound_entry, sealed_entry}
 pub use Rattle.wb_journal.specs.Kind.{is_closing_kind, is_first_kind, is_second_kind, is_single_kind, is_void_kind, same_kind}
 pub use Rattle.wb_journal.specs.Moment.{day_of}
@@ -39,11 +40,11 @@ pub use Rattle.wb_scale.specs.Zero.{zero_now}
 unfoldable pub use Rattle.wb_scale.specs.Zero.{above_zero}
 pub use Rattle.wb_scale.specs.declared.answers.TareNow.{TareNow}
 pub use Rattle.wb_scale.specs.declared.answers.TareNow.TheVariants.{Empty, Preset, Weighed}
-pub use Rattle.wb_store.proofs.offered.LaterLists.{left_rises, next_stays, one, open_count_more}
+pub use Rattle.wb_store.proofs.offered.LaterLists.{left_rises, next_from_newest, next_stays, one, open_count_more}
 pub use Rattle.wb_store.specs.Faults.{closed_by, is_disk}
 pub use Rattle.wb_store.specs.Journal.{IsHonest, Reopens, StoreStands, StoreView}
 pub use Rattle.wb_store.specs.Keeping.{Closes, Keeps, LeavesEither, LeavesOnly}
-pub use Rattle.wb_store.specs.Lists.{AreLists, HaveOwnKeys, IsNext, entry_by_key, greatest, greatest_spent, has_key, is_of_key, is_spent, number_after}
+pub use Rattle.wb_store.specs.Lists.{AreLists, HaveOwnKeys, IsNext, entry_by_key, greatest, greatest_spent, has_key, is_of_key, is_spent, newest_entry, number_after, previous_after}
 pub use Rattle.wb_store.specs.Rows.{SpentKey}
 pub use Rattle.wb_store.specs.declared.fault.StoreFault.{StoreFault}
 pub use Rattle.wb_store.specs.declared.fault.StoreFault.TheVariants.{Closed, Disk, Foreign, Memory}
@@ -54,7 +55,7 @@ pub use Rattle.wb_office.specs.Conditions.{clock_back, holds_of, is_damaged, is_
 pub use Rattle.wb_office.specs.CourseOfRequests.{AreBounds, Journal, RequestTurn, added, added_by, added_in_turn, additions, after, after_turn, answer_in, answered_with, entry_of, left, situation_of_turn, with_one}
 pub use Rattle.wb_office.specs.Exports.{journal_columns, journal_csv, journal_record, record_with, records_text, ticket_columns, ticket_record, tickets_csv}
 pub use Rattle.wb_office.specs.Laws.{AllWeighed, AnsweredAgain, FullAtLastNumber, IsByKey, IsGone, IsKeptEntry, IsNumbered, IsWeighed, KeepsPartners, KeyDecides, NumbersRun, OneEntryPerKey, WithinCapacity, is_taken}
-pub use Rattle.wb_office.specs.LawsOfJournals.{AreSound, ChangesNothing, ClosingsHavePartners, FirstsClosedOnce, IsTakenOut, KeptForItsTime, RefusalsChangeNothing, StaysSound, TakesOut, TicketGivenAgain}
+pub use Rattle.wb_office.specs.LawsOfJournals.{ChangesNothing, ClosingsHavePartners, FirstsClosedOnce, IsTakenOut, KeptForItsTime, RefusalsChangeNothing, StaysSound, TakesOut, TicketGivenAgain}
 pub use Rattle.wb_office.specs.Serves.{IsNow, Marks, Serves, content_of, content_or_refusal, fault_of_refusal, is_of_store, is_store_refusal}
 pub use Rattle.wb_office.specs.Situation.{Asking, IsOnLists, Situation}
 pub use Rattle.wb_office.specs.Stops.{AnsweredAfterStops, Asks, IsAnsweredByKey, IsFoundAgain}

@@ -1,8 +1,7 @@
 -- Laws on what stands in a journal after whatever was asked, in the words of a haulier, an operator and an inspector.
-use Rattle.std.specs.Prelude.{◌≡◌, ◌⊎◌, ℕ, ◌<◌, true, false, Contains, List, [], ◌∷◌, length, Some, Ok, Err}
+use Rattle.std.specs.Prelude.{◌≡◌, ◌⊎◌, ℕ, ◌<◌, true, false, Contains, List, [], ◌∷◌, Some, Ok, Err}
 use Rattle.wb_journal.specs.declared.entry.EntryParts.{EntryParts}
-use Rattle.wb_journal.specs.declared.journal_check.Finding.TheVariants.{Sound}
-use Rattle.wb_journal.specs.Check.{finding_in}
+use Rattle.wb_journal.specs.Check.{AreSound}
 use Rattle.wb_journal.specs.Kind.{is_closing_kind}
 use Rattle.wb_journal.specs.Moment.{day_of}
 use Rattle.wb_journal.specs.Pairs.{partner_in, with_number}
@@ -15,10 +14,6 @@ use Rattle.wb_store.specs.Purging.{spent_by}
 use Rattle.wb_office.specs.Answer.{Content, IsBoundAt, answer, entries_left, marks, spent_left, ticket_answer}
 use Rattle.wb_office.specs.Situation.{Situation}
 use Rattle.wb_office.specs.CourseOfRequests.{AreBounds, Journal, RequestTurn, additions, after}
-
--- the check finds no damage
-abbrev pub AreSound : List EntryParts → Type 0
-AreSound es = finding_in es ≡ Sound (length es)
 
 -- ---- an entry
 

@@ -9,7 +9,7 @@ use Rattle.wb_scale.specs.declared.answers.TareNow.{TareNow}
 use Rattle.wb_scale.specs.declared.answers.TareNow.TheVariants.{Empty, Weighed, Preset}
 use Rattle.wb_scale.specs.Indication.{gross}
 use Rattle.wb_scale.specs.Tare.{tare_now}
-use Rattle.wb_store.specs.Lists.{entry_by_key, number_after}
+use Rattle.wb_store.specs.Lists.{entry_by_key, newest_entry, number_after, previous_after}
 use Rattle.wb_office.specs.declared.refusal.Refusal.{Refusal}
 use Rattle.wb_office.specs.declared.refusal.Refusal.TheVariants.{KeyReused, Gone, ClockBack, NoLoad, Overload, Underload, Unstable, BelowMin, TareActive, NoPreset, NotCleared, AlreadyOpen, NoOpen, JournalFull, Damaged}
 use Rattle.wb_office.specs.Situation.{Asking}
@@ -62,7 +62,7 @@ preset_stored s Second tare = None
 preset_stored s Single tare = preset_of s tare
 preset_stored s Void tare = None
 
--- the entry that is added, with its digest
+-- the entry that is added, with the digest of the entry one number below, and its own
 abbrev pub entry_added : Asking → EntryParts
 entry_added a = sealed_entry (record {
   number = number_after a.now.entries a.now.spent;
@@ -76,6 +76,7 @@ entry_added a = sealed_entry (record {
   max_kg = a.now.setup.max_kg;
   serial = a.now.setup.serial;
   digest = [];
+  previous = previous_after (newest_entry a.now.entries) (number_after a.now.entries a.now.spent);
 })
 
 pub data Verdict : Type 0 where

@@ -13,7 +13,7 @@ ghost use Rattle.wb_store.specs.Rows.{SpentKey};
 
 use sqlite::{Alter, Connection, MemStore};
 use std::alloc::Global;
-use wb_journal::Entry;
+use wb_journal::{Entry, previous_of};
 use wb_store::{Store, StoreFault};
 
 /// A store in memory, with nothing in it. None where memory is refused.
@@ -30,8 +30,9 @@ pub fn open_in_memory(alloc: Global) -> Option<Store<MemStore>>
     }
 }
 
-/// Adds an entry, where it has the next number, and its key neither stands nor was spent: what `append` asks for. Tells whether
-/// it was added; a crash leaves the entries that stand then.
+/// Adds an entry, where it has the next number, its key neither stands nor was spent, and it has the digest of the entry one number
+/// below, zeros where none stands there: what `append` asks for. Tells whether it was added; a crash leaves the entries that stand
+/// then.
 pub fn add_if_free<D: Alter>(store: &mut Store<D>, entry: &Entry) -> Result<bool, StoreFault>
     ensures { (entries : List EntryParts) (spent : List SpentKey)
         → StoreStands D.Store store.old entries spent → IsHonest D.Store store.new
@@ -46,6 +47,11 @@ pub fn add_if_free<D: Alter>(store: &mut Store<D>, entry: &Entry) -> Result<bool
         return Ok(false);
     }
     if store.next_number()? != u64::from(entry.number()) {
+        return Ok(false);
+    }
+    let newest = store.newest()?;
+    let previous = previous_of(newest.as_ref(), entry.number());
+    if entry.previous().as_str() != previous.as_str() {
         return Ok(false);
     }
     store.append(entry)?;

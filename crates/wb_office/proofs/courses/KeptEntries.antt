@@ -1,17 +1,17 @@
 -- An entry is kept until a purge at its bound takes it out.
 use Rattle.std.proofs.Common.{◌≡◌, ◌∙◌, sym, ap, subst, ◌⊎◌, inl, inr, ℕ, ◌<◌, Bool, true, false, if◌then◌else◌, nat_le, List, [], ◌∷◌, length, Option, Some, None, refl, arith}
-use Rattle.wb_office.proofs.Common.{nat_tests, find, Contains, EntryParts, Sound, finding_in, finding, is_faulty, day_of, IsOfAge, kept, Among, among-contains, SpentKey, Purge, IsBoundAt, Outcome, outcome_of, adds, entries_after, nothing, outcome, purges, spent_by_outcome, spent_by, unless_damaged, AreBounds, Journal, RequestTurn, added_in_turn, added, additions, after, after_turn, left, situation_of_turn, with_one, AreSound, IsTakenOut, KeptForItsTime, TakesOut, HasBound}
+use Rattle.wb_office.proofs.Common.{nat_tests, Contains, EntryParts, Sound, finding_in, finding, least_faulty, day_of, IsOfAge, kept, Among, among-contains, SpentKey, Purge, IsBoundAt, Outcome, outcome_of, adds, entries_after, nothing, outcome, purges, spent_by_outcome, spent_by, unless_damaged, AreBounds, Journal, RequestTurn, added_in_turn, added, additions, after, after_turn, left, situation_of_turn, with_one, AreSound, IsTakenOut, KeptForItsTime, TakesOut, HasBound}
 use Rattle.wb_office.proofs.FoundEntries.{none_some}
 use Rattle.wb_office.proofs.Members.{among_left, among_right, contains, kept_among, spent_among}
 use Rattle.wb_office.proofs.courses.AcceptedEntries.{Comes, adding, comes, is_added, purging, stays}
 
 -- a finding of no damage counts the entries
 pub all_counted : (es : List EntryParts) (count : ℕ) → finding_in es ≡ Sound count → AreSound es
-all_counted es count is = go (find (is_faulty es) es) is
+all_counted es count is = go (least_faulty es) is
   where
-    go : (o : Option EntryParts) → finding o (length es) ≡ Sound count → finding o (length es) ≡ Sound (length es)
+    go : (o : Option ℕ) → finding o (length es) ≡ Sound count → finding o (length es) ≡ Sound (length es)
     go None s = refl
-    go (Some e) s = absurd (cc)
+    go (Some n) s = absurd (cc)
 
 -- ---- one turn
 

@@ -1,82 +1,81 @@
 -- A journal in which the check finds no damage, after whatever was asked.
-use Rattle.std.proofs.Common.{◌≡◌, ◌∙◌, sym, ap, subst, ◌⊎◌, inl, inr, ℕ, ◌<◌, ◌≤◌, Bool, true, false, not, ◌&&◌, ◌||◌, List, [], ◌∷◌, ◌++◌, length, Option, Some, None, refl, arith}
-use Rattle.wb_office.proofs.Common.{find, is_none, EntryParts, Sound, finding, is_faulty, is_sound_entry, is_closing_kind, day_of, partner_in, kept, IsRising, kept-partner, Among, among-either, find-absent, sound-sealed, law_of_closing, greatest, greatest_spent, number_after, Request, IsBoundAt, Outcome, entries_after, entries_left, Asking, Situation, Journal, after, situation_of_turn, AreSound, StaysSound, accepted, verdict, HasBound}
-use Rattle.wb_office.proofs.FoundEntries.{find_none}
-use Rattle.wb_office.proofs.Members.{among_kept, none_passes}
+use Rattle.std.proofs.Common.{◌≡◌, ◌∙◌, sym, ap, subst, ℕ, ◌+◌, ◌≤◌, nat_le, List, [], ◌∷◌, ◌++◌, Option, Some, None, refl, arith}
+use Rattle.wb_office.proofs.Common.{EntryParts, day_of, kept, IsRising, left_rises, sound-sealed, law_of_addition, law_of_kept, newest-more, newest-none, newest-some, newest_entry, next_from_newest, next_stays, number_after, SpentKey, Request, IsBoundAt, Outcome, entries_after, entries_left, spent_by_outcome, spent_left, Asking, Situation, situation_of_turn, AreSound, StaysSound, accepted, verdict, HasBound}
+use Rattle.wb_journal.specs.LawsOfChain.{Follows}
+use Rattle.wb_store.specs.Purging.{spent_after_purge}
+use Rattle.wb_office.proofs.FoundEntries.{is_some_same, none_some}
+use Rattle.wb_office.proofs.Members.{among_kept, kept_among}
 use Rattle.wb_office.proofs.NewEntries.{unsealed}
 use Rattle.wb_office.proofs.courses.AcceptedEntries.{Comes, adding, asking_for, comes, is_new, purging, stays}
-use Rattle.wb_office.proofs.courses.KnownEntries.{at_most_greatest, begins, has_open, kept_after, rising_left}
-use Rattle.wb_office.proofs.courses.Numbers.{number_is_next}
-use Rattle.wb_office.proofs.courses.Places.{above_greatest}
-use Rattle.wb_office.proofs.courses.StoredEntries.{partner_more}
+use Rattle.wb_office.proofs.courses.KnownEntries.{begins, has_open, kept_after}
+use Rattle.wb_office.proofs.courses.Numbers.{next_more, number_is_next}
 
--- ---- what the check finds
-
-abbrev AreWhole : List EntryParts → Type 0
-AreWhole es = (x : EntryParts) → Among x es → is_faulty es x ≡ false
-
-whole : (es : List EntryParts) → AreSound es → AreWhole es
-whole es sound x m = none_passes (is_faulty es) x es (find_none (is_faulty es) es (go (find (is_faulty es) es) sound)) m
-  where
-    go : (o : Option EntryParts) → finding o (length es) ≡ Sound (length es) → o ≡ None
-    go None s = refl
-    go (Some e) s = absurd (cc)
-
-sound_of : (es : List EntryParts) → AreWhole es → AreSound es
-sound_of es none = ap (λ o. finding o (length es)) (find-absent (is_faulty es) es none)
-
-same_fault : (es fs : List EntryParts) (x : EntryParts) → partner_in es x ≡ partner_in fs x → is_faulty es x ≡ is_faulty fs x
-same_fault es fs x same = ap (λ p. not (is_sound_entry x) || (is_closing_kind x.kind && is_none p)) same
+-- by number, without damage, and the newest entry, where one stands, has the number before the next
+record IsWhole (es : List EntryParts) (ks : List SpentKey) : Type 0 where
+  pub rising : IsRising es
+  pub sound : AreSound es
+  pub next : (newest : EntryParts) → newest_entry es ≡ Some newest → number_after es ks ≡ newest.number + 1
 
 -- ---- after one request
 
-whole_more : (a : Asking) (e : EntryParts) → verdict a ≡ accepted e → IsRising a.now.entries → AreWhole a.now.entries → AreWhole (a.now.entries ++ e ∷ [])
-whole_more a e is rising before x m = go (among-either x a.now.entries (e ∷ []) m)
+-- an accepted entry follows those that stand
+follows : (a : Asking) (e : EntryParts) → verdict a ≡ accepted e → IsWhole a.now.entries a.now.spent → Follows a.now.entries e
+follows a e is whole =
+    let made = (is_new a e is).made in
+    record {
+      rising = (begins a e is whole.rising).rising;
+      next = λ newest is_newest. number_is_next a e is ∙ whole.next newest is_newest;
+      sound = sound-sealed (unsealed a) e made;
+      linked = rw made refl;
+      closes = has_open a e is;
+    }
+
+whole_more : (a : Asking) (e : EntryParts) → verdict a ≡ accepted e → IsWhole a.now.entries a.now.spent → IsWhole (a.now.entries ++ e ∷ []) a.now.spent
+whole_more a e is whole =
+    let added = follows a e is whole in
+    record {
+      rising = added.rising;
+      sound = law_of_addition a.now.entries e whole.sound added;
+      next = λ newest is_newest.
+          next_more a.now e (number_is_next a e is) ∙ ap (λ x. x.number + 1) (is_some_same (sym (newest-more a.now.entries e) ∙ is_newest));
+    }
+
+-- the newest entry that a purge leaves has the number of the newest before it
+newest_kept : (b : ℕ) (es : List EntryParts) (x : EntryParts) → IsRising es → IsRising (kept b es) → newest_entry (kept b es) ≡ Some x → (y : EntryParts) × (newest_entry es ≡ Some y) × (x.number ≡ y.number)
+newest_kept b es x rises rises_left is = go (newest_entry es) refl
   where
-    above : Among x a.now.entries → x.number < e.number
-    above here =
-        let most : x.number ≤ greatest a.now.entries = at_most_greatest a.now.entries x here in
-        let over : greatest a.now.entries < e.number = above_greatest a.now.entries (greatest_spent a.now.spent) e.number (number_is_next a e is) in
-        omega (arith, most, over)
+    go : (o : Option EntryParts) → newest_entry es ≡ o → (y : EntryParts) × (newest_entry es ≡ Some y) × (x.number ≡ y.number)
+    go None none = let empty : newest_entry (kept b es) ≡ None = rw (newest-none es none) refl in none_some (sym empty ∙ is)
+    go (Some y) some =
+        let last = newest-some (kept b es) x rises_left is in
+        let first = newest-some es y rises some in
+        let here = among_kept b es x last.0 in
+        let below : x.number ≤ y.number = first.1 x here.0 in
+        let above : y.number ≤ x.number = last.1 y (kept_among b es y first.0 (omega (arith, here.1, below))) in
+        (y, some, omega (arith, below, above))
 
-    seal : is_sound_entry e ≡ true
-    seal = sound-sealed (unsealed a) e (is_new a e is).made
+whole_kept : (w : Situation) (b : ℕ) → IsBoundAt w.setup w.entries w.spent w.at b → IsWhole w.entries w.spent → IsWhole (kept b w.entries) (spent_after_purge b w.entries w.spent)
+whole_kept w b bound whole =
+    let rises = left_rises (λ x. nat_le b x.number) w.entries whole.rising in
+    record {
+      rising = rises;
+      sound = law_of_kept w.entries (number_after w.entries w.spent) (day_of w.at) w.setup.retention_days b whole.rising bound whole.sound;
+      next = λ newest is_newest.
+          let before = newest_kept b w.entries newest whole.rising rises is_newest in
+          next_stays b w.entries w.spent ∙ whole.next before.0 before.1 ∙ ap (λ n. n + 1) (sym before.2);
+    }
 
-    paired : (c : Bool) → is_closing_kind e.kind ≡ c → (c && is_none (partner_in (a.now.entries ++ e ∷ []) e)) ≡ false
-    paired true closing = rw (law_of_closing a.now.entries e (begins a e is rising).rising closing) (has_open a e is closing)
-    paired false closing = refl
-
-    new : is_faulty (a.now.entries ++ e ∷ []) e ≡ false
-    new = rw seal (paired (is_closing_kind e.kind) refl)
-
-    go : Among x a.now.entries ⊎ Among x (e ∷ []) → is_faulty (a.now.entries ++ e ∷ []) x ≡ false
-    go (inl here) = same_fault (a.now.entries ++ e ∷ []) a.now.entries x (partner_more a.now.entries x e (above here)) ∙ before x here
-    go (inr (inl same)) = subst (λ y. is_faulty (a.now.entries ++ e ∷ []) y ≡ false) (sym same) new
-    go (inr (inr none)) = absurd none
-
-whole_kept : (w : Situation) (b : ℕ) → IsBoundAt w.setup w.entries w.spent w.at b → IsRising w.entries → AreWhole w.entries → AreWhole (kept b w.entries)
-whole_kept w b bound rising before x m =
-    let here = among_kept b w.entries x m in
-    same_fault (kept b w.entries) w.entries x (kept-partner w.entries (number_after w.entries w.spent) (day_of w.at) w.setup.retention_days b rising bound x here.0 here.1) ∙ before x here.0
-
-whole_left : (w : Situation) (b : ℕ) (request : Request) → HasBound request w b → IsRising w.entries → AreWhole w.entries → AreWhole (entries_left w b request)
-whole_left w b request bound rising before = go (comes w b request)
+whole_left : (w : Situation) (b : ℕ) (request : Request) → HasBound request w b → IsWhole w.entries w.spent → IsWhole (entries_left w b request) (spent_left w b request)
+whole_left w b request bound whole = go (comes w b request)
   where
-    go : {o : Outcome} → Comes w b request o → AreWhole (entries_after o w.entries)
-    go (stays none) = before
-    go (adding asked e is one) = whole_more (asking_for asked w) e is rising before
-    go (purging ask count sound none) = whole_kept w b (subst (λ r. HasBound r w b) ask bound) rising before
+    go : {o : Outcome} → Comes w b request o → IsWhole (entries_after o w.entries) (spent_by_outcome o w.entries w.spent)
+    go (stays none) = whole
+    go (adding asked e is one) = whole_more (asking_for asked w) e is whole
+    go (purging ask count sound none) = whole_kept w b (subst (λ r. HasBound r w b) ask bound) whole
 
 -- ---- after every course
 
--- by number, and without fault
-record IsWhole (j : Journal) : Type 0 where
-  pub rising : IsRising j.entries
-  pub whole : AreWhole j.entries
-
 pub stays_sound : StaysSound
 stays_sound j ts lists bounds sound =
-    sound_of (after j ts).entries (kept_after IsWhole (λ i t bound is. record {
-      rising = rising_left (situation_of_turn i t) t.bound t.request is.rising;
-      whole = whole_left (situation_of_turn i t) t.bound t.request bound is.rising is.whole;
-    }) j (record { rising = lists.rising; whole = whole j.entries sound }) ts bounds).whole
+    (kept_after (λ i. IsWhole i.entries i.spent) (λ i t bound whole. whole_left (situation_of_turn i t) t.bound t.request bound whole)
+    j (record { rising = lists.rising; sound = sound; next = λ newest is. next_from_newest j.entries j.spent newest lists is }) ts bounds).sound

@@ -15,5 +15,5 @@ returns-in-Some-new_entry-clause-judged c = λ a asks setup shows none ungone.
     rw entry (record {
       judged = by_none a none ungone free;
       paired = ap (λ j. j.open_weighing) shows.journal_shown;
-      next = record { number = refl; free = find_none (has_key a.key) a.now.entries none; unspent = ungone };
+      next = record { number = refl; free = find_none (has_key a.key) a.now.entries none; unspent = ungone; linked = refl };
     })
