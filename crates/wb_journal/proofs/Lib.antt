@@ -5,7 +5,6 @@ pub mod CheckScan
 pub mod Closers
 pub mod Faults
 pub mod FaultsOfV1
-pub mod Newest
 pub mod Numbers
 pub mod Nearest
 pub mod Pairing
@@ -16,6 +15,7 @@ pub mod PurgeBound
 pub mod PurgePass
 pub mod PurgeScan
 pub mod Search
+pub mod ShownFields
 pub mod SoundJournal
 pub mod SoundKept
 pub mod SoundChained

@@ -3,6 +3,7 @@ pub mod Chained
 pub mod Digests
 pub mod Kept
 pub mod Members
+pub mod Newest
 pub mod Open
 pub mod OpenCount
 pub mod Partners

@@ -14,7 +14,7 @@ pub use Rattle.sqlite.specs.Store.{Ghosts}
 pub use Rattle.wb_instrument.specs.Limits.{is_over, is_under}
 pub use Rattle.wb_instrument.specs.Rounding.{round}
 pub use Rattle.wb_instrument.specs.Setup.{IsSetup, Setup, intervals}
-pub use Rattle.wb_journal.proofs.Newest.{newest-more, newest-none, newest-some}
+pub use Rattle.wb_journal.proofs.offered.Newest.{newest-more, newest-none, newest-some}
 pub use Rattle.wb_journal.proofs.Theorems.{law_of_addition, law_of_closing, law_of_kept}
 pub use Rattle.wb_journal.proofs.offered.Kept.{kept-partner}
 pub use Rattle.wb_journal.proofs.offered.Members.{Among, among-contains, among-either, find-absent, find-among}

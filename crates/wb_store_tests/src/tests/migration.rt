@@ -11,13 +11,15 @@ use wb_journal::Kind;
 use wb_store::{MigrateRefused, Store, StoreFault};
 
 /// The three tables of version 1.
-const TABLES: &str = "CREATE TABLE about (name TEXT NOT NULL PRIMARY KEY, value INTEGER NOT NULL) STRICT;
+const TABLES: &str =
+    "CREATE TABLE about (name TEXT NOT NULL PRIMARY KEY, value INTEGER NOT NULL) STRICT;
 CREATE TABLE journal (number INTEGER PRIMARY KEY, request_key TEXT NOT NULL UNIQUE, kind INTEGER NOT NULL, plate TEXT NOT NULL, moment INTEGER NOT NULL, gross_kg INTEGER, preset_kg INTEGER, interval_kg INTEGER NOT NULL, max_kg INTEGER NOT NULL, serial TEXT NOT NULL, digest TEXT NOT NULL) STRICT;
 CREATE TABLE spent (request_key TEXT NOT NULL PRIMARY KEY, number INTEGER NOT NULL UNIQUE) STRICT;
 INSERT INTO about VALUES ('version', 1)";
 
 /// The worked day, with the digests of its texts of version 1.
-const DAY: &str = "INSERT INTO journal VALUES (1, 'K1', 1, 'AB-12', 1741593600, 18340, NULL, 20, 60000, 'WB01', '1ff0f144d39a8d0890cc2c886fab380c93a9dd98d1d16ca37031b262a56fd3b3');
+const DAY: &str =
+    "INSERT INTO journal VALUES (1, 'K1', 1, 'AB-12', 1741593600, 18340, NULL, 20, 60000, 'WB01', '1ff0f144d39a8d0890cc2c886fab380c93a9dd98d1d16ca37031b262a56fd3b3');
 INSERT INTO journal VALUES (2, 'K2', 2, 'AB-12', 1741599000, 8140, NULL, 20, 60000, 'WB01', '0cc09cd58f03a59c03e87a55f97d3a8262963dcfe6244de45c39d2f4c9e62d56')";
 
 /// The same two entries as numbers 301 and 302, after a purge.
@@ -89,7 +91,11 @@ const CASES: [Case; 16] = [
         &[],
         Ok(BOTH),
     ),
-    (&[TABLES, DAY], &["CREATE TABLE other (name TEXT)"], Ok(BOTH)),
+    (
+        &[TABLES, DAY],
+        &["CREATE TABLE other (name TEXT)"],
+        Ok(BOTH),
+    ),
     (&[TABLES, PURGED], &[], Ok(BOTH_AFTER)),
     (&[TABLES], &[], Ok(NOTHING)),
     (&[], &[], Err(StoreFault::NotVersion1)),
@@ -175,15 +181,25 @@ fn connected(
             return None;
         }
     }
-    if conn.is_autocommit() { Some(conn) } else { None }
+    if conn.is_autocommit() {
+        Some(conn)
+    } else {
+        None
+    }
 }
 
 /// The rows of the journal of a database of version 1, less what a migration could change of it.
 fn rows<D: Alter>(conn: &mut Connection<D>) -> Option<[i64; 3]> {
     Some([
-        number(conn, "SELECT count(*) FROM journal WHERE length(digest) = 64")?,
+        number(
+            conn,
+            "SELECT count(*) FROM journal WHERE length(digest) = 64",
+        )?,
         number(conn, "SELECT value FROM about")?,
-        number(conn, "SELECT count(*) FROM sqlite_schema WHERE type = 'table'")?,
+        number(
+            conn,
+            "SELECT count(*) FROM sqlite_schema WHERE type = 'table'",
+        )?,
     ])
 }
 
@@ -200,7 +216,11 @@ fn brings_a_journal_over_or_says_why_not(rt: HostRuntime) -> Result<(), Fail> {
             Ok((mut store, _)) => {
                 let calls: &[Call] = wanted.unwrap_or(&[]);
                 assert!(rt; wanted.is_ok(), "case {place}");
-                assert_eq!(rt; answered(alloc, &mut store, calls), calls.len(), "case {place}");
+                assert_eq!(rt;
+                    answered(alloc, &mut store, calls),
+                    calls.len(),
+                    "case {place}"
+                );
             }
             Err(refused) => {
                 let MigrateRefused { fault, .. } = refused;
@@ -238,7 +258,11 @@ fn stopped(alloc: Global, new: Disks) -> Result<Option<(bool, u64)>, Fail> {
     let Ok(mut store) = Store::open(again) else {
         return Err("opened again".into());
     };
-    let calls = if store.count() == Ok(2) { BOTH } else { NOTHING };
+    let calls = if store.count() == Ok(2) {
+        BOTH
+    } else {
+        NOTHING
+    };
     if answered(alloc, &mut store, calls) != calls.len() {
         return Err("neither what was before nor all".into());
     }
@@ -259,7 +283,11 @@ fn leaves_all_or_nothing(alloc: Global, of_log: bool) -> Result<[bool; 2], Fail>
             let is_all = entries == BOTH.len() as u64;
             *met.get_mut(is_all as usize).ok_or("met")? = true;
             if is_done {
-                return if is_all { Ok(met) } else { Err("answered and gone".into()) };
+                return if is_all {
+                    Ok(met)
+                } else {
+                    Err("answered and gone".into())
+                };
             }
         }
     }
