@@ -3,6 +3,7 @@ pub mod ClosedWeighings
 pub mod KeptEntries
 pub mod KnownEntries
 pub mod Numbers
+pub mod OverMigration
 pub mod Places
 pub mod Refusals
 pub mod RepeatedRequests

@@ -14,5 +14,6 @@ pub mod CourseOfRequests
 pub mod Laws
 pub mod LawsOfJournals
 pub mod Stops
+pub mod LawsOfMigration
 -- What private functions' contracts need besides.
 pub mod helpers

@@ -52,7 +52,7 @@ holds_some (Some f) there sound = go (is_sound_entry f) sound
     go true h = refl
     go false h = absurd (true≢false h)
 
-of_second : (k : Kind) → is_second_kind k ≡ true → is_closing_kind k ≡ true
+pub of_second : (k : Kind) → is_second_kind k ≡ true → is_closing_kind k ≡ true
 of_second First s = absurd (true≢false (sym s))
 of_second Second s = refl
 of_second Single s = absurd (true≢false (sym s))
@@ -71,7 +71,7 @@ partner_sound a e is rising second =
     let sound : holds_of (λ f. not (is_sound_entry f)) (open_entry a.now.entries e.plate) ≡ false = and_true (is_second_kind e.kind) _ second (rw (kind, plate) at late.1.1.0) in
     rw (law_of_closing a.now.entries e rising closing) (holds_some (open_entry a.now.entries e.plate) (has_open a e is closing) sound)
 
-not_damaged : (es : List EntryParts) (e : EntryParts) → is_sound_entry e ≡ true → (is_second_kind e.kind ≡ true → holds_of is_sound_entry (partner_in es e) ≡ true) → is_damaged es e ≡ false
+pub not_damaged : (es : List EntryParts) (e : EntryParts) → is_sound_entry e ≡ true → (is_second_kind e.kind ≡ true → holds_of is_sound_entry (partner_in es e) ≡ true) → is_damaged es e ≡ false
 not_damaged es e sound partner_is = go (is_second_kind e.kind) refl
   where
     go : (c : Bool) → is_second_kind e.kind ≡ c → (not (is_sound_entry e) || (c && not (holds_of is_sound_entry (partner_in es e)))) ≡ false

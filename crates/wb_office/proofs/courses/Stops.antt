@@ -6,7 +6,7 @@ use Rattle.wb_store.proofs.Theorems.{law_of_reopening}
 use Rattle.wb_office.proofs.Verdicts.{key_decides}
 
 -- the answer is that of the verdict
-of_verdict : (a : Asking) (bound : ℕ) (request : Request) → Asks request a → answer a.now bound request ≡ answer_by_verdict a.now.entries (verdict a)
+pub of_verdict : (a : Asking) (bound : ℕ) (request : Request) → Asks request a → answer a.now bound request ≡ answer_by_verdict a.now.entries (verdict a)
 of_verdict a bound request (inl weighs) = rw weighs refl
 of_verdict a bound request (inr voids) = subst (λ k. answer a.now bound request ≡ answer_by_verdict a.now.entries (verdict (record a { kind = k }))) (sym voids.1) (rw voids.0 refl)
 
