@@ -148,8 +148,8 @@ begin
     select case when count(e.number) > 0 then 'missing' else 'unseen' end, a, z, format('%s of them stored then', count(e.number))
     from (select lag(number, 1, coalesce(before, 0)) over (order by number) + 1 as a, number - 1 as z from judged) gap
     left join entry e on e.journal = its and e.number between a and z where a <= z group by a, z
-    -- what the former journal has of them was received, and is left out
-    having not exists (select from follower f join entry o on o.journal = f.former where f.journal = its and o.number between a and z)
+    -- what the former journal alone has of them is left out
+    having count(e.number) > 0 or not exists (select from follower f join entry o on o.journal = f.former where f.journal = its and o.number between a and z)
     union all
     -- of the bridge's newest journal: an older export of a former one is no news
     select 'shorter', highest + 1, stored, 'stored, and the journal ends before'
