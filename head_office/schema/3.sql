@@ -92,6 +92,10 @@ begin
         raise exception 'refused: serial % is %', it.serial, coalesce('registered for ' || it.bridge, 'not registered');
     end if;
 
+    if is_newest and exists (select from judged where previous is null) then
+        raise exception 'refused: nothing ties the newest entries alone of version 1 to what is stored: load the whole export';
+    end if;
+
     -- the bridge's journal that has most of the records; else the newest one, if all of them come behind what it has
     select e.journal into its from judged r join entry e on e.number = r.number and e.digest = case when r.sound then decode(r.digest, 'hex') end
     join journal j on j.journal = e.journal and j.bridge = of_bridge group by e.journal order by count(*) desc limit 1;
