@@ -33,9 +33,9 @@ class File:
         """Changes an entry, and makes its digest anew. The entry above it still holds the digest of before."""
         if what:
             self.change(number, what, *values)
-        columns = "number, request_key, kind, plate, moment, ifnull(gross_kg, '-'), ifnull(preset_kg, '-'), max_kg, serial, previous"
-        number, key, kind, plate, moment, gross, preset, most, serial, previous = self.do(f"SELECT {columns} FROM journal WHERE number = ?", number)[0]
-        digest = digest_of(number, key, KINDS[kind - 1], plate, moment, gross, preset, most, serial, previous)
+        columns = "number, request_key, kind, plate, moment, ifnull(gross_kg, '-'), ifnull(preset_kg, '-'), max_kg, serial, previous, interval_kg"
+        number, key, kind, plate, moment, gross, preset, *setup = self.do(f"SELECT {columns} FROM journal WHERE number = ?", number)[0]
+        digest = digest_of(number, key, KINDS[kind - 1], plate, moment, gross, preset, *setup)
         self.do("UPDATE journal SET digest = ? WHERE number = ?", digest, number)
 
     def relink(self, number):
