@@ -1,9 +1,9 @@
 //! Databases of version 1 that are migrated into empty ones, or refused; and stops of the disks of either.
 use super::calls::Call::{self, Appends, Counts, Finds};
 use super::calls::{Count, Look, Wanted, answered};
-use super::steps::{Disks, disks, number};
+use super::steps::{Disks, connected, disks, number};
 use super::{FIRST, Row, SECOND};
-use sqlite::{Alter, Connection, Options};
+use sqlite::{Alter, Connection};
 use sqlite_disk::Crash;
 use std::alloc::Global;
 use std::test::Fail;
@@ -159,35 +159,6 @@ const CASES: [Case; 16] = [
     (&[TABLES, DAY], &[TABLES], Err(StoreFault::NotEmpty)),
 ];
 
-/// A connection to disks on which these were run. None where it isn't had.
-fn connected(
-    alloc: Global,
-    disks: Disks,
-    statements: &[&str],
-) -> Option<Connection<sqlite::FileStore<sqlite_disk::Fuse<sqlite_disk::Memory>>>> {
-    if !disks.may_be_used() {
-        return None;
-    }
-    let options = Options {
-        checkpoint_frames: 1,
-        cache_pages: 32,
-        ..Options::new(1)
-    };
-    let Ok(mut conn) = Connection::open_files(alloc, disks, options) else {
-        return None;
-    };
-    for text in statements {
-        if conn.execute_batch(text).is_err() {
-            return None;
-        }
-    }
-    if conn.is_autocommit() {
-        Some(conn)
-    } else {
-        None
-    }
-}
-
 /// The rows of the journal of a database of version 1, less what a migration could change of it.
 fn rows<D: Alter>(conn: &mut Connection<D>) -> Option<[i64; 3]> {
     Some([
@@ -203,30 +174,31 @@ fn rows<D: Alter>(conn: &mut Connection<D>) -> Option<[i64; 3]> {
     ])
 }
 
+/// Whether a migration gives what is wanted.
+fn is_as_wanted(alloc: Global, case: &Case) -> Result<bool, Fail> {
+    let (before, beside, wanted) = case;
+    let old = connected(alloc, disks(alloc, u64::MAX, u64::MAX), before).ok_or("old")?;
+    let new = connected(alloc, disks(alloc, u64::MAX, u64::MAX), beside).ok_or("new")?;
+    if !new.is_autocommit() {
+        return Err("new".into());
+    }
+    match Store::migrate(old, new) {
+        Ok((mut store, _old)) => match wanted {
+            Ok(calls) => Ok(answered(alloc, &mut store, calls) == calls.len()),
+            Err(_) => Ok(false),
+        },
+        Err(MigrateRefused {
+            fault,
+            old: _old,
+            new: _new,
+        }) => Ok(wanted.err() == Some(fault)),
+    }
+}
+
 #[test]
 fn brings_a_journal_over_or_says_why_not(rt: HostRuntime) -> Result<(), Fail> {
-    let alloc = rt.alloc();
-    for (place, (before, beside, wanted)) in CASES.iter().enumerate() {
-        let old = connected(alloc, disks(alloc, u64::MAX, u64::MAX), before).ok_or("old")?;
-        let new = connected(alloc, disks(alloc, u64::MAX, u64::MAX), beside).ok_or("new")?;
-        if !new.is_autocommit() {
-            return Err("new".into());
-        }
-        match Store::migrate(old, new) {
-            Ok((mut store, _)) => {
-                let calls: &[Call] = wanted.unwrap_or(&[]);
-                assert!(rt; wanted.is_ok(), "case {place}");
-                assert_eq!(rt;
-                    answered(alloc, &mut store, calls),
-                    calls.len(),
-                    "case {place}"
-                );
-            }
-            Err(refused) => {
-                let MigrateRefused { fault, .. } = refused;
-                assert_eq!(rt; Err(fault), wanted.map(|_| ()), "case {place}");
-            }
-        }
+    for (place, case) in CASES.iter().enumerate() {
+        assert!(rt; is_as_wanted(rt.alloc(), case)?, "case {place}");
     }
     Ok(())
 }
