@@ -187,11 +187,13 @@ fn is_as_wanted(alloc: Global, case: &Case) -> Result<bool, Fail> {
             Ok(calls) => Ok(answered(alloc, &mut store, calls) == calls.len()),
             Err(_) => Ok(false),
         },
-        Err(MigrateRefused {
-            fault,
-            old: _old,
-            new: _new,
-        }) => Ok(wanted.err() == Some(fault)),
+        Err(
+            MigrateRefused {
+                fault,
+                old: _old,
+                new: _new,
+            },
+        ) => Ok(wanted.err() == Some(fault)),
     }
 }
 
