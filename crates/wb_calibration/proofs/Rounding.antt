@@ -5,7 +5,7 @@ use Rattle.std.specs.Int.{int_div_euclid}
 use Rattle.wb_calibration.specs.declared.segment.Segment.{Segment}
 use Rattle.wb_calibration.specs.Line.{IsNearest, IsRoundedOnLine, past, rise, run}
 use Rattle.wb_calibration.specs.helpers.Neighbours.{IsSegment}
-use Rattle.wb_calibration.specs.Turned.{turned}
+use Rattle.wb_calibration.specs.Turned.{rising_counts}
 use Rattle.wb_calibration.proofs.Products.{mul_keeps, mul_cancel, quotient_down}
 
 -- of two products with the rise, the greater is rounded to no less
@@ -33,7 +33,7 @@ pub positive_rise : (falling : Bool) (s : Segment) → IsSegment falling s → p
 positive_rise falling s is = omega (arith, ints, is.apart.loads)
 
 -- more counts are rounded to no less tenths
-pub IsRoundedOnLine-order : (falling : Bool) (s : Segment) → IsSegment falling s → (counts others tenths more : ℤ) → turned falling counts ≤ℤ turned falling others
+pub IsRoundedOnLine-order : (falling : Bool) (s : Segment) → IsSegment falling s → (counts others tenths more : ℤ) → rising_counts falling counts ≤ℤ rising_counts falling others
     → IsRoundedOnLine falling s counts tenths → IsRoundedOnLine falling s others more → tenths ≤ℤ more
 IsRoundedOnLine-order falling s is counts others tenths more h is_less is_more =
     let run_is = positive_run falling s is in

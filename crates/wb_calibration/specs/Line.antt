@@ -3,26 +3,26 @@ use Rattle.std.specs.Prelude.{◌≡◌, Bool, ℤ, pos, neg_ℤ, ◌+ℤ◌, �
 use Rattle.wb_window.specs.Reading.{greatest_load}
 use Rattle.wb_calibration.specs.declared.point.Point.{Point}
 use Rattle.wb_calibration.specs.declared.segment.Segment.{Segment}
-use Rattle.wb_calibration.specs.Turned.{falls, turned}
+use Rattle.wb_calibration.specs.Turned.{counts_fall, rising_counts}
 
 -- counts stand for less load than others
-abbrev pub is_before : Bool → ℤ → ℤ → Bool
-is_before falling counts others = int_lt (turned falling counts) (turned falling others)
+abbrev pub stands_for_less : Bool → ℤ → ℤ → Bool
+stands_for_less falling counts others = int_lt (rising_counts falling counts) (rising_counts falling others)
 
 -- the two neighbours whose line holds, from these two on: the first whose upper point the counts do not reach, or the last two
-abbrev pub segment_from : Bool → Point → Point → List Point → ℤ → Segment
-segment_from falling lower upper [] counts = record { lower = lower; upper = upper }
-segment_from falling lower upper (next ∷ above) counts =
-    if is_before falling counts upper.counts then record { lower = lower; upper = upper } else segment_from falling upper next above counts
+abbrev pub segment_among : Bool → Point → Point → List Point → ℤ → Segment
+segment_among falling lower upper [] counts = record { lower = lower; upper = upper }
+segment_among falling lower upper (next ∷ above) counts =
+    if stands_for_less falling counts upper.counts then record { lower = lower; upper = upper } else segment_among falling upper next above counts
 
 -- those of a calibration's points
 abbrev pub segment_of : List Point → ℤ → Option Segment
-segment_of (lower ∷ upper ∷ above) counts = Some (segment_from (falls (lower ∷ upper ∷ above)) lower upper above counts)
+segment_of (lower ∷ upper ∷ above) counts = Some (segment_among (counts_fall (lower ∷ upper ∷ above)) lower upper above counts)
 segment_of _ counts = None
 
 -- counts from the lower point to the upper
 abbrev pub run : Bool → Segment → ℤ
-run falling s = turned falling s.upper.counts -ℤ turned falling s.lower.counts
+run falling s = rising_counts falling s.upper.counts -ℤ rising_counts falling s.lower.counts
 
 -- tenths from the lower point to the upper
 abbrev pub rise : Segment → ℤ
@@ -30,7 +30,7 @@ rise s = s.upper.tenths -ℤ s.lower.tenths
 
 -- counts from the lower point to these
 abbrev pub past : Bool → Segment → ℤ → ℤ
-past falling s counts = turned falling counts -ℤ turned falling s.lower.counts
+past falling s counts = rising_counts falling counts -ℤ rising_counts falling s.lower.counts
 
 -- q is product / run rounded to a whole number, an exact half up: times twice the run, it is less than a run below twice the
 -- product, and at most a run above it
@@ -46,7 +46,7 @@ IsRoundedOnLine falling s counts tenths = IsNearest (past falling s counts *ℤ 
 pub record IsOnLine (points : List Point) (counts tenths : ℤ) : Type 0 where
   pub segment : Segment
   pub neighbours : segment_of points counts ≡ Some segment
-  pub rounded : IsRoundedOnLine (falls points) segment counts tenths
+  pub rounded : IsRoundedOnLine (counts_fall points) segment counts tenths
 
 -- tenths are the load of counts: those on the line, if a converter may hand them in
 pub record IsLoadOf (points : List Point) (counts tenths : ℤ) : Type 0 where

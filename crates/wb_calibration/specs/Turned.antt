@@ -3,11 +3,11 @@ use Rattle.std.specs.Prelude.{Bool, true, false, ℤ, neg_ℤ, List, ◌∷◌, 
 use Rattle.wb_calibration.specs.declared.point.Point.{Point}
 
 -- whether the counts fall while the load rises, as those of a cell that is wired the other way: from the first point to the second
-abbrev pub falls : List Point → Bool
-falls (first ∷ second ∷ rest) = int_lt second.counts first.counts
-falls _ = false
+abbrev pub counts_fall : List Point → Bool
+counts_fall (first ∷ second ∷ rest) = int_lt second.counts first.counts
+counts_fall _ = false
 
 -- counts as they rise with the load: with the other sign if they fall
-abbrev pub turned : Bool → ℤ → ℤ
-turned true counts = neg_ℤ counts
-turned false counts = counts
+abbrev pub rising_counts : Bool → ℤ → ℤ
+rising_counts true counts = neg_ℤ counts
+rising_counts false counts = counts

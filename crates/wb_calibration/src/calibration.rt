@@ -1,9 +1,9 @@
 //! A calibration.
 ghost use Rattle.std.specs.Prelude.{◌≡◌, ◌↔◌, ℤ, IfErr, IfOk, Some, None};
 ghost use Rattle.wb_calibration.specs.Calibration.{IsCalibration};
-ghost use Rattle.wb_calibration.specs.Fault.{fault_of};
+ghost use Rattle.wb_calibration.specs.Fault.{fault_of_points};
 ghost use Rattle.wb_calibration.specs.Line.{IsLoadOf};
-ghost use Rattle.wb_calibration.specs.Turned.{falls};
+ghost use Rattle.wb_calibration.specs.Turned.{counts_fall};
 
 use crate::fault::{CalibrationFault, falls, fault_of};
 use crate::point::Point;
@@ -37,8 +37,8 @@ impl Calibration {
     /// A calibration of these points, or the first fault of them.
     pub fn new(points: &[Point]) -> Result<Self, CalibrationFault>
         ensures accepted { IfOk result (λ calibration. calibration ≡ points.now) }
-        ensures faultless { IfOk result (λ calibration. fault_of points.now ≡ None) }
-        ensures refused { IfErr result (λ fault. fault_of points.now ≡ Some fault) }
+        ensures faultless { IfOk result (λ calibration. fault_of_points points.now ≡ None) }
+        ensures refused { IfErr result (λ fault. fault_of_points points.now ≡ Some fault) }
     {
         if let Some(fault) = fault_of(points) {
             return Err(fault);
@@ -60,7 +60,7 @@ impl Calibration {
 
     /// Whether the counts fall while the load rises, as those of a cell that is wired the other way.
     pub fn falls(&self) -> bool
-        ensures value { result ≡ falls self.now }
+        ensures value { result ≡ counts_fall self.now }
         ensures calibration { IsCalibration self.now }
     {
         falls(self.points.as_slice())

@@ -1,7 +1,7 @@
 //! What is wrong with the points of a calibration.
 ghost use Rattle.std.specs.Prelude.{◌≡◌, ◌+◌, ◌≤◌, length};
-ghost use Rattle.wb_calibration.specs.Fault.{are_apart_counts, are_apart_loads, fault_from, fault_of, is_load};
-ghost use Rattle.wb_calibration.specs.Turned.{falls};
+ghost use Rattle.wb_calibration.specs.Fault.{counts_are_apart, loads_are_apart, fault_behind, fault_of_points, is_possible_load};
+ghost use Rattle.wb_calibration.specs.Turned.{counts_fall};
 
 use crate::Point;
 use crate::point::turned;
@@ -42,7 +42,7 @@ pub enum CalibrationFault {
 
 /// The first fault of these points.
 pub(crate) fn fault_of(points: &[Point]) -> Option<CalibrationFault>
-    ensures { result ≡ fault_of points.now }
+    ensures { result ≡ fault_of_points points.now }
 {
     if points.len() < LEAST_POINTS {
         return Some(CalibrationFault::Few);
@@ -65,7 +65,7 @@ pub(crate) fn fault_of(points: &[Point]) -> Option<CalibrationFault>
 
 /// Whether the counts fall from the first point to the second.
 pub(crate) fn falls(points: &[Point]) -> bool
-    ensures { result ≡ falls points.now }
+    ensures { result ≡ counts_fall points.now }
 {
     match points {
         [first, second, ..] => second.counts < first.counts,
@@ -76,7 +76,7 @@ pub(crate) fn falls(points: &[Point]) -> bool
 /// The first fault of the points that follow one, the first of them at this place.
 fn fault_from(falls: bool, place: u8, before: Point, points: &[Point]) -> Option<CalibrationFault>
     requires { place + length points.now ≤ u8.MAX }
-    ensures { result ≡ fault_from falls place before points.now }
+    ensures { result ≡ fault_behind counts_fall place before points.now }
 {
     match points {
         [] => None,
@@ -96,21 +96,21 @@ fn fault_from(falls: bool, place: u8, before: Point, points: &[Point]) -> Option
 
 /// Whether so many tenths are a load that a converter may hand in.
 fn is_load(tenths: i32) -> bool
-    ensures { result ≡ is_load tenths }
+    ensures { result ≡ is_possible_load tenths }
 {
     0 <= tenths && tenths <= GREATEST_LOAD
 }
 
 /// Whether the load of a point is far enough above that of the one before.
 fn are_apart_loads(before: Point, point: Point) -> bool
-    ensures { result ≡ are_apart_loads before point }
+    ensures { result ≡ loads_are_apart before point }
 {
     i64::from(before.tenths) + i64::from(LEAST_TENTHS_APART) <= i64::from(point.tenths)
 }
 
 /// Whether the counts of a point are far enough from those of the one before.
 fn are_apart_counts(falls: bool, before: Point, point: Point) -> bool
-    ensures { result ≡ are_apart_counts falls before point }
+    ensures { result ≡ counts_are_apart counts_fall before point }
 {
     turned(falls, before.counts) + LEAST_COUNTS_APART <= turned(falls, point.counts)
 }

@@ -1,6 +1,6 @@
 //! A point of a calibration.
 ghost use Rattle.std.specs.Prelude.{◌≡◌};
-ghost use Rattle.wb_calibration.specs.Turned.{turned};
+ghost use Rattle.wb_calibration.specs.Turned.{rising_counts};
 
 /// The counts of a load cell under a known load.
 #[derive(Clone, Copy, Debug, Default, PartialEq, Eq)]
@@ -13,7 +13,7 @@ pub struct Point {
 
 /// The counts as they rise with the load: with the other sign for a cell whose counts fall.
 pub(crate) fn turned(falls: bool, counts: i32) -> i64
-    ensures { result ≡ turned falls counts }
+    ensures { result ≡ rising_counts falls counts }
 {
     if falls {
         -i64::from(counts)

@@ -1,6 +1,6 @@
 //! The straight line between two neighbouring points.
 ghost use Rattle.std.specs.Prelude.{◌≡◌, ◌≤◌, ◌^◌, pos, ◌≤ℤ◌, ◌<ℤ◌, unsigned_abs};
-ghost use Rattle.wb_calibration.specs.Line.{IsNearest, IsRoundedOnLine, is_before, segment_from};
+ghost use Rattle.wb_calibration.specs.Line.{IsNearest, IsRoundedOnLine, stands_for_less, segment_among};
 ghost use Rattle.wb_calibration.specs.helpers.Neighbours.{IsSegment};
 
 use crate::Point;
@@ -22,7 +22,7 @@ pub(crate) fn segment_from(
     above: &[Point],
     counts: i32,
 ) -> Segment
-    ensures { result ≡ segment_from falls lower upper above.now counts }
+    ensures { result ≡ segment_among falls lower upper above.now counts }
 {
     match above {
         [] => Segment { lower, upper },
@@ -38,7 +38,7 @@ pub(crate) fn segment_from(
 
 /// Whether counts stand for less load than others.
 fn is_before(falls: bool, counts: i32, others: i32) -> bool
-    ensures { result ≡ is_before falls counts others }
+    ensures { result ≡ stands_for_less falls counts others }
 {
     turned(falls, counts) < turned(falls, others)
 }

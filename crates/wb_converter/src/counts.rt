@@ -1,6 +1,6 @@
 //! Lines of a reader of a load cell.
 ghost use Rattle.std.specs.Prelude.{◌≡◌};
-ghost use Rattle.wb_converter.specs.Counts.{counts_of, fitting};
+ghost use Rattle.wb_converter.specs.Counts.{counts_of, within_32_bits};
 
 use wb_sources::number;
 
@@ -17,7 +17,7 @@ pub fn counts_line(line: &[u8]) -> Option<i32>
 
 /// A number, if it fits in 32 bits.
 fn fitting(number: i64) -> Option<i32>
-    ensures { result ≡ fitting number }
+    ensures { result ≡ within_32_bits number }
 {
     if i64::from(i32::MIN) <= number && number <= i64::from(i32::MAX) {
         Some(number as i32)

@@ -1,6 +1,6 @@
 //! How many counts stand for an interval.
 ghost use Rattle.std.specs.Prelude.{◌≡◌};
-ghost use Rattle.wb_converter.specs.Sensitivity.{between, least_from, sensitivity_of};
+ghost use Rattle.wb_converter.specs.Sensitivity.{sensitivity_between, least_among, sensitivity_of};
 
 use wb_calibration::{Calibration, Point};
 
@@ -17,7 +17,7 @@ pub fn sensitivity(calibration: &Calibration) -> u64
 
 /// The least of so many and of what lies between two neighbours, from a point on.
 fn least_from(least: u64, before: Point, points: &[Point]) -> u64
-    ensures { result ≡ least_from least before points.now }
+    ensures { result ≡ least_among least before points.now }
 {
     match points {
         [] => least,
@@ -27,7 +27,7 @@ fn least_from(least: u64, before: Point, points: &[Point]) -> u64
 
 /// Tenths of a count that stand for an interval between two points, rounded down.
 fn between(lower: Point, upper: Point) -> u64
-    ensures { result ≡ between lower upper }
+    ensures { result ≡ sensitivity_between lower upper }
 {
     let counts = u64::from(upper.counts.abs_diff(lower.counts));
     let tenths = u64::from(upper.tenths.abs_diff(lower.tenths));

@@ -3,16 +3,16 @@ use Rattle.std.proofs.Common.{◌≡◌, ℕ, ◌+◌, ◌*◌, ◌/◌, ◌≤�
 use Rattle.std.proofs.Math.Nat.{mul-le-mul_left}
 use Rattle.std.proofs.lemmas.Bool.Decides.{nat_tests}
 use Rattle.std.specs.Prelude.{nat_le, nat_lt}
-use Rattle.wb_instrument.specs.Setup.{Setup, intervals}
-use Rattle.wb_instrument.specs.Preset.{IsPreset, in_range, preset}
+use Rattle.wb_instrument.specs.Setup.{Setup, intervals_in_max}
+use Rattle.wb_instrument.specs.Preset.{IsPreset, preset_in_range, preset}
 
-pub in_range-inside : (n m : ℕ) → 1 ≤ m → m ≤ n → in_range n m ≡ Some m
+pub in_range-inside : (n m : ℕ) → 1 ≤ m → m ≤ n → preset_in_range n m ≡ Some m
 in_range-inside n m p q =
     let low : nat_le 1 m ≡ true = grind (arith, nat_tests) in
     let high : nat_le m n ≡ true = grind (arith, nat_tests) in
     rw (low, high) refl
 
-pub in_range-above : (n m : ℕ) → n < m → in_range n m ≡ None
+pub in_range-above : (n m : ℕ) → n < m → preset_in_range n m ≡ None
 in_range-above n m p = go (nat_le 1 m)
   where
     high : nat_le m n ≡ false
@@ -23,7 +23,7 @@ in_range-above n m p = go (nat_le 1 m)
     go false = refl
 
 -- what in_range answers is inside
-in_range-some : (n q m : ℕ) → in_range n q ≡ Some m → (q ≡ m) × (1 ≤ m) × (m ≤ n)
+in_range-some : (n q m : ℕ) → preset_in_range n q ≡ Some m → (q ≡ m) × (1 ≤ m) × (m ≤ n)
 in_range-some n q m e = go (nat_le 1 q) (nat_le q n) refl refl
   where
     go : (a b : Bool) → nat_le 1 q ≡ a → nat_le q n ≡ b → (q ≡ m) × (1 ≤ m) × (m ≤ n)
@@ -71,7 +71,7 @@ unfolding preset
 preset-only s w m p is =
     let u = 1000 * s.interval_kg in
     let same : (2 * w + u) / (2 * u) ≡ m = rounded-only u w m (omega arith) is.below is.above in
-    rw same (in_range-inside (intervals s) m is.positive is.within_max)
+    rw same (in_range-inside (intervals_in_max s) m is.positive is.within_max)
 
 -- the quotient is within the inequalities
 rounded-within : (u w m : ℕ) → 1 ≤ u → (2 * w + u) / (2 * u) ≡ m → (2 * m * u ≤ 2 * w + u) × (2 * w < (2 * m + 1) * u)
@@ -84,7 +84,7 @@ pub IsPreset-preset : (s : Setup) (w m : ℕ) → 1 ≤ s.interval_kg → preset
 unfolding preset
 IsPreset-preset s w m p e =
     let u = 1000 * s.interval_kg in
-    let h = in_range-some (intervals s) ((2 * w + u) / (2 * u)) m e in
+    let h = in_range-some (intervals_in_max s) ((2 * w + u) / (2 * u)) m e in
     let k = rounded-within u w m (omega arith) h.0 in
     record { below = k.0; above = k.1; positive = h.1; within_max = h.2 }
 
@@ -98,11 +98,11 @@ exact-from_value s w answer p e m = (λ is. IsPreset-preset s w m p (only (prese
     only (Some k) q = cc
 
 -- more than the greatest preset tare is none
-pub preset-above : (s : Setup) (w : ℕ) → 1 ≤ s.interval_kg → (intervals s + 1) * (1000 * s.interval_kg) < w → preset s w ≡ None
+pub preset-above : (s : Setup) (w : ℕ) → 1 ≤ s.interval_kg → (intervals_in_max s + 1) * (1000 * s.interval_kg) < w → preset s w ≡ None
 unfolding preset
-preset-above s w p h = in_range-above (intervals s) _ (rounded-above (1000 * s.interval_kg) (intervals s) w (omega arith) h)
+preset-above s w p h = in_range-above (intervals_in_max s) _ (rounded-above (1000 * s.interval_kg) (intervals_in_max s) w (omega arith) h)
 
 -- the quotient that the code computes
-pub preset-divided : (s : Setup) (w u n : ℕ) → u ≡ 1000 * s.interval_kg → n ≡ intervals s → in_range n ((2 * w + u) / (2 * u)) ≡ preset s w
+pub preset-divided : (s : Setup) (w u n : ℕ) → u ≡ 1000 * s.interval_kg → n ≡ intervals_in_max s → preset_in_range n ((2 * w + u) / (2 * u)) ≡ preset s w
 unfolding preset
 preset-divided s w u n e k = rw (e, k) refl

@@ -40,8 +40,8 @@ setup_of parts = record {
 }
 
 -- n, the intervals of e in Max
-abbrev pub intervals : Setup → ℕ
-intervals s = s.max_kg / s.interval_kg
+abbrev pub intervals_in_max : Setup → ℕ
+intervals_in_max s = s.max_kg / s.interval_kg
 
 -- Max is 500 to 10,000 whole intervals
 abbrev pub IsMax : ℕ → ℕ → Type 0

@@ -1,7 +1,7 @@
 //! Limits of indication and of the zero.
 ghost use Rattle.std.specs.Prelude.{◌≡◌, ◌+◌, ◌≤ℤ◌, ◌*ℤ◌, neg_ℤ, pos};
-ghost use Rattle.wb_instrument.specs.Limits.{is_over, is_under, tracking_gap, zero_limit};
-ghost use Rattle.wb_instrument.specs.Setup.{IsSetup, intervals};
+ghost use Rattle.wb_instrument.specs.Limits.{is_above_range, is_below_range, readings_a_step, farthest_zero};
+ghost use Rattle.wb_instrument.specs.Setup.{IsSetup, intervals_in_max};
 
 use crate::Instrument;
 
@@ -20,7 +20,7 @@ const STEPS_A_SECOND: u32 = 5;
 impl Instrument {
     /// n, the intervals of e in Max.
     pub fn intervals(&self) -> u32
-        ensures value { result ≡ intervals self.now }
+        ensures value { result ≡ intervals_in_max self.now }
         ensures setup { IsSetup self.now }
     {
         self.max_kg() / self.interval_kg()
@@ -28,8 +28,8 @@ impl Instrument {
 
     /// So many intervals in kilograms.
     pub fn kilograms(&self, whole: i32) -> i32
-        requires least { neg_ℤ (pos (intervals self.now + 20)) ≤ℤ whole }
-        requires most { whole ≤ℤ pos (intervals self.now + 9) }
+        requires least { neg_ℤ (pos (intervals_in_max self.now + 20)) ≤ℤ whole }
+        requires most { whole ≤ℤ pos (intervals_in_max self.now + 9) }
         ensures { result ≡ pos self.now.interval_kg *ℤ whole }
     {
         self.interval_kg() as i32 * whole
@@ -37,21 +37,21 @@ impl Instrument {
 
     /// Whether so many intervals are above Max + 9 e.
     pub fn is_over(&self, gross: i32) -> bool
-        ensures { result ≡ is_over self.now gross }
+        ensures { result ≡ is_above_range self.now gross }
     {
         self.intervals() as i32 + OVER_RANGE_INTERVALS < gross
     }
 
     /// Whether so many intervals are below -20 e.
     pub fn is_under(&self, gross: i32) -> bool
-        ensures { result ≡ is_under gross }
+        ensures { result ≡ is_below_range gross }
     {
         gross < LEAST_INTERVALS
     }
 
     /// How far from the calibration zero the zero may lie, in tenths of e: n/5, rounded down.
     pub fn zero_limit(&self) -> i32
-        ensures value { result ≡ pos (zero_limit self.now) }
+        ensures value { result ≡ pos (farthest_zero self.now) }
         ensures setup { IsSetup self.now }
     {
         (self.intervals() / 5) as i32
@@ -59,7 +59,7 @@ impl Instrument {
 
     /// K: of so many readings in a row at most one makes a step of zero tracking.
     pub fn tracking_gap(&self) -> u32
-        ensures value { result ≡ tracking_gap self.now }
+        ensures value { result ≡ readings_a_step self.now }
         ensures setup { IsSetup self.now }
     {
         self.pace().div_ceil(STEPS_A_SECOND)

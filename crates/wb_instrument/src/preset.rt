@@ -1,6 +1,6 @@
 //! Preset tares.
 ghost use Rattle.std.specs.Prelude.{◌≡◌, ◌↔◌, ◌≤◌, ℕ, Some, option_map, pos};
-ghost use Rattle.wb_instrument.specs.Preset.{IsPreset, in_range, preset};
+ghost use Rattle.wb_instrument.specs.Preset.{IsPreset, preset_in_range, preset};
 
 use crate::Instrument;
 
@@ -25,7 +25,7 @@ impl Instrument {
 /// So many intervals, where they are from 1 to the most.
 fn in_range(most: u64, rounded: u64) -> Option<i32>
     requires { most ≤ 10_000 }
-    ensures { result ≡ option_map pos (in_range most rounded) }
+    ensures { result ≡ option_map pos (preset_in_range most rounded) }
 {
     if 1 <= rounded && rounded <= most {
         Some(rounded as i32)

@@ -5,7 +5,7 @@ use Rattle.wb_journal.specs.declared.civil.Civil.{Civil}
 use Rattle.wb_journal.specs.declared.entry.EntryParts.{EntryParts}
 use Rattle.wb_journal.specs.Civil.{civil}
 use Rattle.wb_journal.specs.EntryText.{line}
-use Rattle.wb_journal.specs.Kind.{capitals}
+use Rattle.wb_journal.specs.Kind.{kind_capitals}
 use Rattle.wb_journal.specs.Net.{net_of_entry}
 
 -- the last two digits of a number
@@ -35,7 +35,7 @@ kilogram_line name (Some kg) = weight_line name (pos kg)
 
 -- what an entry is, and of when
 unfoldable pub block_head : EntryParts → List ℕ
-block_head e = capitals e.kind ++ line (codes " NO ") (decimal e.number) ++ line (codes "AT ") (moment_text e.moment)
+block_head e = kind_capitals e.kind ++ line (codes " NO ") (decimal e.number) ++ line (codes "AT ") (moment_text e.moment)
 
 -- its gross and preset tare
 unfoldable pub block_weights : EntryParts → List ℕ

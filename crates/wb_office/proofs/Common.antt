@@ -11,9 +11,9 @@ pub use Rattle.std.specs.Prelude.{Contains, count_by, int_lt, is_none, option_ma
 pub use Rattle.std.specs.Str.{bytes_eq}
 pub use Rattle.csv.specs.Writing.{default_writer, row_text}
 pub use Rattle.sqlite.specs.Store.{Ghosts}
-pub use Rattle.wb_instrument.specs.Limits.{is_over, is_under}
+pub use Rattle.wb_instrument.specs.Limits.{is_above_range, is_below_range}
 pub use Rattle.wb_instrument.specs.Rounding.{round}
-pub use Rattle.wb_instrument.specs.Setup.{IsSetup, Setup, intervals}
+pub use Rattle.wb_instrument.specs.Setup.{IsSetup, Setup, intervals_in_max}
 pub use Rattle.wb_journal.proofs.offered.Newest.{newest-more, newest-none, newest-some}
 pub use Rattle.wb_journal.proofs.Theorems.{law_of_addition, law_of_closing, law_of_kept}
 pub use Rattle.wb_journal.proofs.offered.Kept.{kept-partner}
@@ -50,8 +50,8 @@ pub use Rattle.wb_store.specs.declared.fault.StoreFault.{StoreFault}
 pub use Rattle.wb_store.specs.declared.fault.StoreFault.TheVariants.{Closed, Disk, Foreign, Memory}
 pub use Rattle.wb_window.specs.Stability.{is_stable}
 pub use Rattle.wb_store.specs.Purging.{entries_below, spent_by}
-pub use Rattle.wb_office.specs.Answer.{Content, IsBoundAt, Outcome, adds, answer, answer_by_verdict, asking, entries_after, entries_left, entry_content, finding_content, has_ticket, if_sound, is_marked, nothing, outcome, outcome_of, purged_content, purges, spent_by_outcome, spent_left, text_of_indication, ticket_answer, ticket_content, ticket_if_sound, ticket_of, tickets_answer, unless_damaged}
-pub use Rattle.wb_office.specs.Conditions.{clock_back, holds_of, is_damaged, is_other, is_preset_below, journal_full, key_gone, places, places_needed, weighs}
+pub use Rattle.wb_office.specs.Answer.{Content, IsBoundAt, Outcome, adds, office_answer, answer_by_verdict, asking, entries_after, entries_left, entry_content, finding_content, makes_a_ticket, if_sound, is_marked, nothing, outcome, outcome_of, purged_content, purges, spent_by_outcome, spent_left, text_of_indication, ticket_answer, ticket_content, ticket_if_sound, ticket_of, tickets_answer, unless_damaged}
+pub use Rattle.wb_office.specs.Conditions.{clock_back, holds_of, is_damaged_entry, is_other, gross_is_above_preset, journal_full, key_gone, places, places_needed, asks_to_weigh}
 pub use Rattle.wb_office.specs.CourseOfRequests.{AreBounds, Journal, RequestTurn, added, added_by, added_in_turn, additions, after, after_turn, answer_in, answered_with, entry_of, left, situation_of_turn, with_one}
 pub use Rattle.wb_office.specs.Exports.{journal_columns, journal_csv, journal_record, record_with, records_text, ticket_columns, ticket_record, tickets_csv}
 pub use Rattle.wb_office.specs.Laws.{AllWeighed, AnsweredAgain, FullAtLastNumber, IsByKey, IsGone, IsKeptEntry, IsNumbered, IsWeighed, KeepsPartners, KeyDecides, NumbersRun, OneEntryPerKey, WithinCapacity, is_taken}

@@ -1,6 +1,6 @@
 -- The verdict, case by case.
 use Rattle.std.proofs.Common.{◌≡◌, ◌∙◌, sym, true, false, true≢false, Option, Some, None, refl}
-use Rattle.wb_office.proofs.Common.{EntryParts, entry_by_key, Refusal, Asking, key_gone, is_damaged, is_other, KeyDecides, accepted, first_refusal, entry_added, of_new, on_new, refused, repeated, verdict}
+use Rattle.wb_office.proofs.Common.{EntryParts, entry_by_key, Refusal, Asking, key_gone, is_damaged_entry, is_other, KeyDecides, accepted, first_refusal, entry_added, of_new, on_new, refused, repeated, verdict}
 use Rattle.wb_office.specs.declared.refusal.Refusal.TheVariants as refusal
 use Rattle.wb_office.proofs.FoundEntries.{found_unspent}
 
@@ -9,12 +9,12 @@ pub by_other : (a : Asking) (e : EntryParts) → entry_by_key a.now.entries a.ke
 unfolding verdict
 by_other a e found other = rw (found, other) refl
 
-pub by_damage : (a : Asking) (e : EntryParts) → entry_by_key a.now.entries a.key ≡ Some e → is_other a e ≡ false → key_gone a ≡ false → is_damaged a.now.entries e ≡ true
+pub by_damage : (a : Asking) (e : EntryParts) → entry_by_key a.now.entries a.key ≡ Some e → is_other a e ≡ false → key_gone a ≡ false → is_damaged_entry a.now.entries e ≡ true
     → verdict a ≡ refused refusal.Damaged
 unfolding verdict
 by_damage a e found other ungone damaged = rw (found, other, ungone, damaged) refl
 
-pub by_repetition : (a : Asking) (e : EntryParts) → entry_by_key a.now.entries a.key ≡ Some e → is_other a e ≡ false → key_gone a ≡ false → is_damaged a.now.entries e ≡ false
+pub by_repetition : (a : Asking) (e : EntryParts) → entry_by_key a.now.entries a.key ≡ Some e → is_other a e ≡ false → key_gone a ≡ false → is_damaged_entry a.now.entries e ≡ false
     → verdict a ≡ repeated e
 unfolding verdict
 by_repetition a e found other ungone sound = rw (found, other, ungone, sound, found) refl

@@ -24,7 +24,7 @@ use Rattle.wb_office.specs.declared.refusal.Refusal.TheVariants as refusal
 use Rattle.wb_office.specs.declared.request.Request.{Request}
 use Rattle.wb_office.specs.declared.request.Request.TheVariants.{Weigh, VoidOpen, Ticket, Indication, JournalCsv, TicketsCsv, Purge, Check}
 use Rattle.wb_office.specs.Situation.{Asking, Situation}
-use Rattle.wb_office.specs.Conditions.{is_damaged}
+use Rattle.wb_office.specs.Conditions.{is_damaged_entry}
 use Rattle.wb_office.specs.Exports.{journal_csv, tickets_csv}
 use Rattle.wb_office.specs.Verdict.{Verdict, accepted, refused, repeated, verdict}
 
@@ -56,16 +56,16 @@ answer_by_verdict es (accepted e) = Ok (entry_content (es ++ e ∷ []) e e.kind)
 -- ---- a ticket
 
 -- a Second or Single has a ticket
-abbrev pub has_ticket : EntryParts → Bool
-has_ticket e = is_second_kind e.kind || is_single_kind e.kind
+abbrev pub makes_a_ticket : EntryParts → Bool
+makes_a_ticket e = is_second_kind e.kind || is_single_kind e.kind
 
 -- its ticket; damaged if the entry isn't sound, or is a Second whose partner is missing or isn't sound
 abbrev pub ticket_if_sound : List EntryParts → EntryParts → Result Content Refusal
-ticket_if_sound es e = if is_damaged es e then Err refusal.Damaged else Ok (entry_content es e e.kind)
+ticket_if_sound es e = if is_damaged_entry es e then Err refusal.Damaged else Ok (entry_content es e e.kind)
 
 abbrev pub ticket_of : List EntryParts → Option EntryParts → Result Content Refusal
 ticket_of es None = Err refusal.NoTicket
-ticket_of es (Some e) = if has_ticket e then ticket_if_sound es e else Err refusal.NoTicket
+ticket_of es (Some e) = if makes_a_ticket e then ticket_if_sound es e else Err refusal.NoTicket
 
 -- the answer to a ticket's number; no entry has the number 0
 abbrev pub ticket_answer : List EntryParts → ℕ → Result Content Refusal
@@ -121,15 +121,15 @@ abbrev pub asking : Situation → List ℕ → Kind → List ℕ → Asking
 asking w key kind plate = record { now = w; key = key; kind = kind; plate = plate }
 
 -- the answer to a request; b is the purge bound on the day of its moment. The journal is exported also if it is damaged
-abbrev pub answer : Situation → ℕ → Request → Result Content Refusal
-answer w b (Weigh key kind plate) = answer_by_verdict w.entries (verdict (asking w key kind plate))
-answer w b (VoidOpen key plate) = answer_by_verdict w.entries (verdict (asking w key VoidKind plate))
-answer w b (Ticket number) = ticket_answer w.entries number
-answer w b Indication = Ok (text_content (text_of_indication w.setup (indicated w.setup w.history)))
-answer w b JournalCsv = Ok (csv_content (journal_csv w.entries))
-answer w b TicketsCsv = tickets_answer w.entries
-answer w b Purge = purge_answer w.entries b
-answer w b Check = Ok (check_answer w.entries)
+abbrev pub office_answer : Situation → ℕ → Request → Result Content Refusal
+office_answer w b (Weigh key kind plate) = answer_by_verdict w.entries (verdict (asking w key kind plate))
+office_answer w b (VoidOpen key plate) = answer_by_verdict w.entries (verdict (asking w key VoidKind plate))
+office_answer w b (Ticket number) = ticket_answer w.entries number
+office_answer w b Indication = Ok (text_content (text_of_indication w.setup (indicated w.setup w.history)))
+office_answer w b JournalCsv = Ok (csv_content (journal_csv w.entries))
+office_answer w b TicketsCsv = tickets_answer w.entries
+office_answer w b Purge = purge_answer w.entries b
+office_answer w b Check = Ok (check_answer w.entries)
 
 -- ---- what a request makes of the journal
 

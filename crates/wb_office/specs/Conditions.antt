@@ -1,7 +1,7 @@
 -- The conditions on which a weighing or void is refused: those with a section are OIML R 76-1:2006's, the others this project's own.
 use Rattle.std.specs.Prelude.{ℕ, ◌+◌, Bool, false, not, ◌&&◌, ◌||◌, nat_lt, List, length, Option, Some, None, is_some, is_none, ℤ, int_lt}
 use Rattle.std.specs.Str.{bytes_eq}
-use Rattle.wb_instrument.specs.Limits.{is_below_min, is_over, is_under}
+use Rattle.wb_instrument.specs.Limits.{is_below_min, is_above_range, is_below_range}
 use Rattle.wb_journal.specs.declared.entry.EntryParts.{EntryParts}
 use Rattle.wb_journal.specs.declared.kind.Kind.{Kind}
 use Rattle.wb_journal.specs.declared.kind.Kind.TheVariants.{First, Second, Single, Void}
@@ -38,12 +38,12 @@ abbrev pub key_gone : Asking → Bool
 key_gone a = is_spent a.now.spent a.key
 
 -- an entry that isn't sound, or is a Second whose partner is missing or isn't sound
-abbrev pub is_damaged : List EntryParts → EntryParts → Bool
-is_damaged es e = not (is_sound_entry e) || (is_second_kind e.kind && not (holds_of is_sound_entry (partner_in es e)))
+abbrev pub is_damaged_entry : List EntryParts → EntryParts → Bool
+is_damaged_entry es e = not (is_sound_entry e) || (is_second_kind e.kind && not (holds_of is_sound_entry (partner_in es e)))
 
 -- the key repeats such an entry
 abbrev pub damaged_repetition : Asking → Bool
-damaged_repetition a = holds_of (λ e. not (is_other a e) && is_damaged a.now.entries e) (entry_by_key a.now.entries a.key)
+damaged_repetition a = holds_of (λ e. not (is_other a e) && is_damaged_entry a.now.entries e) (entry_by_key a.now.entries a.key)
 
 -- ---- of the moment
 
@@ -53,47 +53,47 @@ clock_back a = holds_of (λ e. nat_lt a.now.at e.moment) (newest_entry a.now.ent
 
 -- ---- of the load: a First, Second or Single is asked for; a Void needs none
 
-abbrev pub weighs : Asking → Bool
-weighs a = not (is_void_kind a.kind)
+abbrev pub asks_to_weigh : Asking → Bool
+asks_to_weigh a = not (is_void_kind a.kind)
 
 -- there is no gross
 abbrev pub no_load : Asking → Bool
-no_load a = weighs a && is_none (gross a.now.history)
+no_load a = asks_to_weigh a && is_none (gross a.now.history)
 
 -- gross is above Max + 9 e (4.2.3)
 abbrev pub overload : Asking → Bool
-overload a = weighs a && holds_of (is_over a.now.setup) (gross a.now.history)
+overload a = asks_to_weigh a && holds_of (is_above_range a.now.setup) (gross a.now.history)
 
 -- gross is below -20 e
 abbrev pub underload : Asking → Bool
-underload a = weighs a && holds_of is_under (gross a.now.history)
+underload a = asks_to_weigh a && holds_of is_below_range (gross a.now.history)
 
 -- the scale isn't in stable equilibrium (4.4.2)
 abbrev pub unstable : Asking → Bool
-unstable a = weighs a && not (is_stable a.now.setup.window a.now.setup.band (readings a.now.history))
+unstable a = asks_to_weigh a && not (is_stable a.now.setup.window a.now.setup.band (readings a.now.history))
 
 -- gross is below Min (20 e in class III with e of 5 g or more: 3.2; that it is refused is this project's own)
 abbrev pub below_min : Asking → Bool
-below_min a = weighs a && holds_of is_below_min (gross a.now.history)
+below_min a = asks_to_weigh a && holds_of is_below_min (gross a.now.history)
 
 -- any tare is in force for a First or Second, a weighed one for a Single
 abbrev pub tare_active : Asking → Bool
-tare_active a = weighs a && (is_weighed (tare_now a.now.history) || (not (is_single_kind a.kind) && is_preset (tare_now a.now.history)))
+tare_active a = asks_to_weigh a && (is_weighed (tare_now a.now.history) || (not (is_single_kind a.kind) && is_preset (tare_now a.now.history)))
 
 -- a preset tare is in force, and the gross is above it
-abbrev pub is_preset_below : TareNow → Option ℤ → Bool
-is_preset_below (Preset whole) (Some g) = int_lt whole g
-is_preset_below (Preset whole) None = false
-is_preset_below (Weighed tenths) g = false
-is_preset_below Empty g = false
+abbrev pub gross_is_above_preset : TareNow → Option ℤ → Bool
+gross_is_above_preset (Preset whole) (Some g) = int_lt whole g
+gross_is_above_preset (Preset whole) None = false
+gross_is_above_preset (Weighed tenths) g = false
+gross_is_above_preset Empty g = false
 
 -- a Single is asked for, and no preset tare is in force, or one that isn't below the gross
 abbrev pub no_preset : Asking → Bool
-no_preset a = is_single_kind a.kind && not (is_preset_below (tare_now a.now.history) (gross a.now.history))
+no_preset a = is_single_kind a.kind && not (gross_is_above_preset (tare_now a.now.history) (gross a.now.history))
 
 -- the bridge was not cleared since the last stored weighing, or since the opening
 abbrev pub not_cleared : Asking → Bool
-not_cleared a = weighs a && not (is_cleared a.now.history)
+not_cleared a = asks_to_weigh a && not (is_cleared a.now.history)
 
 -- ---- of the journal
 

@@ -8,7 +8,7 @@ use Rattle.wb_store.specs.Rows.{SpentKey}
 use Rattle.wb_office.specs.declared.refusal.Refusal.{Refusal}
 use Rattle.wb_office.specs.declared.request.Request.{Request}
 use Rattle.wb_office.specs.declared.request.Request.TheVariants.{Weigh, VoidOpen}
-use Rattle.wb_office.specs.Answer.{Content, Outcome, adds, answer, asking, entries_left, outcome, spent_left}
+use Rattle.wb_office.specs.Answer.{Content, Outcome, adds, office_answer, asking, entries_left, outcome, spent_left}
 use Rattle.wb_office.specs.Situation.{Situation}
 use Rattle.wb_office.specs.Verdict.{Verdict, accepted, refused, repeated, verdict}
 use Rattle.wb_office.specs.Wanted.{HasBound}
@@ -53,7 +53,7 @@ abbrev pub situation_of_turn : Journal → RequestTurn → Situation
 situation_of_turn j t = record { setup = t.setup; history = t.history; entries = j.entries; spent = j.spent; at = t.at }
 
 abbrev pub answer_in : Journal → RequestTurn → Result Content Refusal
-answer_in j t = answer (situation_of_turn j t) t.bound t.request
+answer_in j t = office_answer (situation_of_turn j t) t.bound t.request
 
 -- the journal that it leaves if it is made
 abbrev pub left : Journal → RequestTurn → Journal

@@ -1,7 +1,7 @@
 -- Laws of the office's definitions, in the words of a weighbridge's operator.
 use Rattle.std.specs.Prelude.{◌≡◌, ◌⊎◌, ℕ, ◌+◌, ◌<◌, ◌≤◌, max, Bool, true, false, ◌||◌, if◌then◌else◌, All, Contains, List, length, take, count_by, Some, None, Result, Err, ℤ, pos, ◌≤ℤ◌}
 use Rattle.std.specs.List.{list_any}
-use Rattle.wb_instrument.specs.Limits.{is_over, is_under}
+use Rattle.wb_instrument.specs.Limits.{is_above_range, is_below_range}
 use Rattle.wb_instrument.specs.Setup.{Setup, IsSetup}
 use Rattle.wb_journal.specs.declared.entry.EntryParts.{EntryParts}
 use Rattle.wb_journal.specs.Kind.{is_closing_kind, is_void_kind}
@@ -20,9 +20,9 @@ use Rattle.wb_office.specs.declared.refusal.Refusal.{Refusal}
 use Rattle.wb_office.specs.declared.refusal.Refusal.TheVariants as refusal
 use Rattle.wb_office.specs.declared.request.Request.{Request}
 use Rattle.wb_office.specs.declared.request.Request.TheVariants.{Purge}
-use Rattle.wb_office.specs.Answer.{Content, IsBoundAt, entries_left, has_ticket, spent_left, ticket_answer}
+use Rattle.wb_office.specs.Answer.{Content, IsBoundAt, entries_left, makes_a_ticket, spent_left, ticket_answer}
 use Rattle.wb_office.specs.Situation.{Asking, Situation}
-use Rattle.wb_office.specs.Conditions.{is_damaged, is_other, places}
+use Rattle.wb_office.specs.Conditions.{is_damaged_entry, is_other, places}
 use Rattle.wb_office.specs.CourseOfRequests.{AreBounds, Journal, RequestTurn, added, additions, after, answer_in, answered_with, left, situation_of_turn}
 use Rattle.wb_office.specs.Verdict.{first_refusal, kilograms_of, of_new, on_new, refused, repeated, verdict}
 
@@ -49,7 +49,7 @@ OneEntryPerKey = (j : Journal) (ts : List RequestTurn) (key : List ℕ) → IsAc
 pub record IsKeptEntry (j : Journal) (e : EntryParts) (first again : Result Content Refusal) : Type 0 where
   pub stored : entry_by_key j.entries e.key ≡ Some e
   pub same : again ≡ first
-  pub ticket : has_ticket e ≡ true → ticket_answer j.entries e.number ≡ first
+  pub ticket : makes_a_ticket e ≡ true → ticket_answer j.entries e.number ≡ first
 
 -- its entry was purged: it is refused as gone
 pub record IsGone (j : Journal) (e : EntryParts) (again : Result Content Refusal) : Type 0 where
@@ -66,9 +66,9 @@ AnsweredAgain = (j : Journal) → AreLists j.entries j.spent → (t : RequestTur
 -- what a request for an entry comes to by its key, whoever wrote the tables: the load and the clock are looked at only if the key is new
 pub record IsByKey (a : Asking) : Type 0 where
   -- an entry of this key, kind and plate is stored: it is repeated
-  pub repeated : (e : EntryParts) → entry_by_key a.now.entries a.key ≡ Some e → is_other a e ≡ false → is_damaged a.now.entries e ≡ false → verdict a ≡ repeated e
+  pub repeated : (e : EntryParts) → entry_by_key a.now.entries a.key ≡ Some e → is_other a e ≡ false → is_damaged_entry a.now.entries e ≡ false → verdict a ≡ repeated e
   -- or refused, if the entry or its partner isn't sound
-  pub damaged : (e : EntryParts) → entry_by_key a.now.entries a.key ≡ Some e → is_other a e ≡ false → is_damaged a.now.entries e ≡ true → verdict a ≡ refused refusal.Damaged
+  pub damaged : (e : EntryParts) → entry_by_key a.now.entries a.key ≡ Some e → is_other a e ≡ false → is_damaged_entry a.now.entries e ≡ true → verdict a ≡ refused refusal.Damaged
   -- the entry of this key is of another kind or plate
   pub reused : (e : EntryParts) → entry_by_key a.now.entries a.key ≡ Some e → is_other a e ≡ true → verdict a ≡ refused refusal.KeyReused
   -- it was purged
@@ -112,8 +112,8 @@ pub record IsWeighed (s : Setup) (ms : List Moment) (e : EntryParts) : Type 0 wh
   pub stored : e.gross_kg ≡ Some (kilograms_of s gross)
   -- it was indicated, in stable equilibrium
   pub stable : indicated s ms ≡ Shown gross net true
-  pub not_over : is_over s gross ≡ false
-  pub not_under : is_under gross ≡ false
+  pub not_over : is_above_range s gross ≡ false
+  pub not_under : is_below_range gross ≡ false
   -- at least Min, 20 e
   pub at_least_min : pos 20 ≤ℤ gross
   -- the bridge was cleared since the last stored weighing, or since the opening

@@ -11,7 +11,7 @@ use Rattle.wb_office.specs.declared.refusal.Refusal.{Refusal}
 use Rattle.wb_office.specs.declared.request.Request.{Request}
 use Rattle.wb_office.specs.declared.request.Request.TheVariants.{Purge}
 use Rattle.wb_store.specs.Purging.{spent_by}
-use Rattle.wb_office.specs.Answer.{Content, IsBoundAt, answer, entries_left, marks, spent_left, ticket_answer}
+use Rattle.wb_office.specs.Answer.{Content, IsBoundAt, office_answer, entries_left, marks, spent_left, ticket_answer}
 use Rattle.wb_office.specs.Situation.{Situation}
 use Rattle.wb_office.specs.CourseOfRequests.{AreBounds, Journal, RequestTurn, additions, after}
 
@@ -56,7 +56,7 @@ pub record ChangesNothing (w : Situation) (b : ℕ) (request : Request) : Type 0
 
 -- a refusal leaves the entries and the spent keys as they are, and marks nothing on the scale
 abbrev pub RefusalsChangeNothing : Type 0
-RefusalsChangeNothing = (w : Situation) (b : ℕ) (request : Request) (why : Refusal) → answer w b request ≡ Err why → ChangesNothing w b request
+RefusalsChangeNothing = (w : Situation) (b : ℕ) (request : Request) (why : Refusal) → office_answer w b request ≡ Err why → ChangesNothing w b request
 
 -- ---- partners, and the check
 

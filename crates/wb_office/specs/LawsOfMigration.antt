@@ -8,7 +8,7 @@ use Rattle.wb_journal.specs.Rising.{IsRising}
 use Rattle.wb_store.specs.Lists.{entry_by_key, is_spent}
 use Rattle.wb_store.specs.Migrated.{MayBeChained}
 use Rattle.wb_office.specs.declared.request.Request.{Request}
-use Rattle.wb_office.specs.Answer.{answer, entry_content}
+use Rattle.wb_office.specs.Answer.{office_answer, entry_content}
 use Rattle.wb_office.specs.Situation.{Asking}
 use Rattle.wb_office.specs.Conditions.{is_other}
 use Rattle.wb_office.specs.Stops.{Asks}
@@ -28,7 +28,7 @@ pub record IsRepeatedAlike (es : List EntryParts) (e : EntryParts) (a : Asking) 
   pub alike : but_digests entry ≡ but_digests e
   pub partner : option_map but_digests (partner_in (chained es) entry) ≡ option_map but_digests (partner_in es e)
   pub judged : verdict a ≡ repeated entry
-  pub told : (request : Request) (bound : ℕ) → Asks request a → answer a.now bound request ≡ Ok (entry_content (chained es) entry entry.kind)
+  pub told : (request : Request) (bound : ℕ) → Asks request a → office_answer a.now bound request ≡ Ok (entry_content (chained es) entry entry.kind)
 
 -- an entry that was accepted before a migration is told again after it, at whatever setup, load and moment, with the same text but for digest lines
 abbrev pub RepeatedOverMigration : Type 0

@@ -14,9 +14,9 @@ use Rattle.wb_office.specs.declared.refusal.Refusal.{Refusal}
 use Rattle.wb_office.specs.declared.refusal.Refusal.TheVariants as refusal
 use Rattle.wb_office.specs.declared.request.Request.{Request}
 use Rattle.wb_office.specs.declared.request.Request.TheVariants.{Weigh, VoidOpen}
-use Rattle.wb_office.specs.Answer.{Content, answer, answer_by_verdict, entry_content}
+use Rattle.wb_office.specs.Answer.{Content, office_answer, answer_by_verdict, entry_content}
 use Rattle.wb_office.specs.Situation.{Asking, IsOnLists}
-use Rattle.wb_office.specs.Conditions.{is_damaged, is_other}
+use Rattle.wb_office.specs.Conditions.{is_damaged_entry, is_other}
 use Rattle.wb_office.specs.CourseOfRequests.{Journal, RequestTurn, left, situation_of_turn}
 use Rattle.wb_office.specs.Serves.{IsNow, Serves}
 use Rattle.wb_office.specs.Verdict.{first_refusal, of_new, on_new}
@@ -34,9 +34,9 @@ pub record IsStoredUnder (a : Asking) (e : EntryParts) : Type 0 where
 -- what the request is answered, by its key
 pub record IsAnsweredByKey (a : Asking) (again : Result Content Refusal) : Type 0 where
   -- its entry is stored: with the text that is kept
-  pub kept : (e : EntryParts) → IsStoredUnder a e → is_damaged a.now.entries e ≡ false → again ≡ Ok (entry_content a.now.entries e e.kind)
+  pub kept : (e : EntryParts) → IsStoredUnder a e → is_damaged_entry a.now.entries e ≡ false → again ≡ Ok (entry_content a.now.entries e e.kind)
   -- but it is refused, if the entry or its partner isn't sound
-  pub damaged : (e : EntryParts) → IsStoredUnder a e → is_damaged a.now.entries e ≡ true → again ≡ Err refusal.Damaged
+  pub damaged : (e : EntryParts) → IsStoredUnder a e → is_damaged_entry a.now.entries e ≡ true → again ≡ Err refusal.Damaged
   -- or if the key is that of another kind or plate
   pub reused : (e : EntryParts) → entry_by_key a.now.entries a.key ≡ Some e → is_other a e ≡ true → again ≡ Err refusal.KeyReused
   -- its entry was purged: it is refused as gone
@@ -52,7 +52,7 @@ pub record IsFoundAgain (j : Journal) (t : RequestTurn) (db : Database) : Type 0
   pub tables : HasTables db.schema
   pub holds : Holds db now.entries now.spent
   pub beside : MayHaveOpen db.schema
-  pub again : (a : Asking) (bound : ℕ) → IsOnLists now.entries now.spent a → Asks t.request a → IsAnsweredByKey a (answer a.now bound t.request)
+  pub again : (a : Asking) (bound : ℕ) → IsOnLists now.entries now.spent a → Asks t.request a → IsAnsweredByKey a (office_answer a.now bound t.request)
 
 module _ {D : Type 0} (g : Ghosts D) where
   -- a request was asked of an office whose store stood for the journal, and was answered, refused, or broken off by the disk

@@ -2,7 +2,7 @@
 use Rattle.std.specs.Prelude.{◌≡◌, ℕ, Bool, true, false, ◌==◌, not, List, Result}
 use Rattle.wb_office.specs.declared.request.Request.{Request}
 use Rattle.wb_office.specs.declared.request.Request.TheVariants.{Ticket, Indication, Purge}
-use Rattle.wb_office.specs.Answer.{IsBoundAt, answer, entries_left, marks, spent_left, Content}
+use Rattle.wb_office.specs.Answer.{IsBoundAt, office_answer, entries_left, marks, spent_left, Content}
 use Rattle.wb_office.specs.Situation.{Situation}
 use Rattle.wb_journal.specs.declared.entry.EntryParts.{EntryParts}
 use Rattle.wb_store.specs.Rows.{SpentKey}
@@ -21,7 +21,7 @@ HasBound Purge w b = IsBoundAt w.setup w.entries w.spent w.at b
 HasBound _ w b = Unit {0}
 
 abbrev pub wanted : Request → Situation → ℕ → Wanted
-wanted request w b = record { answer = answer w b request; entries = entries_left w b request; spent = spent_left w b request; marks = marks w request }
+wanted request w b = record { answer = office_answer w b request; entries = entries_left w b request; spent = spent_left w b request; marks = marks w request }
 
 -- the answer of the definitions, with what it leaves
 pub record IsWanted (request : Request) (w : Situation) (want : Wanted) : Type 0 where

@@ -1,7 +1,7 @@
 //! Records of an export, written by `csv`. Over memory its writer refuses for want of it alone.
 ghost use Rattle.csv.specs.Writing.{default_writer, row_text};
 ghost use Rattle.std.specs.Prelude.{◌≡◌, ◌++◌, ◌∷◌, [], IfOk, decimal};
-ghost use Rattle.wb_office.specs.Exports.{optional, optional_signed};
+ghost use Rattle.wb_office.specs.Exports.{optional_field, optional_signed_field};
 
 use crate::answer::CsvText;
 use csv::{ByteRecord, Writer};
@@ -60,7 +60,7 @@ impl Fields {
 
     /// With a number as one field more, which is empty where there is none.
     pub(crate) fn optional(self, number: Option<u32>) -> Result<Self, AllocError>
-        ensures { IfOk result (λ fields. fields ≡ self ++ optional number ∷ []) }
+        ensures { IfOk result (λ fields. fields ≡ self ++ optional_field number ∷ []) }
     {
         match number {
             Some(number) => self.number(number),
@@ -70,7 +70,7 @@ impl Fields {
 
     /// The same of a number that may be negative.
     pub(crate) fn optional_signed(self, number: Option<i32>) -> Result<Self, AllocError>
-        ensures { IfOk result (λ fields. fields ≡ self ++ optional_signed number ∷ []) }
+        ensures { IfOk result (λ fields. fields ≡ self ++ optional_signed_field number ∷ []) }
     {
         match number {
             Some(number) => {

@@ -5,7 +5,7 @@ use Rattle.std.proofs.lemmas.Int.{ints}
 use Rattle.wb_instrument.proofs.offered.Rounding.{IsRounded-round}
 use Rattle.wb_instrument.specs.Preset.{IsPreset, preset}
 use Rattle.wb_instrument.specs.Rounding.{round}
-use Rattle.wb_instrument.specs.Setup.{Setup, intervals}
+use Rattle.wb_instrument.specs.Setup.{Setup, intervals_in_max}
 use Rattle.wb_window.specs.Stability.{is_stable}
 use Rattle.wb_scale.specs.declared.answers.Indicated.TheVariants.{Over, Shown, Under}
 use Rattle.wb_scale.specs.declared.answers.TareAnswer.{TareAnswer}
@@ -34,10 +34,10 @@ pub weighed-refused : (s : State) (h : List Call) (answer : TareAnswer) → IsSc
 weighed-refused s h answer is from b n = rw (sym (balance_answer-held s h is from) ∙ b, n) refl
 
 -- a preset tare is 1 to n intervals
-pub preset-range : (s : Setup) (grams : ℕ) (o : Option ℤ) (whole : ℤ) → o ≡ option_map pos (preset s grams) → ((m : ℕ) → (o ≡ Some (pos m)) ↔ IsPreset s grams m) → o ≡ Some whole → (pos 1 ≤ℤ whole) × (whole ≤ℤ pos (intervals s))
+pub preset-range : (s : Setup) (grams : ℕ) (o : Option ℤ) (whole : ℤ) → o ≡ option_map pos (preset s grams) → ((m : ℕ) → (o ≡ Some (pos m)) ↔ IsPreset s grams m) → o ≡ Some whole → (pos 1 ≤ℤ whole) × (whole ≤ℤ pos (intervals_in_max s))
 preset-range s grams o whole e is w = go (preset s grams) refl
   where
-    go : (p : Option ℕ) → preset s grams ≡ p → (pos 1 ≤ℤ whole) × (whole ≤ℤ pos (intervals s))
+    go : (p : Option ℕ) → preset s grams ≡ p → (pos 1 ≤ℤ whole) × (whole ≤ℤ pos (intervals_in_max s))
     go None q = absurd (cc (rw q at e))
     go (Some m) q =
         let some : o ≡ Some (pos m) = rw q at e in
@@ -76,20 +76,20 @@ indicated-held s h is from = rw (stable-held s h is from, above-held s h is from
 not_above : (a b : ℤ) → int_lt a b ≡ false → b ≤ℤ a
 not_above a b e = grind (arith, ints)
 
-tare_range : (s : Setup) (tare : TareNow) → IsTare s tare → (pos 0 ≤ℤ tare_tenths tare) × (tare_tenths tare ≤ℤ pos (10 * intervals s))
+tare_range : (s : Setup) (tare : TareNow) → IsTare s tare → (pos 0 ≤ℤ tare_tenths tare) × (tare_tenths tare ≤ℤ pos (10 * intervals_in_max s))
 tare_range s Empty is = (omega (arith, ints), omega (arith, ints))
 tare_range s (Weighed tenths) is = (omega (arith, ints, is.0), omega (arith, ints, is.1))
 tare_range s (Preset whole) is = (omega (arith, ints, is.0), omega (arith, ints, is.1))
 
-shown_range : (s : Setup) (stable : Bool) (gross net : ℤ) → neg_ℤ (pos (intervals s)) ≤ℤ (net -ℤ gross) → net ≤ℤ gross → IsIndicationInRange s (weights_unless_outside s stable gross net)
-shown_range s stable gross net low high = go (int_lt (pos (intervals s + 9)) gross) (int_lt gross (neg_ℤ (pos 20))) refl refl
+shown_range : (s : Setup) (stable : Bool) (gross net : ℤ) → neg_ℤ (pos (intervals_in_max s)) ≤ℤ (net -ℤ gross) → net ≤ℤ gross → IsIndicationInRange s (weights_unless_outside s stable gross net)
+shown_range s stable gross net low high = go (int_lt (pos (intervals_in_max s + 9)) gross) (int_lt gross (neg_ℤ (pos 20))) refl refl
   where
-    go : (a b : Bool) → int_lt (pos (intervals s + 9)) gross ≡ a → int_lt gross (neg_ℤ (pos 20)) ≡ b
+    go : (a b : Bool) → int_lt (pos (intervals_in_max s + 9)) gross ≡ a → int_lt gross (neg_ℤ (pos 20)) ≡ b
         → IsIndicationInRange s (cond a Over (cond b Under (Shown gross net stable)))
     go true b p q = tt
     go false true p q = tt
     go false false p q =
-        let most : gross ≤ℤ pos (intervals s + 9) = not_above (pos (intervals s + 9)) gross p in
+        let most : gross ≤ℤ pos (intervals_in_max s + 9) = not_above (pos (intervals_in_max s + 9)) gross p in
         let least : neg_ℤ (pos 20) ≤ℤ gross = not_above gross (neg_ℤ (pos 20)) q in
         (least, most, omega (arith, ints), omega (arith, ints))
 

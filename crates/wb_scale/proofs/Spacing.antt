@@ -6,7 +6,7 @@ use Rattle.std.proofs.lemmas.Bool.Decides.{nat_tests}
 use Rattle.std.specs.Prelude.{nat_lt, not, count_by}
 use Rattle.std.specs.List.{list_all}
 use Rattle.std.specs.Ordering.{int_eq}
-use Rattle.wb_instrument.specs.Limits.{tracking_gap, zero_limit}
+use Rattle.wb_instrument.specs.Limits.{readings_a_step, farthest_zero}
 use Rattle.wb_instrument.specs.Setup.{Setup}
 use Rattle.wb_window.specs.Stability.{is_stable}
 use Rattle.wb_window.specs.declared.reading.Reading.{Reading}
@@ -67,15 +67,15 @@ few g j nought xs s q = inl refl
 few g j (suc m) [] s q = inl refl
 few g j (suc m) (d ∷ xs) s q = few-cons g m d xs (int_eq d (pos 0)) refl s.0 (λ k p. few g k m xs s.1 p) j q
 
-step_quiet : (i : Setup) (r : Reading) (ms : List Moment) → is_step (step_at i r ms) ≡ true → is_quiet (tracking_gap i - 1) ms ≡ true
-step_quiet i r ms e = go (is_stable i.window i.band (r ∷ readings ms)) (is_quiet (tracking_gap i - 1) ms) (step_to (pos (zero_limit i)) (zero_now ms) (load_of r)) e
+step_quiet : (i : Setup) (r : Reading) (ms : List Moment) → is_step (step_at i r ms) ≡ true → is_quiet (readings_a_step i - 1) ms ≡ true
+step_quiet i r ms e = go (is_stable i.window i.band (r ∷ readings ms)) (is_quiet (readings_a_step i - 1) ms) (step_to (pos (farthest_zero i)) (zero_now ms) (load_of r)) e
   where
     go : (a b : Bool) (d : ℤ) → is_step (cond (a && b) d (pos 0)) ≡ true → b ≡ true
     go true true d k = refl
     go true false d k = absurd (cc)
     go false b d k = absurd (cc)
 
-spaced-read : (i : Setup) (r : Reading) (ms : List Moment) (m : Moment) → m.reading ≡ Some r → ((m.step ≡ step_at i r ms) ⊎ (m.step ≡ pos 0)) → Spaced (tracking_gap i - 1) (steps ms) → Spaced (tracking_gap i - 1) (steps (m ∷ ms))
+spaced-read : (i : Setup) (r : Reading) (ms : List Moment) (m : Moment) → m.reading ≡ Some r → ((m.step ≡ step_at i r ms) ⊎ (m.step ≡ pos 0)) → Spaced (readings_a_step i - 1) (steps ms) → Spaced (readings_a_step i - 1) (steps (m ∷ ms))
 spaced-read i r ms m e d s =
     rw (steps-taken m ms r e) (
       elim d [
@@ -96,8 +96,8 @@ spaced-either : (g : ℕ) (b : Bool) (m n : Moment) (ms : List Moment) → Space
 spaced-either g true m n ms s t = s
 spaced-either g false m n ms s t = t
 
-spaced : (i : Setup) (h : List Call) → Spaced (tracking_gap i - 1) (steps (moments i h))
-spaced i [] = spaced-nothing (tracking_gap i - 1)
+spaced : (i : Setup) (h : List Call) → Spaced (readings_a_step i - 1) (steps (moments i h))
+spaced i [] = spaced-nothing (readings_a_step i - 1)
 spaced i (read r ∷ h) = spaced-read i r (moments i h) _ refl (inl refl) (spaced i h)
 spaced i (read_for_zero r ∷ h) =
     spaced-either _ _ _ _ (moments i h) (spaced-read i r (moments i h) _ refl (inr refl) (spaced i h)) (spaced-read i r (moments i h) _ refl (inl refl) (spaced i h))
@@ -117,12 +117,12 @@ five k c p l q h = go (nat_lt 5 c) refl
 
 pub five_at_most : FiveAtMost
 five_at_most i is h n =
-    let g = tracking_gap i - 1 in
+    let g = readings_a_step i - 1 in
     elim (few g 0 i.pace (drop n (steps (moments i h))) (Spaced-drop g n (steps (moments i h)) (spaced i h)) refl) [
       | inl z ↦ omega arith
       | inr l ↦
           let pace = is.pace in
-          let one : 1 ≤ tracking_gap i = omega arith in
-          let whole : g + 1 ≡ tracking_gap i = omega arith in
-          five (tracking_gap i) (count_by is_step (take i.pace (drop n (steps (moments i h))))) i.pace one (omega arith) (rw whole at l)
+          let one : 1 ≤ readings_a_step i = omega arith in
+          let whole : g + 1 ≡ readings_a_step i = omega arith in
+          five (readings_a_step i) (count_by is_step (take i.pace (drop n (steps (moments i h))))) i.pace one (omega arith) (rw whole at l)
     ]

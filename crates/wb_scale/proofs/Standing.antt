@@ -2,7 +2,7 @@
 use Rattle.std.proofs.Common.{◌≡◌, ℕ, zero as nought, suc, ◌-◌, ◌≤◌, Bool, true, false, ◌&&◌, cond, List, [], ◌∷◌, take, Some, None, refl, sym, ◌∙◌, ap, subst, ℤ, pos, ◌+ℤ◌, ◌≤ℤ◌, neg_ℤ, arith}
 use Rattle.std.specs.Prelude.{nat_le}
 use Rattle.std.proofs.lemmas.Int.{ints}
-use Rattle.wb_instrument.specs.Limits.{tracking_gap, zero_limit}
+use Rattle.wb_instrument.specs.Limits.{readings_a_step, farthest_zero}
 use Rattle.wb_instrument.specs.Setup.{Setup}
 use Rattle.wb_window.specs.Reading.{IsReading}
 use Rattle.wb_window.specs.Stability.{is_stable}
@@ -64,14 +64,14 @@ IsScale-seen s r is k = record {
   tare = is.tare;
 }
 
-pub IsScale-moved : (s : State) (d : ℤ) → IsScale s → (neg_ℤ (pos (zero_limit s.setup)) ≤ℤ (s.zero +ℤ d)) × ((s.zero +ℤ d) ≤ℤ pos (zero_limit s.setup)) → IsScale (moved s d)
+pub IsScale-moved : (s : State) (d : ℤ) → IsScale s → (neg_ℤ (pos (farthest_zero s.setup)) ≤ℤ (s.zero +ℤ d)) × ((s.zero +ℤ d) ≤ℤ pos (farthest_zero s.setup)) → IsScale (moved s d)
 IsScale-moved s d is b = record {
   setup = is.setup;
   size = is.size;
   band = is.band;
   readings = is.readings;
   zero = b;
-  pause = pause_from-le d s.pause (tracking_gap s.setup) is.pause;
+  pause = pause_from-le d s.pause (readings_a_step s.setup) is.pause;
   tare = is.tare;
 }
 
@@ -83,15 +83,15 @@ swap_tests false false x y = refl
 
 -- the step that a scale makes is the one that all the moments say
 pub step-seen : (s : State) (r : Reading) (h : List Call) → IsScale s → ScaleStands s h
-    → step_of (is_stable s.held.size s.held.band (seen s r).held.readings) s.pause (pos (zero_limit s.setup)) s.zero (last_load (seen s r).held.readings) ≡ step_at s.setup r (moments s.setup h)
+    → step_of (is_stable s.held.size s.held.band (seen s r).held.readings) s.pause (pos (farthest_zero s.setup)) s.zero (last_load (seen s r).held.readings) ≡ step_at s.setup r (moments s.setup h)
 step-seen s r h is from =
     let i = s.setup in
     let ms = moments i h in
-    let gap = tracking_gap i - 1 in
+    let gap = readings_a_step i - 1 in
     let whole : gap - 0 ≡ gap = omega arith in
     let quiet : nat_le s.pause 0 ≡ is_quiet gap ms = from.now.pause 0 ∙ ap (λ k. is_quiet k ms) whole in
     rw (stable-seen s r h is from, quiet, load-seen s r is, from.now.zero)
-    (swap_tests (is_quiet gap ms) (is_stable i.window i.band (r ∷ readings ms)) (step_to (pos (zero_limit i)) (zero_now ms) (load_of r)) (pos 0))
+    (swap_tests (is_quiet gap ms) (is_stable i.window i.band (r ∷ readings ms)) (step_to (pos (farthest_zero i)) (zero_now ms) (load_of r)) (pos 0))
 
 -- a moment that takes a reading and stores nothing: whether the bridge is cleared
 pub cleared-taken : (m : Moment) (ms : List Moment) (r : Reading) (cleared : Bool) → m.reading ≡ Some r → m.stored ≡ false → cleared ≡ is_cleared ms → cleared_from cleared (above (load_of r) (zero_now (m ∷ ms))) ≡ is_cleared (m ∷ ms)
@@ -110,7 +110,7 @@ Stands-read s r h is from =
       now = record {
         held = rw (is.size, st.held) (take_kept i.window r (readings ms)) ∙ ap (take i.window) (sym (readings-taken m ms r refl));
         zero = rw same zero;
-        pause = rw same (Pauses-taken (tracking_gap i) s.pause m ms r is.pause refl st.pause);
+        pause = rw same (Pauses-taken (readings_a_step i) s.pause m ms r is.pause refl st.pause);
         tare = st.tare ∙ sym (tare_now-same m ms refl);
         cleared = rw (same, load-seen s r is, zero) (cleared-taken m ms r s.cleared refl refl st.cleared);
       };
@@ -122,7 +122,7 @@ StandsAt-other : (i : Setup) (s : State) (m : Moment) (ms : List Moment) (tare :
 StandsAt-other i s m ms tare cleared r z d t c st = record {
   held = st.held ∙ ap (take i.window) (sym (readings-none m ms r));
   zero = st.zero ∙ (let e = zero_now-step m ms z in omega (arith, ints));
-  pause = λ k. st.pause k ∙ sym (is_quiet-none (tracking_gap i - 1 - k) m ms r);
+  pause = λ k. st.pause k ∙ sym (is_quiet-none (readings_a_step i - 1 - k) m ms r);
   tare = t;
   cleared = c;
 }
@@ -156,7 +156,7 @@ Stands-stored s h from =
 -- a fresh scale stands after no call
 pub Stands-fresh : (s : State) → s.held.readings ≡ [] → s.zero ≡ pos 0 → s.pause ≡ 0 → s.tare ≡ Empty → s.cleared ≡ false → ScaleStands s []
 unfolding readings zero_now tare_now is_cleared
-Stands-fresh s r z p t c = record { now = record { held = r ∙ none s.setup.window; zero = z; pause = λ k. rw p (Pauses-fresh (tracking_gap s.setup - 1) k); tare = t; cleared = c } }
+Stands-fresh s r z p t c = record { now = record { held = r ∙ none s.setup.window; zero = z; pause = λ k. rw p (Pauses-fresh (readings_a_step s.setup - 1) k); tare = t; cleared = c } }
   where
     none : (n : ℕ) → [] ≡ take {A = Reading} n []
     none nought = refl
@@ -164,7 +164,7 @@ Stands-fresh s r z p t c = record { now = record { held = r ∙ none s.setup.win
 
 -- what the code makes of its numbers is what zero tracking leaves
 pub tracked-parts : (s : State) (zero : ℤ) (pause : ℕ) (cleared : Bool) (d : ℤ)
-    → d ≡ step_of (is_stable s.held.size s.held.band s.held.readings) s.pause (pos (zero_limit s.setup)) s.zero (last_load s.held.readings)
-    → zero ≡ s.zero +ℤ d → pause ≡ pause_from d s.pause (tracking_gap s.setup) → cleared ≡ cleared_from s.cleared (above (last_load s.held.readings) zero)
+    → d ≡ step_of (is_stable s.held.size s.held.band s.held.readings) s.pause (pos (farthest_zero s.setup)) s.zero (last_load s.held.readings)
+    → zero ≡ s.zero +ℤ d → pause ≡ pause_from d s.pause (readings_a_step s.setup) → cleared ≡ cleared_from s.cleared (above (last_load s.held.readings) zero)
     → record s { zero = zero; pause = pause; cleared = cleared } ≡ tracked s
 tracked-parts s zero pause cleared d e z p c = rw (c, z, p, e) refl

@@ -8,7 +8,7 @@ use Rattle.std.proofs.lemmas.List.{length-take}
 use Rattle.std.proofs.lemmas.List.Folds.{list_all_at}
 use Rattle.wb_instrument.proofs.offered.Rounding.{IsRounded-round}
 use Rattle.wb_instrument.specs.Rounding.{round}
-use Rattle.wb_instrument.specs.Setup.{Setup, intervals}
+use Rattle.wb_instrument.specs.Setup.{Setup, intervals_in_max}
 use Rattle.wb_window.specs.Stability.{are_near, is_stable, near}
 use Rattle.wb_window.specs.declared.reading.Reading.{Reading}
 use Rattle.wb_window.specs.declared.reading.Reading.TheVariants.{Load, Lost}
@@ -69,7 +69,7 @@ full n band rs s =
 -- what is shown stable is stable, and its gross is the load above the zero, rounded
 shown-stable : (s : Setup) (stable : Bool) (tare : TareNow) (tenths : Option ℤ) (gross net : ℤ) → indicated_at s stable tare tenths ≡ Shown gross net true → (stable ≡ true) × (option_map round tenths ≡ Some gross)
 shown-stable s stable tare None gross net e = absurd (cc)
-shown-stable s stable tare (Some x) gross net e = go (int_lt (pos (intervals s + 9)) (round x)) (int_lt (round x) (neg_ℤ (pos 20))) (round x) (round (x -ℤ tare_tenths tare)) e
+shown-stable s stable tare (Some x) gross net e = go (int_lt (pos (intervals_in_max s + 9)) (round x)) (int_lt (round x) (neg_ℤ (pos 20))) (round x) (round (x -ℤ tare_tenths tare)) e
   where
     go : (a b : Bool) (g n : ℤ) → cond a Over (cond b Under (Shown g n stable)) ≡ Shown gross net true → (stable ≡ true) × (Some g ≡ Some gross)
     go true b g n q = absurd (cc)

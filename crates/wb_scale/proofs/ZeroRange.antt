@@ -3,7 +3,7 @@ use Rattle.std.proofs.Common.{◌≡◌, Bool, true, false, ◌&&◌, cond, List
 use Rattle.std.specs.Prelude.{int_lt}
 use Rattle.std.specs.Ordering.{int_eq}
 use Rattle.std.proofs.lemmas.Int.{ints}
-use Rattle.wb_instrument.specs.Limits.{tracking_gap, zero_limit}
+use Rattle.wb_instrument.specs.Limits.{readings_a_step, farthest_zero}
 use Rattle.wb_instrument.specs.Rounding.{round}
 use Rattle.wb_instrument.specs.Setup.{Setup}
 use Rattle.wb_window.specs.Stability.{is_stable}
@@ -34,12 +34,12 @@ step_to-within limit zero (Some load) w = go (int_eq (round (load -ℤ zero)) (p
     go true false e = kept limit zero w
     go false b e = kept limit zero w
 
-step_at-within : (s : Setup) (r : Reading) (ms : List Moment) → Within (pos (zero_limit s)) (zero_now ms) → Within (pos (zero_limit s)) (zero_now ms +ℤ step_at s r ms)
-step_at-within s r ms w = go (is_stable s.window s.band (r ∷ readings ms) && is_quiet (tracking_gap s - 1) ms)
+step_at-within : (s : Setup) (r : Reading) (ms : List Moment) → Within (pos (farthest_zero s)) (zero_now ms) → Within (pos (farthest_zero s)) (zero_now ms +ℤ step_at s r ms)
+step_at-within s r ms w = go (is_stable s.window s.band (r ∷ readings ms) && is_quiet (readings_a_step s - 1) ms)
   where
-    go : (b : Bool) → Within (pos (zero_limit s)) (zero_now ms +ℤ cond b (step_to (pos (zero_limit s)) (zero_now ms) (load_of r)) (pos 0))
-    go true = step_to-within (pos (zero_limit s)) (zero_now ms) (load_of r) w
-    go false = kept (pos (zero_limit s)) (zero_now ms) w
+    go : (b : Bool) → Within (pos (farthest_zero s)) (zero_now ms +ℤ cond b (step_to (pos (farthest_zero s)) (zero_now ms) (load_of r)) (pos 0))
+    go true = step_to-within (pos (farthest_zero s)) (zero_now ms) (load_of r) w
+    go false = kept (pos (farthest_zero s)) (zero_now ms) w
 
 -- a load that the zero was set to
 record IsSet (limit : ℤ) (load : Option ℤ) : Type 0 where
@@ -69,12 +69,12 @@ after-step limit m ms e w = rw (zero_now-step m ms e) w
 after-none : (limit : ℤ) (m : Moment) (ms : List Moment) → m.zeroed ≡ None → m.step ≡ pos 0 → Within limit (zero_now ms) → Within limit (zero_now (m ∷ ms))
 after-none limit m ms e z w = after-step limit m ms e (rw z (kept limit (zero_now ms) w))
 
-at_first : (s : Setup) → Within (pos (zero_limit s)) (zero_now [])
+at_first : (s : Setup) → Within (pos (farthest_zero s)) (zero_now [])
 unfolding zero_now
 at_first s = (omega (arith, ints), omega (arith, ints))
 
-after-read : (s : Setup) (r : Reading) (ms : List Moment) → Within (pos (zero_limit s)) (zero_now ms) → Within (pos (zero_limit s)) (zero_now (moment_of_reading s r ms ∷ ms))
-after-read s r ms w = after-step (pos (zero_limit s)) (moment_of_reading s r ms) ms refl (step_at-within s r ms w)
+after-read : (s : Setup) (r : Reading) (ms : List Moment) → Within (pos (farthest_zero s)) (zero_now ms) → Within (pos (farthest_zero s)) (zero_now (moment_of_reading s r ms ∷ ms))
+after-read s r ms w = after-step (pos (farthest_zero s)) (moment_of_reading s r ms) ms refl (step_at-within s r ms w)
 
 -- a moment that sets the zero where the answer is so, or another
 after-either : (limit : ℤ) (stable : Bool) (m n : Moment) (ms : List Moment) → Within limit (zero_now (n ∷ ms)) → Within limit (zero_now (cond (is_done (zero_answer_of stable limit m.zeroed)) m n ∷ ms))
@@ -89,11 +89,11 @@ zero_in_range s [] = at_first s
 zero_in_range s (read r ∷ h) = after-read s r (moments s h) (zero_in_range s h)
 zero_in_range s (read_for_zero r ∷ h) =
     let ms = moments s h in
-    after-either (pos (zero_limit s)) (is_stable s.window s.band (r ∷ readings ms)) (record nothing { reading = Some r; zeroed = load_of r; tare = Some Empty }) (moment_of_reading s r ms) ms (after-read s r ms (zero_in_range s h))
+    after-either (pos (farthest_zero s)) (is_stable s.window s.band (r ∷ readings ms)) (record nothing { reading = Some r; zeroed = load_of r; tare = Some Empty }) (moment_of_reading s r ms) ms (after-read s r ms (zero_in_range s h))
 zero_in_range s (set_zero ∷ h) =
     let ms = moments s h in
-    after-either (pos (zero_limit s)) (is_stable s.window s.band (readings ms)) (record nothing { zeroed = last_load (readings ms); tare = Some Empty }) nothing ms (after-none (pos (zero_limit s)) nothing ms refl refl (zero_in_range s h))
-zero_in_range s (tare ∷ h) = after-none (pos (zero_limit s)) (moment_of_call s tare (moments s h)) (moments s h) refl refl (zero_in_range s h)
-zero_in_range s (preset grams ∷ h) = after-none (pos (zero_limit s)) (moment_of_call s (preset grams) (moments s h)) (moments s h) refl refl (zero_in_range s h)
-zero_in_range s (clear_tare ∷ h) = after-none (pos (zero_limit s)) (moment_of_call s clear_tare (moments s h)) (moments s h) refl refl (zero_in_range s h)
-zero_in_range s (stored ∷ h) = after-none (pos (zero_limit s)) (moment_of_call s stored (moments s h)) (moments s h) refl refl (zero_in_range s h)
+    after-either (pos (farthest_zero s)) (is_stable s.window s.band (readings ms)) (record nothing { zeroed = last_load (readings ms); tare = Some Empty }) nothing ms (after-none (pos (farthest_zero s)) nothing ms refl refl (zero_in_range s h))
+zero_in_range s (tare ∷ h) = after-none (pos (farthest_zero s)) (moment_of_call s tare (moments s h)) (moments s h) refl refl (zero_in_range s h)
+zero_in_range s (preset grams ∷ h) = after-none (pos (farthest_zero s)) (moment_of_call s (preset grams) (moments s h)) (moments s h) refl refl (zero_in_range s h)
+zero_in_range s (clear_tare ∷ h) = after-none (pos (farthest_zero s)) (moment_of_call s clear_tare (moments s h)) (moments s h) refl refl (zero_in_range s h)
+zero_in_range s (stored ∷ h) = after-none (pos (farthest_zero s)) (moment_of_call s stored (moments s h)) (moments s h) refl refl (zero_in_range s h)

@@ -2,7 +2,7 @@
 use Rattle.std.proofs.Common.{◌≡◌, ◌-◌, Bool, true, false, cond, List, ◌∷◌, take, Some, refl, sym, ◌∙◌, ap, subst, ℤ, pos, ◌-ℤ◌, arith}
 use Rattle.std.specs.Prelude.{◌||◌, int_lt}
 use Rattle.std.proofs.lemmas.Int.{ints}
-use Rattle.wb_instrument.specs.Limits.{tracking_gap}
+use Rattle.wb_instrument.specs.Limits.{readings_a_step}
 use Rattle.wb_instrument.specs.Rounding.{round}
 use Rattle.wb_window.specs.declared.reading.Reading.{Reading}
 use Rattle.wb_scale.specs.declared.answers.TareNow.TheVariants.{Empty}
@@ -46,7 +46,7 @@ Stands-zeroed s load h is target from =
           (record {
             held = st.held ∙ ap (take i.window) (sym (readings-none m ms refl));
             zero = sym (zero_now-set m ms load last);
-            pause = λ k. st.pause k ∙ sym (is_quiet-none (tracking_gap i - 1 - k) m ms refl);
+            pause = λ k. st.pause k ∙ sym (is_quiet-none (readings_a_step i - 1 - k) m ms refl);
             tare = sym (tare_now-new m ms Empty refl);
             cleared = st.cleared ∙ sym (is_cleared-none m ms refl refl);
           });
@@ -72,7 +72,7 @@ Stands-read_only s r answer h is refused from to =
 
 -- where it is set, zero tracking makes no step, and the bridge is cleared
 pub Stands-read_zeroed : (s : State) (r : Reading) (load : ℤ) (h : List Call) → IsScale s → IsTarget (seen s r) load → ScaleStands s h
-    → ScaleStands (record (seen s r) { zero = load; pause = pause_from (pos 0) s.pause (tracking_gap s.setup); tare = Empty; cleared = true }) (read_for_zero r ∷ h)
+    → ScaleStands (record (seen s r) { zero = load; pause = pause_from (pos 0) s.pause (readings_a_step s.setup); tare = Empty; cleared = true }) (read_for_zero r ∷ h)
 Stands-read_zeroed s r load h is target from =
     let i = s.setup in
     let ms = moments i h in
@@ -80,26 +80,26 @@ Stands-read_zeroed s r load h is target from =
     let m : Moment = record nothing { reading = Some r; zeroed = load_of r; tare = Some Empty } in
     let done : is_done (zero_answer i (r ∷ readings ms)) ≡ true = ap is_done (sym (target_answer-seen s r h is from) ∙ target.done) in
     let last : load_of r ≡ Some load = sym (load-seen s r is) ∙ target.last in
-    let new : State = record (seen s r) { zero = load; pause = pause_from (pos 0) s.pause (tracking_gap i); tare = Empty; cleared = true } in
+    let new : State = record (seen s r) { zero = load; pause = pause_from (pos 0) s.pause (readings_a_step i); tare = Empty; cleared = true } in
     record {
       now = subst (λ (b : Bool). ScaleStandsAt i new (cond b m (moment_of_reading i r ms) ∷ ms)) (sym done)
           (record {
             held = rw (is.size, st.held) (take_kept i.window r (readings ms)) ∙ ap (take i.window) (sym (readings-taken m ms r refl));
             zero = sym (zero_now-set m ms load last);
-            pause = Pauses-taken (tracking_gap i) s.pause m ms r is.pause refl st.pause;
+            pause = Pauses-taken (readings_a_step i) s.pause m ms r is.pause refl st.pause;
             tare = sym (tare_now-new m ms Empty refl);
             cleared = sym (is_cleared-taken m ms r refl refl ∙ rw (above_zero-taken m ms r refl, zero_now-set m ms load last, last) (cleared-at load (is_cleared ms)));
           });
     }
 
 -- what holds of every scale holds where the zero is set
-pub IsScale-zeroed : (s : State) (load : ℤ) (cleared : Bool) → IsScale s → IsTarget s load → IsScale (record s { zero = load; pause = pause_from (pos 0) s.pause (tracking_gap s.setup); tare = Empty; cleared = cleared })
+pub IsScale-zeroed : (s : State) (load : ℤ) (cleared : Bool) → IsScale s → IsTarget s load → IsScale (record s { zero = load; pause = pause_from (pos 0) s.pause (readings_a_step s.setup); tare = Empty; cleared = cleared })
 IsScale-zeroed s load cleared is target = record {
   setup = is.setup;
   size = is.size;
   band = is.band;
   readings = is.readings;
   zero = target.within;
-  pause = pause_from-le (pos 0) s.pause (tracking_gap s.setup) is.pause;
+  pause = pause_from-le (pos 0) s.pause (readings_a_step s.setup) is.pause;
   tare = tt;
 }

@@ -1,7 +1,7 @@
 -- Laws of the zero: how fast zero tracking moves it, and that it stays in its range.
 use Rattle.std.specs.Prelude.{ℕ, ◌≤◌, Bool, not, List, take, drop, count_by, ℤ, pos, neg_ℤ, ◌≤ℤ◌}
 use Rattle.std.specs.Ordering.{int_eq}
-use Rattle.wb_instrument.specs.Limits.{zero_limit}
+use Rattle.wb_instrument.specs.Limits.{farthest_zero}
 use Rattle.wb_instrument.specs.Setup.{Setup, IsSetup}
 use Rattle.wb_scale.specs.Call.{Call}
 use Rattle.wb_scale.specs.History.{moments}
@@ -18,4 +18,4 @@ FiveAtMost = (s : Setup) → IsSetup s → (h : List Call) (n : ℕ) → count_b
 
 -- in every history, the zero is within 2 % of Max on either side of the calibration zero
 abbrev pub ZeroInRange : Type 0
-ZeroInRange = (s : Setup) (h : List Call) → (neg_ℤ (pos (zero_limit s)) ≤ℤ zero_now (moments s h)) × (zero_now (moments s h) ≤ℤ pos (zero_limit s))
+ZeroInRange = (s : Setup) (h : List Call) → (neg_ℤ (pos (farthest_zero s)) ≤ℤ zero_now (moments s h)) × (zero_now (moments s h) ≤ℤ pos (farthest_zero s))

@@ -1,6 +1,6 @@
 -- A scale stands after a history.
 use Rattle.std.specs.Prelude.{◌≡◌, ℕ, ◌-◌, nat_le, List, [], ◌∷◌, ◌++◌, take}
-use Rattle.wb_instrument.specs.Limits.{tracking_gap}
+use Rattle.wb_instrument.specs.Limits.{readings_a_step}
 use Rattle.wb_instrument.specs.Setup.{Setup}
 use Rattle.wb_scale.specs.Call.{Call}
 use Rattle.wb_scale.specs.Cleared.{is_cleared}
@@ -16,7 +16,7 @@ pub record ScaleStandsAt (i : Setup) (s : State) (ms : List Moment) : Type 0 whe
   pub held : s.held.readings ≡ take i.window (readings ms)
   pub zero : s.zero ≡ zero_now ms
   -- after k more readings the pause is over exactly if none of the readings so far that still count by then made a step
-  pub pause : (k : ℕ) → nat_le s.pause k ≡ is_quiet (tracking_gap i - 1 - k) ms
+  pub pause : (k : ℕ) → nat_le s.pause k ≡ is_quiet (readings_a_step i - 1 - k) ms
   pub tare : s.tare ≡ tare_now ms
   pub cleared : s.cleared ≡ is_cleared ms
 

@@ -1,6 +1,6 @@
 -- What a scale keeps, and what holds of every scale.
 use Rattle.std.specs.Prelude.{◌≡◌, ℕ, ◌-◌, ◌≤◌, Bool, List, [], ◌∷◌, ℤ, pos, neg_ℤ, ◌≤ℤ◌}
-use Rattle.wb_instrument.specs.Limits.{tracking_gap, zero_limit}
+use Rattle.wb_instrument.specs.Limits.{readings_a_step, farthest_zero}
 use Rattle.wb_instrument.specs.Setup.{Setup, IsSetup}
 use Rattle.wb_window.specs.Held.{Held}
 use Rattle.wb_window.specs.Reading.{IsReading}
@@ -31,6 +31,6 @@ pub record IsScale (s : State) : Type 0 where
   pub band : s.held.band ≡ s.setup.band
   pub readings : AreReadings s.held.readings
   -- the zero is within 2 % of Max on either side of the calibration zero
-  pub zero : (neg_ℤ (pos (zero_limit s.setup)) ≤ℤ s.zero) × (s.zero ≤ℤ pos (zero_limit s.setup))
-  pub pause : s.pause ≤ tracking_gap s.setup - 1
+  pub zero : (neg_ℤ (pos (farthest_zero s.setup)) ≤ℤ s.zero) × (s.zero ≤ℤ pos (farthest_zero s.setup))
+  pub pause : s.pause ≤ readings_a_step s.setup - 1
   pub tare : IsTare s.setup s.tare

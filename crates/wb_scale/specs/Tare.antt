@@ -2,7 +2,7 @@
 use Rattle.std.specs.Prelude.{ℕ, ◌*◌, Bool, true, false, not, if◌then◌else◌, List, Option, Some, None, unwrap_or, option_map, ℤ, pos, ◌*ℤ◌, int_lt, int_le, ◌≤ℤ◌}
 use Rattle.wb_instrument.specs.Preset.{preset}
 use Rattle.wb_instrument.specs.Rounding.{round}
-use Rattle.wb_instrument.specs.Setup.{Setup, intervals}
+use Rattle.wb_instrument.specs.Setup.{Setup, intervals_in_max}
 use Rattle.wb_window.specs.Stability.{is_stable}
 use Rattle.wb_scale.specs.declared.answers.PresetAnswer.{PresetAnswer}
 use Rattle.wb_scale.specs.declared.answers.PresetAnswer.TheVariants.{Done as PresetDone, WeighedInUse, OutOfRange}
@@ -24,10 +24,10 @@ tare_tenths (Weighed tenths) = tenths
 tare_tenths (Preset whole) = pos 10 *ℤ whole
 
 -- its own value in kilograms, as it is printed: a weighed tare is rounded to e
-abbrev pub tare_kg : Setup → TareNow → ℤ
-tare_kg s Empty = pos 0
-tare_kg s (Weighed tenths) = pos s.interval_kg *ℤ round tenths
-tare_kg s (Preset whole) = pos s.interval_kg *ℤ whole
+abbrev pub tare_in_kilograms : Setup → TareNow → ℤ
+tare_in_kilograms s Empty = pos 0
+tare_in_kilograms s (Weighed tenths) = pos s.interval_kg *ℤ round tenths
+tare_in_kilograms s (Preset whole) = pos s.interval_kg *ℤ whole
 
 abbrev pub is_weighed : TareNow → Bool
 is_weighed Empty = false
@@ -42,16 +42,16 @@ is_preset (Preset whole) = true
 -- a weighed tare is at least half an interval and at most Max, a preset tare 1 to n
 abbrev pub IsTare : Setup → TareNow → Type 0
 IsTare s Empty = Unit {0}
-IsTare s (Weighed tenths) = (pos 5 ≤ℤ tenths) × (tenths ≤ℤ pos (10 * intervals s))
-IsTare s (Preset whole) = (pos 1 ≤ℤ whole) × (whole ≤ℤ pos (intervals s))
+IsTare s (Weighed tenths) = (pos 5 ≤ℤ tenths) × (tenths ≤ℤ pos (10 * intervals_in_max s))
+IsTare s (Preset whole) = (pos 1 ≤ℤ whole) × (whole ≤ℤ pos (intervals_in_max s))
 
 -- the answer to taring so many tenths above the zero: not above Max, and not where the gross is 0 or less (4.6.4)
 abbrev pub tare_answer_at : Setup → Option ℤ → TareAnswer
 tare_answer_at s None = NotStable
 tare_answer_at s (Some tenths) =
-    if int_lt (pos (10 * intervals s)) tenths then Above
+    if int_lt (pos (10 * intervals_in_max s)) tenths then Above
     else if int_le (round tenths) (pos 0) then Below
-    else Done (tare_kg s (Weighed tenths))
+    else Done (tare_in_kilograms s (Weighed tenths))
 
 -- only in stable equilibrium, and not while a preset tare is in force
 abbrev pub tare_answer_of : Setup → Bool → TareNow → Option ℤ → TareAnswer
@@ -78,7 +78,7 @@ weighed s ms = if is_tared (tare_answer s ms) then option_map Weighed (above_zer
 -- the answer to a preset tare of so many intervals, where they are 1 to n
 abbrev pub preset_answer_at : Setup → Option ℕ → PresetAnswer
 preset_answer_at s None = OutOfRange
-preset_answer_at s (Some whole) = PresetDone (tare_kg s (Preset (pos whole)))
+preset_answer_at s (Some whole) = PresetDone (tare_in_kilograms s (Preset (pos whole)))
 
 -- the answer to a preset tare of so many grams: not while a weighed tare is in force (4.7.2)
 abbrev pub preset_answer : Setup → List Moment → ℕ → PresetAnswer

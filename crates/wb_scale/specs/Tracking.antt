@@ -2,7 +2,7 @@
 use Rattle.std.specs.Prelude.{ℕ, ◌-◌, Bool, ◌&&◌, if◌then◌else◌, List, ◌∷◌, take, map, filter, Option, Some, None, is_some, ℤ, pos, ◌+ℤ◌, ◌-ℤ◌, neg_ℤ, int_lt, int_le}
 use Rattle.std.specs.List.{list_all}
 use Rattle.std.specs.Ordering.{int_eq}
-use Rattle.wb_instrument.specs.Limits.{tracking_gap, zero_limit}
+use Rattle.wb_instrument.specs.Limits.{readings_a_step, farthest_zero}
 use Rattle.wb_instrument.specs.Rounding.{round}
 use Rattle.wb_instrument.specs.Setup.{Setup}
 use Rattle.wb_window.specs.declared.reading.Reading.{Reading}
@@ -37,5 +37,5 @@ step_to limit zero (Some load) =
 -- the readings before it that are less than the tracking gap away made one
 abbrev pub step_at : Setup → Reading → List Moment → ℤ
 step_at s r ms =
-    if is_stable s.window s.band (r ∷ readings ms) && is_quiet (tracking_gap s - 1) ms
-    then step_to (pos (zero_limit s)) (zero_now ms) (load_of r) else pos 0
+    if is_stable s.window s.band (r ∷ readings ms) && is_quiet (readings_a_step s - 1) ms
+    then step_to (pos (farthest_zero s)) (zero_now ms) (load_of r) else pos 0

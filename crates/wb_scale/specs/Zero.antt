@@ -1,7 +1,7 @@
 -- The zero, and semi-automatic zero setting (OIML R 76-1:2006, 4.5).
 use Rattle.std.specs.Prelude.{List, Bool, true, false, not, if◌then◌else◌, map, Option, Some, None, is_some, unwrap_or, option_and_then, option_map, slice_get, ℤ, pos, ◌+ℤ◌, ◌-ℤ◌, ◌≤ℤ◌, neg_ℤ, int_lt}
 use Rattle.std.specs.List.{before_first}
-use Rattle.wb_instrument.specs.Limits.{zero_limit}
+use Rattle.wb_instrument.specs.Limits.{farthest_zero}
 use Rattle.wb_instrument.specs.Setup.{Setup}
 use Rattle.wb_window.specs.declared.reading.Reading.{Reading}
 use Rattle.wb_window.specs.declared.reading.Reading.TheVariants.{Load, Lost}
@@ -41,7 +41,7 @@ zero_answer_of stable limit load = if not stable then NotStable else zero_answer
 
 -- the answer to setting the zero after these readings: in stable equilibrium, within 2 % of Max from the calibration zero
 abbrev pub zero_answer : Setup → List Reading → ZeroAnswer
-zero_answer s rs = zero_answer_of (is_stable s.window s.band rs) (pos (zero_limit s)) (last_load rs)
+zero_answer s rs = zero_answer_of (is_stable s.window s.band rs) (pos (farthest_zero s)) (last_load rs)
 
 abbrev pub is_done : ZeroAnswer → Bool
 is_done Done = true
@@ -51,4 +51,4 @@ is_done Below = false
 
 -- a zero is in its range: within n/5 on either side of the calibration zero
 abbrev pub IsZeroInRange : Setup → ℤ → Type 0
-IsZeroInRange s zero = (neg_ℤ (pos (zero_limit s)) ≤ℤ zero) × (zero ≤ℤ pos (zero_limit s))
+IsZeroInRange s zero = (neg_ℤ (pos (farthest_zero s)) ≤ℤ zero) × (zero ≤ℤ pos (farthest_zero s))

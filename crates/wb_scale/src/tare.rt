@@ -3,7 +3,7 @@ ghost use Rattle.std.specs.Prelude.{◌≡◌, ◌≤ℤ◌, false, IfErr, IfOk,
 ghost use Rattle.wb_scale.specs.Call.{Call, clear_tare, preset, tare};
 ghost use Rattle.wb_scale.specs.History.{moments};
 ghost use Rattle.wb_scale.specs.Stands.{ScaleStands, ScaleTakes};
-ghost use Rattle.wb_scale.specs.Tare.{IsTare, is_preset, is_preset_done, is_tared, is_weighed, preset_answer, tare_answer, tare_answer_of, tare_kg, tare_now, tare_tenths};
+ghost use Rattle.wb_scale.specs.Tare.{IsTare, is_preset, is_preset_done, is_tared, is_weighed, preset_answer, tare_answer, tare_answer_of, tare_in_kilograms, tare_now, tare_tenths};
 ghost use Rattle.wb_scale.specs.helpers.Load.{IsAbove};
 
 use crate::Scale;
@@ -51,7 +51,7 @@ impl<W: Window> Scale<W> {
     /// The tare in force in kilograms, a weighed one rounded to e; 0 with no tare.
     pub fn tare_kg(&self) -> i32
         ensures { (h : List Call) → ScaleStands self.now h
-            → result ≡ tare_kg self.now.setup (tare_now (moments self.now.setup h)) }
+            → result ≡ tare_in_kilograms self.now.setup (tare_now (moments self.now.setup h)) }
     {
         tare_kilograms(&self.instrument, self.tare)
     }
@@ -74,7 +74,7 @@ fn tare_target(
     requires { IfSome above_zero IsAbove }
     ensures ok { IfOk result (λ target. (above_zero ≡ Some target)
         × (tare_answer_of instrument.now stable tare above_zero
-        ≡ TareAnswer.Done (tare_kg instrument.now (TareNow.Weighed target)))) }
+        ≡ TareAnswer.Done (tare_in_kilograms instrument.now (TareNow.Weighed target)))) }
     ensures in_range { IfOk result (λ target. IsTare instrument.now (TareNow.Weighed target)) }
     ensures err { IfErr result (λ answer.
         tare_answer_of instrument.now stable tare above_zero ≡ answer) }
@@ -120,7 +120,7 @@ fn preset_target(tare: TareNow, whole: Option<i32>) -> Result<i32, PresetAnswer>
 /// The kilograms of a tare, a weighed one rounded to e.
 fn tare_kilograms(instrument: &Instrument, tare: TareNow) -> i32
     requires { IsTare instrument.now tare }
-    ensures { result ≡ tare_kg instrument.now tare }
+    ensures { result ≡ tare_in_kilograms instrument.now tare }
 {
     let _intervals = instrument.intervals();
     let interval_kg = instrument.interval_kg() as i32;

@@ -1,6 +1,6 @@
 //! Zero tracking.
 ghost use Rattle.std.specs.Prelude.{◌≡◌, ◌≤◌, ◌+ℤ◌, ◌≤ℤ◌, if◌then◌else◌, IfSome, neg_ℤ, pos, Some, true};
-ghost use Rattle.wb_instrument.specs.Limits.{zero_limit};
+ghost use Rattle.wb_instrument.specs.Limits.{farthest_zero};
 ghost use Rattle.wb_scale.specs.Tracking.{is_within_limit, step_to, towards};
 ghost use Rattle.wb_scale.specs.Zero.{IsZeroInRange};
 ghost use Rattle.wb_scale.specs.helpers.After.{pause_from, step_of, tracked};
@@ -38,10 +38,10 @@ fn tracking_step<W: Window>(
 ) -> i32
     requires load { IfSome load IsLoad }
     requires zero { IsZeroInRange instrument.now zero }
-    requires limit { zero_limit instrument.now ≤ 2_000 }
+    requires limit { farthest_zero instrument.now ≤ 2_000 }
     ensures value { let held = W.held window.now in
         result ≡ step_of (is_stable held.size held.band held.readings) pause
-        (pos (zero_limit instrument.now)) zero load }
+        (pos (farthest_zero instrument.now)) zero load }
     ensures within { IsZeroInRange instrument.now (zero +ℤ result) }
 {
     let due = step_due(instrument, pause, load, zero);
@@ -52,8 +52,8 @@ fn tracking_step<W: Window>(
 fn step_due(instrument: &Instrument, pause: u32, load: Option<i32>, zero: i32) -> i32
     requires load { IfSome load IsLoad }
     requires zero { IsZeroInRange instrument.now zero }
-    requires limit { zero_limit instrument.now ≤ 2_000 }
-    ensures value { result ≡ step_of true pause (pos (zero_limit instrument.now)) zero load }
+    requires limit { farthest_zero instrument.now ≤ 2_000 }
+    ensures value { result ≡ step_of true pause (pos (farthest_zero instrument.now)) zero load }
     ensures within { IsZeroInRange instrument.now (zero +ℤ result) }
 {
     if pause > 0 {
@@ -70,8 +70,8 @@ fn step_due(instrument: &Instrument, pause: u32, load: Option<i32>, zero: i32) -
 fn step_to_load(instrument: &Instrument, load: i32, zero: i32) -> i32
     requires load { IsLoad load }
     requires zero { IsZeroInRange instrument.now zero }
-    requires limit { zero_limit instrument.now ≤ 2_000 }
-    ensures value { result ≡ step_to (pos (zero_limit instrument.now)) zero (Some load) }
+    requires limit { farthest_zero instrument.now ≤ 2_000 }
+    ensures value { result ≡ step_to (pos (farthest_zero instrument.now)) zero (Some load) }
     ensures within { IsZeroInRange instrument.now (zero +ℤ result) }
 {
     let gross = round_tenths(load - zero);

@@ -2,8 +2,8 @@
 use Rattle.std.proofs.Common.{◌≡◌, ℕ, suc, zero as nought, ◌≤◌, Bool, true, false, cond, ◌&&◌, List, [], ◌∷◌, length, refl, sym, ◌∙◌, ap, arith, Option, Some, ℤ, pos, neg_ℤ, ◌-ℤ◌, ◌*ℤ◌, ◌*◌}
 use Rattle.std.specs.Prelude.{nat_le, is_some, int_lt, int_le}
 use Rattle.std.proofs.lemmas.Bool.Decides.{nat_tests}
-use Rattle.wb_instrument.specs.Limits.{zero_limit}
-use Rattle.wb_instrument.specs.Setup.{Setup, intervals}
+use Rattle.wb_instrument.specs.Limits.{farthest_zero}
+use Rattle.wb_instrument.specs.Setup.{Setup, intervals_in_max}
 use Rattle.wb_window.specs.declared.reading.Reading.{Reading}
 use Rattle.wb_window.specs.declared.reading.Reading.TheVariants.{Load, Lost}
 use Rattle.wb_window.specs.Stability.{is_stable}
@@ -67,11 +67,11 @@ zero_reply-stable : (i : Setup) (rs : List Reading) → 1 ≤ i.window → is_so
 zero_reply-stable i rs l = go (is_stable i.window i.band rs) refl
   where
     go : (t : Bool) → is_stable i.window i.band rs ≡ t → is_some (reply_to_zero (zero_answer i rs)) ≡ t
-    go true e = let load = stable-load i.window i.band rs l e in rw (e, load.1) (zero_decided (pos (zero_limit i)) load.0)
+    go true e = let load = stable-load i.window i.band rs l e in rw (e, load.1) (zero_decided (pos (farthest_zero i)) load.0)
     go false e = rw e refl
 
 tare_decided : (i : Setup) (tenths : ℤ) → is_some (reply_to_tare (tare_answer_at i (Some tenths))) ≡ true
-tare_decided i tenths = go (int_lt (pos (10 * intervals i)) tenths) (int_le (round tenths) (pos 0)) (pos i.interval_kg *ℤ round tenths)
+tare_decided i tenths = go (int_lt (pos (10 * intervals_in_max i)) tenths) (int_le (round tenths) (pos 0)) (pos i.interval_kg *ℤ round tenths)
   where
     go : (a b : Bool) (kg : ℤ) → is_some (reply_to_tare (cond a TareAboveMax (cond b TareBelowZero (TareDone kg)))) ≡ true
     go true b kg = refl

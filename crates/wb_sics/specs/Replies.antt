@@ -6,7 +6,7 @@ use Rattle.wb_scale.specs.Call.{Call, read}
 use Rattle.wb_scale.specs.History.{moments}
 use Rattle.wb_scale.specs.Indication.{indicated}
 use Rattle.wb_scale.specs.Moment.{Moment, readings}
-use Rattle.wb_scale.specs.Tare.{preset_answer, tare_answer, tare_kg, tare_now}
+use Rattle.wb_scale.specs.Tare.{preset_answer, tare_answer, tare_in_kilograms, tare_now}
 use Rattle.wb_scale.specs.Zero.{zero_answer}
 use Rattle.wb_sics.specs.declared.command.Command.{Command}
 use Rattle.wb_sics.specs.declared.command.Command.TheVariants.{Weight, WeightNow, Repeat, Zero, Tare, TareValue, PresetTare, BadTare, ClearTare, Cancel, Commands, SerialNumber, Unknown}
@@ -66,7 +66,7 @@ own_reply s ms WeightNow = reply_to_weight_now s (indicated s ms) ∷ []
 own_reply s ms Repeat = []
 own_reply s ms Zero = option_to_list (decided s ms AwaitedZero)
 own_reply s ms Tare = option_to_list (decided s ms AwaitedTare)
-own_reply s ms TareValue = TareReply (tare_kg s (tare_now ms)) ∷ []
+own_reply s ms TareValue = TareReply (tare_in_kilograms s (tare_now ms)) ∷ []
 own_reply s ms (PresetTare grams) = reply_to_preset (preset_answer s ms grams) ∷ []
 own_reply s ms BadTare = PresetBad ∷ []
 own_reply s ms ClearTare = TareCleared ∷ []

@@ -11,13 +11,13 @@ use Rattle.wb_store.specs.Lists.{entry_by_key, is_spent}
 use Rattle.wb_office.proofs.Theorems.{law_of_repeated_requests}
 use Rattle.wb_station.specs.declared.fault.HttpFault.{HttpFault}
 use Rattle.wb_station.specs.Account.{Account, ComesOf, IsAccount, Out, account_left, situation_at}
-use Rattle.wb_station.specs.CourseOfHistory.{AddsEntry, AreTurns, HasCourse, IsCourse, KeptForGood, SameAgain, journal_of, turn}
+use Rattle.wb_station.specs.CourseOfHistory.{AddsEntry, AreTurns, HasCourse, IsCourse, KeptForGood, SameAgain, journal_of, request_turn}
 use Rattle.wb_station.specs.Happening.{Happening, reading, byte, hang_up, office}
 use Rattle.wb_station.specs.HttpJudgement.{IsJudged}
 
 -- what a request leaves is what its turn leaves
 left_by : (s : Setup) (at : ℕ) (request : Request) (before : Account) (want : Wanted) (is : IsWanted request (situation_at s at before) want)
-    → journal_of (account_left want before) ≡ left (journal_of before) (turn s at request is.bound before)
+    → journal_of (account_left want before) ≡ left (journal_of before) (request_turn s at request is.bound before)
 left_by s at request before want is = ap (λ x. journal_of (account_left x before)) is.is
 
 same_course : (s : Setup) (opening : Account) (p : Happening) (h : List Happening) (before a : Account) → journal_of a ≡ journal_of before → (c : IsCourse s opening h before)
@@ -33,7 +33,7 @@ one_turn s opening at bytes h (Err fault) before a out judged is comes c = recor
   leads = ap journal_of comes.0 ∙ c.leads;
 }
 one_turn s opening at bytes h (Ok request) before a out judged is comes c =
-    let t : RequestTurn = turn s at request comes.1.bound before in
+    let t : RequestTurn = request_turn s at request comes.1.bound before in
     record {
       turns = t ∷ c.turns;
       of_history = (before, Ok request, t ∷ [], c.turns, is, judged, (comes.1.bound, refl), c.of_history, refl);
@@ -53,7 +53,7 @@ has_course s opening (office at bytes false ∷ h) a is =
 module _ (s : Setup) (before : Account) (request : Request) (want : Wanted) (e : EntryParts) (adds : AddsEntry s before request want e) (later : List Happening) (c : Account)
     (account : IsAccount s (account_left want before) later c) where
   abbrev first_turn : RequestTurn
-  first_turn = turn s adds.at request adds.is.bound before
+  first_turn = request_turn s adds.at request adds.is.bound before
 
   start : journal_of (account_left want before) ≡ left (journal_of before) first_turn
   start = left_by s adds.at request before want adds.is
@@ -73,7 +73,7 @@ module _ (s : Setup) (before : Account) (request : Request) (want : Wanted) (e :
 
   pub again : (at : ℕ) (want' : Wanted) → IsWanted request (situation_at s at c) want' → IsKeptEntry (journal_of c) e want.answer want'.answer ⊎ IsGone (journal_of c) e want'.answer
   again at want' is' = subst₂ (λ x y. IsKeptEntry (journal_of c) e x y ⊎ IsGone (journal_of c) e y) (sym (ap (λ x. x.answer) adds.is.is)) (sym (ap (λ x. x.answer) is'.is))
-      (either (turn s at request is'.bound c) refl)
+      (either (request_turn s at request is'.bound c) refl)
 
   pub stays : (entry_by_key c.entries e.key ≡ Some e) ⊎ (is_spent c.spent e.key ≡ true)
   stays = one (either first_turn refl)

@@ -20,10 +20,10 @@ use Rattle.wb_office.specs.declared.refusal.Refusal.{Refusal}
 use Rattle.wb_office.specs.declared.refusal.Refusal.TheVariants.{KeyReused, Gone, ClockBack, NoLoad, Overload, Underload, Unstable, BelowMin, TareActive, NoPreset, NotCleared, AlreadyOpen, NoOpen, JournalFull, Store, NoTicket, Damaged}
 use Rattle.wb_office.specs.declared.request.Request.{Request}
 use Rattle.wb_office.specs.declared.request.Request.TheVariants.{Weigh, VoidOpen, Ticket, Indication, JournalCsv, TicketsCsv, Purge, Check}
-use Rattle.wb_office.specs.Answer.{Content, text_of_indication, text_content, answer_by_verdict, asking, has_ticket, if_sound, entry_content, ticket_of}
+use Rattle.wb_office.specs.Answer.{Content, text_of_indication, text_content, answer_by_verdict, asking, makes_a_ticket, if_sound, entry_content, ticket_of}
 use Rattle.wb_office.specs.Situation.{Situation}
 use Rattle.wb_office.specs.WithoutStore.{Outright}
-use Rattle.wb_office.specs.Conditions.{is_damaged}
+use Rattle.wb_office.specs.Conditions.{is_damaged_entry}
 use Rattle.wb_office.specs.Serves.{IsNow, Marks, Serves, content_or_refusal, is_store_refusal}
 use Rattle.wb_office.specs.Wanted.{Wanted, IsWanted, asks_store, wanted}
 use Rattle.wb_office.specs.Verdict.{Verdict, accepted, refused, repeated, verdict}
@@ -67,14 +67,14 @@ verdict_is_no_export es (accepted e) = text_is_no_export (es ++ e ∷ []) e e.ki
 
 ticket_is_no_export : (es : List EntryParts) (found : Option EntryParts) → is_export (ticket_of es found) ≡ false
 ticket_is_no_export es None = refl
-ticket_is_no_export es (Some e) = by_kind (has_ticket e) refl
+ticket_is_no_export es (Some e) = by_kind (makes_a_ticket e) refl
   where
-    by_damage : (d : Bool) → is_damaged es e ≡ d → has_ticket e ≡ true → is_export (ticket_of es (Some e)) ≡ false
+    by_damage : (d : Bool) → is_damaged_entry es e ≡ d → makes_a_ticket e ≡ true → is_export (ticket_of es (Some e)) ≡ false
     by_damage true is has = rw (has, is) refl
     by_damage false is has = rw (has, is) (text_is_no_export es e e.kind)
 
-    by_kind : (k : Bool) → has_ticket e ≡ k → is_export (ticket_of es (Some e)) ≡ false
-    by_kind true is = by_damage (is_damaged es e) refl is
+    by_kind : (k : Bool) → makes_a_ticket e ≡ k → is_export (ticket_of es (Some e)) ≡ false
+    by_kind true is = by_damage (is_damaged_entry es e) refl is
     by_kind false is = rw is refl
 
 no_export_of : (f : Finding) (t : Content) → is_export (Ok t) ≡ false → is_export (if_sound f t) ≡ false

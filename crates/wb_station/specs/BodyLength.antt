@@ -10,8 +10,8 @@ abbrev pub lengths : Received → List (List ℕ)
 lengths x = values (codes "content-length") (fields x)
 
 -- there is a Transfer-Encoding field
-abbrev pub is_encoded : Received → Bool
-is_encoded x = nat_lt 0 (length (values (codes "transfer-encoding") (fields x)))
+abbrev pub has_transfer_encoding : Received → Bool
+has_transfer_encoding x = nat_lt 0 (length (values (codes "transfer-encoding") (fields x)))
 
 -- one or more digits
 abbrev pub is_number_text : List ℕ → Bool

@@ -19,13 +19,13 @@ abbrev pub journal_of : Account → Journal
 journal_of a = record { entries = a.entries; spent = a.spent }
 
 -- a request in its turn, after this account, with the bound of a purge
-abbrev pub turn : Setup → ℕ → Request → ℕ → Account → RequestTurn
-turn s at request bound a = record { setup = s; history = moments s (calls s a.terminal); at = at; request = request; bound = bound; is_made = true }
+abbrev pub request_turn : Setup → ℕ → Request → ℕ → Account → RequestTurn
+request_turn s at request bound a = record { setup = s; history = moments s (calls s a.terminal); at = at; request = request; bound = bound; is_made = true }
 
 -- the turn of what was judged: a fault of HTTP has none
 abbrev pub AreTurnsOf : Setup → ℕ → Result Request HttpFault → Account → List RequestTurn → Type 0
 AreTurnsOf s at (Err fault) a ts = ts ≡ []
-AreTurnsOf s at (Ok request) a ts = (bound : ℕ) × (ts ≡ turn s at request bound a ∷ [])
+AreTurnsOf s at (Ok request) a ts = (bound : ℕ) × (ts ≡ request_turn s at request bound a ∷ [])
 
 -- the turns of a history, the newest first: those of its requests but for those that count as never made
 abbrev pub AreTurns : Setup → Account → List Happening → List RequestTurn → Type 0

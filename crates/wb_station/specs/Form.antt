@@ -57,8 +57,8 @@ plate_in body = option_and_then plate_of_text (value_in body (codes "plate"))
 abbrev pub weigh : Option (List ℕ) → Option Kind → Option (List ℕ) → Option Request
 weigh key kind plate = option_and_then (λ k. option_and_then (λ d. option_map (λ p. Weigh k d p) plate) kind) key
 
-abbrev pub void_open : Option (List ℕ) → Option (List ℕ) → Option Request
-void_open key plate = option_and_then (λ k. option_map (λ p. VoidOpen k p) plate) key
+abbrev pub void_open_request : Option (List ℕ) → Option (List ℕ) → Option Request
+void_open_request key plate = option_and_then (λ k. option_map (λ p. VoidOpen k p) plate) key
 
 -- the weighing that a form asks for, if its key, kind and plate are each there once and valid
 abbrev pub weighing_in : List ℕ → Option Request
@@ -66,7 +66,7 @@ weighing_in body = weigh (key_in body) (kind_in body) (plate_in body)
 
 -- the void that a form asks for
 abbrev pub void_in : List ℕ → Option Request
-void_in body = void_open (key_in body) (plate_in body)
+void_in body = void_open_request (key_in body) (plate_in body)
 
 -- each name and value stands for itself: UTF-8 without `+` and `%`
 abbrev pub ArePlain : List (List ℕ × List ℕ) → Type 0

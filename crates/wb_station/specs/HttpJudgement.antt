@@ -9,10 +9,10 @@ use Rattle.wb_station.specs.declared.fault.Method.{Method}
 use Rattle.wb_station.specs.declared.fault.Method.TheVariants.{Get, Post}
 use Rattle.wb_station.specs.declared.routes.Route.{Route}
 use Rattle.wb_station.specs.declared.routes.Route.TheVariants.{Check, Indication, JournalCsv, Purge, Ticket, TicketsCsv, Voids, Weighings}
-use Rattle.wb_station.specs.BodyLength.{are_wrong, body_of, is_encoded, length_of, lengths}
+use Rattle.wb_station.specs.BodyLength.{are_wrong, body_of, has_transfer_encoding, length_of, lengths}
 use Rattle.wb_station.specs.Form.{IsPlain, void_in, weighing_in}
 use Rattle.wb_station.specs.RequestBytes.{IsRead, ReadsAs, Received, is_post}
-use Rattle.wb_station.specs.Routes.{method_of, method_text, path_of_target, route_of_target, same_method, ticket_number}
+use Rattle.wb_station.specs.Routes.{method_of, method_text, path_of_target, route_of_target, same_method, number_of_ticket_path}
 
 -- ---- without a head
 
@@ -36,7 +36,7 @@ wrong_method method x = allows method (route_of_target x.head.target) && not (by
 
 -- 5: a POST with a Transfer-Encoding, or with two or more lengths, or with one that isn't a number
 abbrev pub malformed_length : Received → Bool
-malformed_length x = is_post x && (is_encoded x || are_wrong (lengths x))
+malformed_length x = is_post x && (has_transfer_encoding x || are_wrong (lengths x))
 
 -- 6: a POST without a length
 abbrev pub no_length : Received → Bool
@@ -77,7 +77,7 @@ abbrev pub asked_by : List ℕ → List ℕ → Route → Option Request
 asked_by body target Weighings = weighing_in body
 asked_by body target Voids = void_in body
 asked_by body target Purge = Some request.Purge
-asked_by body target Ticket = Some (request.Ticket (ticket_number (path_of_target target)))
+asked_by body target Ticket = Some (request.Ticket (number_of_ticket_path (path_of_target target)))
 asked_by body target Indication = Some request.Indication
 asked_by body target JournalCsv = Some request.JournalCsv
 asked_by body target TicketsCsv = Some request.TicketsCsv

@@ -65,5 +65,5 @@ number_or_zero None = 0
 number_or_zero (Some number) = if nat_le number 4294967295 then number else 0
 
 -- the number of a ticket's path: 1 to 10 digits, up to the greatest number of an entry
-abbrev pub ticket_number : List ℕ → ℕ
-ticket_number path = number_or_zero (numeral_value 10 (drop 9 path))
+abbrev pub number_of_ticket_path : List ℕ → ℕ
+number_of_ticket_path path = number_or_zero (numeral_value 10 (drop 9 path))

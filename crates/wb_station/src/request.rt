@@ -6,7 +6,7 @@ ghost use Rattle.wb_station.specs.Form.{IsPlain};
 ghost use Rattle.wb_station.specs.HttpJudgement.{IsJudged, MayWantMemory, asked_by, has_form};
 ghost use Rattle.wb_station.specs.UnlessMemoryRefused.{IsOf};
 ghost use Rattle.wb_station.specs.declared.fault.HttpFault.{HttpFault as Fault};
-ghost use Rattle.wb_station.specs.helpers.AskedByHead.{IsDecoded, IsFormToDecode, answered, answered_by, sought_in};
+ghost use Rattle.wb_station.specs.helpers.AskedByHead.{IsDecoded, IsFormToDecode, answer_to_sought, answered_by, sought_in};
 
 use crate::body_length::said_length;
 use crate::fault::{HttpFault, Method};
@@ -89,7 +89,7 @@ pub(crate) fn request_in<A: Allocator + Copy + Drop>(
     sought: Sought,
 ) -> Result<Request, HttpFault>
     requires { IsUtf8 head.now.target.now }
-    ensures value { IsOf (answered sought head.now.target.now head.now.rest.now) result }
+    ensures value { IsOf (answer_to_sought sought head.now.target.now head.now.rest.now) result }
     ensures memory { IsErrOf result HttpFault.Memory → IsFormToDecode sought head.now.rest.now }
 {
     match head.rest.get(..sought.length as usize) {

@@ -2,7 +2,7 @@
 ghost use Rattle.matchit.specs.declared.error.InsertError.TheVariants.{OutOfMemory};
 ghost use Rattle.std.specs.Prelude.{◌≡◌, [], IfErr, IfOk, IsUtf8, OnOk};
 ghost use Rattle.wb_station.specs.Router.{table};
-ghost use Rattle.wb_station.specs.Routes.{method_of, number_or_zero, path_of_target, route_of_path, route_of_target, ticket_number};
+ghost use Rattle.wb_station.specs.Routes.{method_of, number_or_zero, path_of_target, route_of_path, route_of_target, number_of_ticket_path};
 ghost use Rattle.wb_text.specs.Digits.{numeral_value};
 
 use crate::fault::Method;
@@ -141,7 +141,7 @@ fn path_of(target: &str) -> &str
 /// The number of a ticket's target: 0 if its text isn't the number of an entry.
 pub(crate) fn ticket_number(target: &[u8]) -> u32
     requires { IsUtf8 target.now }
-    ensures { result ≡ ticket_number (path_of_target target.now) }
+    ensures { result ≡ number_of_ticket_path (path_of_target target.now) }
 {
     match str::from_utf8(target) {
         Ok(text) => number_of(path_of(text).as_bytes().get(TICKETS..).unwrap_or(&[])),

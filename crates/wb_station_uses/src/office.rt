@@ -4,7 +4,7 @@
 //! whoever knows after which calls the scale stands and for which lists the store, knows the answer, and the lists that it leaves.
 ghost use Rattle.std.specs.Prelude.{◌≡◌, ◌∷◌, false, List};
 ghost use Rattle.wb_journal.specs.declared.entry.EntryParts.{EntryParts};
-ghost use Rattle.wb_office.specs.Answer.{answer, entries_left, spent_left};
+ghost use Rattle.wb_office.specs.Answer.{office_answer, entries_left, spent_left};
 ghost use Rattle.wb_office.specs.Serves.{content_or_refusal, is_store_refusal};
 ghost use Rattle.wb_office.specs.Situation.{Situation};
 ghost use Rattle.wb_scale.specs.Call.{Call, read};
@@ -44,7 +44,7 @@ pub fn weigh_first<W: Window, D: Alter>(
           spent = spent;
           at = at;
         } in
-        (content_or_refusal result ≡ answer w 0 asked)
+        (content_or_refusal result ≡ office_answer w 0 asked)
         × StoreStands D.Store office.new (entries_left w 0 asked) (spent_left w 0 asked) }
 {
     scale.read(reading);

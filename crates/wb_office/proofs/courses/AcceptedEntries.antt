@@ -1,6 +1,6 @@
 -- What an accepted weighing or void was judged on, and what a request makes of the lists.
 use Rattle.std.proofs.Common.{◌≡◌, ◌∙◌, sym, ap, subst, ℕ, ◌+◌, ◌<◌, Bool, true, false, ◌&&◌, ◌||◌, if◌then◌else◌, List, [], ◌∷◌, ◌++◌, take, Option, Some, None, refl, arith, true≢false}
-use Rattle.wb_office.proofs.Common.{nat_tests, list_any, EntryParts, Finding, Sound, FoundDamaged, Kind, First, Second, Single, Void, finding_in, is_closing_kind, entry_by_key, number_after, Refusal, Request, Weigh, VoidOpen, Purge, Outcome, adds, answer, answer_by_verdict, asking, nothing, outcome, outcome_of, purges, unless_damaged, Asking, Situation, key_gone, is_damaged, is_other, journal_full, places, places_needed, added, added_by, answered_with, entry_of, Condition, Verdict, accepted, first_refusal, entry_added, of_new, on, on_new, refused, repeated, verdict}
+use Rattle.wb_office.proofs.Common.{nat_tests, list_any, EntryParts, Finding, Sound, FoundDamaged, Kind, First, Second, Single, Void, finding_in, is_closing_kind, entry_by_key, number_after, Refusal, Request, Weigh, VoidOpen, Purge, Outcome, adds, office_answer, answer_by_verdict, asking, nothing, outcome, outcome_of, purges, unless_damaged, Asking, Situation, key_gone, is_damaged_entry, is_other, journal_full, places, places_needed, added, added_by, answered_with, entry_of, Condition, Verdict, accepted, first_refusal, entry_added, of_new, on, on_new, refused, repeated, verdict}
 use Rattle.std.specs.Prelude.{nat_lt}
 use Rattle.wb_office.specs.declared.refusal.Refusal.TheVariants as refusal
 use Rattle.wb_office.proofs.FoundEntries.{is_some_same, none_some}
@@ -35,7 +35,7 @@ is_full _ = false
 -- how a request is judged: refused by its key, repeated, or judged anew
 data Judged (a : Asking) : Type 0 where
   by_its_key : (why : Refusal) → is_full why ≡ false → verdict a ≡ refused why → Judged a
-  as_repeated : (e : EntryParts) → entry_by_key a.now.entries a.key ≡ Some e → is_other a e ≡ false → is_damaged a.now.entries e ≡ false → verdict a ≡ repeated e → Judged a
+  as_repeated : (e : EntryParts) → entry_by_key a.now.entries a.key ≡ Some e → is_other a e ≡ false → is_damaged_entry a.now.entries e ≡ false → verdict a ≡ repeated e → Judged a
   anew : entry_by_key a.now.entries a.key ≡ None → key_gone a ≡ false → verdict a ≡ on_new a (first_refusal of_new a) → Judged a
 
 -- a key that is stored and was spent is refused all the same
@@ -46,14 +46,14 @@ by_both a e found other spent = rw (found, other, spent) refl
 how_judged : (a : Asking) → Judged a
 how_judged a = go (entry_by_key a.now.entries a.key) refl (key_gone a) refl
   where
-    stored : (e : EntryParts) → entry_by_key a.now.entries a.key ≡ Some e → (b c d : Bool) → is_other a e ≡ b → key_gone a ≡ c → is_damaged a.now.entries e ≡ d → Judged a
+    stored : (e : EntryParts) → entry_by_key a.now.entries a.key ≡ Some e → (b c d : Bool) → is_other a e ≡ b → key_gone a ≡ c → is_damaged_entry a.now.entries e ≡ d → Judged a
     stored e found true c d o g m = by_its_key refusal.KeyReused refl (by_other a e found o)
     stored e found false true d o g m = by_its_key refusal.Gone refl (by_both a e found o g)
     stored e found false false true o g m = by_its_key refusal.Damaged refl (by_damage a e found o g m)
     stored e found false false false o g m = as_repeated e found o m (by_repetition a e found o g m)
 
     go : (o : Option EntryParts) → entry_by_key a.now.entries a.key ≡ o → (c : Bool) → key_gone a ≡ c → Judged a
-    go (Some e) found c g = stored e found (is_other a e) c (is_damaged a.now.entries e) refl g refl
+    go (Some e) found c g = stored e found (is_other a e) c (is_damaged_entry a.now.entries e) refl g refl
     go None none true g = by_its_key refusal.Gone refl (by_spent a none g)
     go None none false g = anew none g (by_newness a none g)
 
@@ -82,7 +82,7 @@ is_new a e is = go (how_judged a)
 pub record IsRepeated (a : Asking) (e : EntryParts) : Type 0 where
   pub found : entry_by_key a.now.entries a.key ≡ Some e
   pub same : is_other a e ≡ false
-  pub whole : is_damaged a.now.entries e ≡ false
+  pub whole : is_damaged_entry a.now.entries e ≡ false
 
 pub is_repeated : (a : Asking) (e : EntryParts) → verdict a ≡ repeated e → IsRepeated a e
 is_repeated a e is = go (how_judged a)
@@ -103,7 +103,7 @@ pub record IsAsked (request : Request) : Type 0 where
   pub key : List ℕ
   pub kind : Kind
   pub plate : List ℕ
-  pub answers : (w : Situation) (b : ℕ) → answer w b request ≡ answer_by_verdict w.entries (verdict (asking w key kind plate))
+  pub answers : (w : Situation) (b : ℕ) → office_answer w b request ≡ answer_by_verdict w.entries (verdict (asking w key kind plate))
   pub outcomes : (w : Situation) (b : ℕ) → outcome w b request ≡ outcome_of (verdict (asking w key kind plate))
 
 abbrev pub asking_for : {request : Request} → IsAsked request → Situation → Asking

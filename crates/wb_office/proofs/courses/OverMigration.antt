@@ -1,6 +1,6 @@
 -- A request whose key was accepted before a migration, asked again after it.
 use Rattle.std.proofs.Common.{◌≡◌, ◌∙◌, sym, ap, ℕ, Bool, true, false, true≢false, inl, inr, not, ◌&&◌, ◌||◌, if◌then◌else◌, List, [], ◌∷◌, length, map, Option, Some, None, refl}
-use Rattle.wb_office.proofs.Common.{find, is_none, option_map, EntryParts, Among, find-among, finding, Sound, sound-sealed, is_sound_entry, is_second_kind, is_partner, partner_in, with_number, IsRising, entry_by_key, has_key, answer_by_verdict, holds_of, is_damaged, is_other, IsRepeatedAlike, RepeatedOverMigration, repeated, verdict}
+use Rattle.wb_office.proofs.Common.{find, is_none, option_map, EntryParts, Among, find-among, finding, Sound, sound-sealed, is_sound_entry, is_second_kind, is_partner, partner_in, with_number, IsRising, entry_by_key, has_key, answer_by_verdict, holds_of, is_damaged_entry, is_other, IsRepeatedAlike, RepeatedOverMigration, repeated, verdict}
 use Rattle.std.specs.Prelude.{option_and_then}
 use Rattle.wb_journal.proofs.Theorems.{law_of_fields}
 use Rattle.wb_journal.proofs.offered.Chained.{chained-rising}
@@ -82,7 +82,7 @@ module _ (es : List EntryParts) (e f : EntryParts) (key : List ℕ) (rising : Is
       sym (ap (λ o. option_map but_digests (option_and_then (partner_in (chained es)) o)) new) ∙ (law_of_fields es rising).partner e.number
       ∙ ap (λ o. option_map but_digests (option_and_then (partner_in es) o)) old
 
-  whole : finding_in_v1 es ≡ Sound (length es) → is_damaged (chained es) f ≡ false
+  whole : finding_in_v1 es ≡ Sound (length es) → is_damaged_entry (chained es) f ≡ false
   whole sound =
       let old = find-among (has_key key) es e found in
       let new = find-among (has_key key) (chained es) f is in
@@ -105,7 +105,7 @@ repeated_over_migration es rising may e a asked = go (entry_by_key (chained es) 
         let other = ap (is_other a) (alike es e f a.key rising asked.found is) ∙ asked.same in
         let judged : verdict a ≡ repeated f =
         by_repetition a f (ap (λ l. entry_by_key l a.key) asked.journal ∙ is) other asked.unspent
-        (ap (λ l. is_damaged l f) asked.journal ∙ whole es e f a.key rising asked.found is may.0) in
+        (ap (λ l. is_damaged_entry l f) asked.journal ∙ whole es e f a.key rising asked.found is may.0) in
         record {
           entry = f;
           alike = alike es e f a.key rising asked.found is;

@@ -1,6 +1,6 @@
 -- A request that was answered with an entry and is made again.
 use Rattle.std.proofs.Common.{◌≡◌, ◌∙◌, sym, ap, subst, ◌⊎◌, ℕ, Bool, true, false, inl, inr, not, ◌&&◌, ◌||◌, if◌then◌else◌, List, [], ◌∷◌, ◌++◌, Option, Some, None, Result, Ok, refl, true≢false}
-use Rattle.wb_office.proofs.Common.{bytes_eq-Decides, list_any, is_none, bytes_eq, EntryParts, Kind, First, Second, Single, Void, is_sound_entry, is_closing_kind, is_second_kind, same_kind, open_entry, partner_in, IsRising, find-among, sound-sealed, law_of_closing, AreLists, entry_by_key, has_key, is_spent, Refusal, Request, Content, answer, answer_by_verdict, asking, entries_after, outcome_of, spent_by_outcome, entry_content, ticket_content, Asking, Situation, holds_of, is_damaged, is_other, AreBounds, Journal, RequestTurn, after, answer_in, entry_of, left, situation_of_turn, AnsweredAgain, IsGone, IsKeptEntry, Verdict, accepted, of_new, refused, repeated, verdict}
+use Rattle.wb_office.proofs.Common.{bytes_eq-Decides, list_any, is_none, bytes_eq, EntryParts, Kind, First, Second, Single, Void, is_sound_entry, is_closing_kind, is_second_kind, same_kind, open_entry, partner_in, IsRising, find-among, sound-sealed, law_of_closing, AreLists, entry_by_key, has_key, is_spent, Refusal, Request, Content, office_answer, answer_by_verdict, asking, entries_after, outcome_of, spent_by_outcome, entry_content, ticket_content, Asking, Situation, holds_of, is_damaged_entry, is_other, AreBounds, Journal, RequestTurn, after, answer_in, entry_of, left, situation_of_turn, AnsweredAgain, IsGone, IsKeptEntry, Verdict, accepted, of_new, refused, repeated, verdict}
 use Rattle.wb_journal.specs.Texts.{ticket}
 use Rattle.wb_office.specs.declared.refusal.Refusal.TheVariants as refusal
 use Rattle.wb_office.proofs.FoundEntries.{found_by_number, is_some_same, none_some}
@@ -23,7 +23,7 @@ no_other : (now : Situation) (key : List ℕ) (kind : Kind) (plate : List ℕ) (
 no_other now key kind plate e of_kind of_plate = rw (of_kind, of_plate, same_kind_itself e.kind, (bytes_eq-Decides e.plate e.plate).1 refl) refl
 
 module _ (now : Situation) (key : List ℕ) (kind : Kind) (plate : List ℕ) (e : EntryParts) (of_key : key ≡ e.key) where
-  judged_again : (p : Option EntryParts) → is_other (asking now key kind plate) e ≡ false → IsStored now.entries now.spent e p → is_damaged now.entries e ≡ false → verdict (asking now key kind plate) ≡ repeated e
+  judged_again : (p : Option EntryParts) → is_other (asking now key kind plate) e ≡ false → IsStored now.entries now.spent e p → is_damaged_entry now.entries e ≡ false → verdict (asking now key kind plate) ≡ repeated e
   judged_again p same stored sound =
       let found : entry_by_key now.entries key ≡ Some e = rw of_key stored.found in
       let unspent : is_spent now.spent key ≡ false = rw of_key stored.unspent in
@@ -71,7 +71,7 @@ partner_sound a e is rising second =
     let sound : holds_of (λ f. not (is_sound_entry f)) (open_entry a.now.entries e.plate) ≡ false = and_true (is_second_kind e.kind) _ second (rw (kind, plate) at late.1.1.0) in
     rw (law_of_closing a.now.entries e rising closing) (holds_some (open_entry a.now.entries e.plate) (has_open a e is closing) sound)
 
-pub not_damaged : (es : List EntryParts) (e : EntryParts) → is_sound_entry e ≡ true → (is_second_kind e.kind ≡ true → holds_of is_sound_entry (partner_in es e) ≡ true) → is_damaged es e ≡ false
+pub not_damaged : (es : List EntryParts) (e : EntryParts) → is_sound_entry e ≡ true → (is_second_kind e.kind ≡ true → holds_of is_sound_entry (partner_in es e) ≡ true) → is_damaged_entry es e ≡ false
 not_damaged es e sound partner_is = go (is_second_kind e.kind) refl
   where
     go : (c : Bool) → is_second_kind e.kind ≡ c → (not (is_sound_entry e) || (c && not (holds_of is_sound_entry (partner_in es e)))) ≡ false
@@ -84,7 +84,7 @@ same_text es fs e Second same = ap (λ p. ticket_content (ticket e p)) same
 same_text es fs e Single same = refl
 same_text es fs e Void same = refl
 
-pub same_damage : (es fs : List EntryParts) (e : EntryParts) → partner_in es e ≡ partner_in fs e → is_damaged es e ≡ is_damaged fs e
+pub same_damage : (es fs : List EntryParts) (e : EntryParts) → partner_in es e ≡ partner_in fs e → is_damaged_entry es e ≡ is_damaged_entry fs e
 same_damage es fs e same = ap (λ p. not (is_sound_entry e) || (is_second_kind e.kind && not (holds_of is_sound_entry p))) same
 
 -- ---- the law
@@ -95,7 +95,7 @@ record IsTold (j : Journal) (request : Request) (e : EntryParts) (first : Result
   pub of_key : asked.key ≡ e.key
   pub same : (now : Situation) → is_other (asking_for asked now) e ≡ false
   pub known : IsKnown j.entries j.spent e (partner_in j.entries e)
-  pub whole : is_damaged j.entries e ≡ false
+  pub whole : is_damaged_entry j.entries e ≡ false
   pub told : first ≡ Ok (entry_content j.entries e e.kind)
 
 told_again : (j : Journal) (request : Request) (e : EntryParts) (first : Result Content Refusal) → IsTold j request e first → (ts : List RequestTurn) → AreBounds j ts
@@ -106,12 +106,12 @@ told_again j request e first is ts bounds u same = go known.state
     known = known_after j e (partner_in j.entries e) is.known ts bounds
 
     answers : answer_in (after j ts) u ≡ answer_by_verdict (after j ts).entries (verdict (asking_for is.asked (situation_of_turn (after j ts) u)))
-    answers = ap (answer (situation_of_turn (after j ts) u) u.bound) same ∙ is.asked.answers (situation_of_turn (after j ts) u) u.bound
+    answers = ap (office_answer (situation_of_turn (after j ts) u) u.bound) same ∙ is.asked.answers (situation_of_turn (after j ts) u) u.bound
 
     go : IsStored (after j ts).entries (after j ts).spent e (partner_in j.entries e) ⊎ IsPast (after j ts).entries (after j ts).spent e
         → IsKeptEntry (after j ts) e first (answer_in (after j ts) u) ⊎ IsGone (after j ts) e (answer_in (after j ts) u)
     go (inl stored) =
-        let sound : is_damaged (after j ts).entries e ≡ false = same_damage (after j ts).entries j.entries e stored.paired ∙ is.whole in
+        let sound : is_damaged_entry (after j ts).entries e ≡ false = same_damage (after j ts).entries j.entries e stored.paired ∙ is.whole in
         let text : ◌≡◌ {A = Result Content Refusal} (Ok (entry_content (after j ts).entries e e.kind)) first = ap Ok (same_text (after j ts).entries j.entries e e.kind stored.paired) ∙ sym is.told in
         let judged = judged_again (situation_of_turn (after j ts) u) is.asked.key is.asked.kind is.asked.plate e is.of_key (partner_in j.entries e) (is.same (situation_of_turn (after j ts) u)) stored sound in
         inl (record {
@@ -138,7 +138,7 @@ told_added j t e rising asked accepts =
       of_key = sym (ap (λ x. x.key) made);
       same = λ now. no_other now asked.key asked.kind asked.plate e (sym (ap (λ x. x.kind) made)) (sym (ap (λ x. x.plate) made));
       known = subst (λ o. IsKnown (entries_after o j.entries) (spent_by_outcome o j.entries j.spent) e (partner_in (entries_after o j.entries) e)) (sym is) known;
-      whole = subst (λ o. is_damaged (entries_after o j.entries) e ≡ false) (sym is) whole;
+      whole = subst (λ o. is_damaged_entry (entries_after o j.entries) e ≡ false) (sym is) whole;
       told = subst (λ o. answer_in j t ≡ Ok (entry_content (entries_after o j.entries) e e.kind)) (sym is) told;
     }
 
@@ -156,7 +156,7 @@ told_repeated j t e lists asked is =
       of_key = sym ((bytes_eq-Decides e.key asked.key).0 found.1);
       same = λ now. again.same;
       known = subst (λ o. IsKnown (entries_after o j.entries) (spent_by_outcome o j.entries j.spent) e (partner_in (entries_after o j.entries) e)) (sym stays) (stood j.entries j.spent e lists found.0);
-      whole = subst (λ o. is_damaged (entries_after o j.entries) e ≡ false) (sym stays) again.whole;
+      whole = subst (λ o. is_damaged_entry (entries_after o j.entries) e ≡ false) (sym stays) again.whole;
       told = subst (λ o. answer_in j t ≡ Ok (entry_content (entries_after o j.entries) e e.kind)) (sym stays) told;
     }
 

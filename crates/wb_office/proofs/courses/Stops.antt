@@ -1,14 +1,14 @@
 -- A weighing or void that a stop broke off.
 use Rattle.std.proofs.Common.{◌≡◌, ◌⊎◌, inl, inr, ap, subst, sym, ◌∙◌, ℕ, Result, refl}
-use Rattle.wb_office.proofs.Common.{Ghosts, Reopens, AreLists, Refusal, Request, Content, answer, answer_by_verdict, Asking, IsOnLists, Journal, RequestTurn, left, situation_of_turn, IsByKey, AnsweredAfterStops, Asks, IsAnsweredByKey, IsFoundAgain, verdict, wanted}
+use Rattle.wb_office.proofs.Common.{Ghosts, Reopens, AreLists, Refusal, Request, Content, office_answer, answer_by_verdict, Asking, IsOnLists, Journal, RequestTurn, left, situation_of_turn, IsByKey, AnsweredAfterStops, Asks, IsAnsweredByKey, IsFoundAgain, verdict, wanted}
 use Rattle.sqlite.specs.Effect.{Database, IsDatabase}
 use Rattle.wb_store.proofs.Theorems.{law_of_reopening}
 use Rattle.wb_office.proofs.Verdicts.{key_decides}
 
 -- the answer is that of the verdict
-pub of_verdict : (a : Asking) (bound : ℕ) (request : Request) → Asks request a → answer a.now bound request ≡ answer_by_verdict a.now.entries (verdict a)
+pub of_verdict : (a : Asking) (bound : ℕ) (request : Request) → Asks request a → office_answer a.now bound request ≡ answer_by_verdict a.now.entries (verdict a)
 of_verdict a bound request (inl weighs) = rw weighs refl
-of_verdict a bound request (inr voids) = subst (λ k. answer a.now bound request ≡ answer_by_verdict a.now.entries (verdict (record a { kind = k }))) (sym voids.1) (rw voids.0 refl)
+of_verdict a bound request (inr voids) = subst (λ k. office_answer a.now bound request ≡ answer_by_verdict a.now.entries (verdict (record a { kind = k }))) (sym voids.1) (rw voids.0 refl)
 
 by_verdict : (a : Asking) (again : Result Content Refusal) → IsByKey a → again ≡ answer_by_verdict a.now.entries (verdict a) → IsAnsweredByKey a again
 by_verdict a again decides is = record {
@@ -32,7 +32,7 @@ module _ (j : Journal) (t : RequestTurn) (db : Database) (is : IsDatabase db) wh
         tables = shown.0;
         holds = shown.1;
         beside = shown.2;
-        again = λ a bound on asks. by_verdict a (answer a.now bound t.request) (on_lists now shown.1.lists a on) (of_verdict a bound t.request asks);
+        again = λ a bound on asks. by_verdict a (office_answer a.now bound t.request) (on_lists now shown.1.lists a on) (of_verdict a bound t.request asks);
       }
 
   either : Reopens db.trees j.entries j.spent ⊎ Reopens db.trees (left j t).entries (left j t).spent → IsFoundAgain j t db

@@ -1,6 +1,6 @@
 -- The load behind the gross of an accepted weighing.
 use Rattle.std.proofs.Common.{◌≡◌, ◌∙◌, sym, ap, subst, All, length, take, Bool, true, false, not, ◌&&◌, List, Option, Some, None, ℤ, pos, refl, arith}
-use Rattle.wb_office.proofs.Common.{ints, int_lt, is_none, option_map, is_over, is_under, round, IsSetup, Setup, EntryParts, Kind, First, Second, Single, Void, is_void_kind, TareNow, gross, indicated, indicated_at, readings, tare_now, tare_tenths, above_zero, zero_now, is_stable, Asking, holds_of, AllWeighed, IsWeighed, accepted, first_refusal, gross_stored, kilograms_of, of_new, verdict}
+use Rattle.wb_office.proofs.Common.{ints, int_lt, is_none, option_map, is_above_range, is_below_range, round, IsSetup, Setup, EntryParts, Kind, First, Second, Single, Void, is_void_kind, TareNow, gross, indicated, indicated_at, readings, tare_now, tare_tenths, above_zero, zero_now, is_stable, Asking, holds_of, AllWeighed, IsWeighed, accepted, first_refusal, gross_stored, kilograms_of, of_new, verdict}
 use Rattle.std.specs.Prelude.{◌≤ℤ◌, ◌-ℤ◌}
 use Rattle.wb_scale.specs.declared.answers.Indicated.TheVariants.{Shown}
 use Rattle.wb_scale.specs.Call.{Call}
@@ -14,8 +14,8 @@ use Rattle.wb_office.proofs.ConditionsInOrder.{none_holds}
 -- a load on which none of the conditions on it holds
 record IsFree (s : Setup) (is_still : Bool) (g : Option ℤ) : Type 0 where
   pub there : is_none g ≡ false
-  pub over : holds_of (is_over s) g ≡ false
-  pub under : holds_of is_under g ≡ false
+  pub over : holds_of (is_above_range s) g ≡ false
+  pub under : holds_of is_below_range g ≡ false
   pub stable : is_still ≡ true
   pub below : holds_of (λ x. int_lt x (pos 20)) g ≡ false
 
@@ -25,8 +25,8 @@ record IsShownAt (s : Setup) (stable : Bool) (tare : TareNow) (tenths : Option �
   pub net : ℤ
   pub is_gross : option_map round tenths ≡ Some whole
   pub shown_so : indicated_at s stable tare tenths ≡ Shown whole net true
-  pub over : is_over s whole ≡ false
-  pub under : is_under whole ≡ false
+  pub over : is_above_range s whole ≡ false
+  pub under : is_below_range whole ≡ false
   pub least : pos 20 ≤ℤ whole
 
 not_below : (g : ℤ) → int_lt g (pos 20) ≡ false → pos 20 ≤ℤ g
@@ -59,8 +59,8 @@ free_load a none weighs =
     let load = free.1 in (
       record {
         there = false_of _ (is_none (gross a.now.history)) weighs load.0;
-        over = false_of _ (holds_of (is_over a.now.setup) (gross a.now.history)) weighs load.1.0;
-        under = false_of _ (holds_of is_under (gross a.now.history)) weighs load.1.1.0;
+        over = false_of _ (holds_of (is_above_range a.now.setup) (gross a.now.history)) weighs load.1.0;
+        under = false_of _ (holds_of is_below_range (gross a.now.history)) weighs load.1.1.0;
         stable = true_of _ (is_stable a.now.setup.window a.now.setup.band (readings a.now.history)) weighs load.1.1.1.0;
         below = false_of _ (holds_of (λ x. int_lt x (pos 20)) (gross a.now.history)) weighs load.1.1.1.1.0;
       },

@@ -1,7 +1,7 @@
 -- What a reading and zero setting leave of what a scale keeps.
 use Rattle.std.specs.Prelude.{◌≡◌, ◌∷◌, ℕ, ◌-◌, Bool, false, ◌&&◌, ◌||◌, if◌then◌else◌, nat_le, Option, Some, option_map, take, ℤ, pos, neg_ℤ, ◌+ℤ◌, ◌-ℤ◌, ◌≤ℤ◌}
 use Rattle.std.specs.Ordering.{int_eq}
-use Rattle.wb_instrument.specs.Limits.{tracking_gap, zero_limit}
+use Rattle.wb_instrument.specs.Limits.{readings_a_step, farthest_zero}
 use Rattle.wb_instrument.specs.Rounding.{round}
 use Rattle.wb_window.specs.declared.reading.Reading.{Reading}
 use Rattle.wb_window.specs.Stability.{is_stable}
@@ -38,23 +38,23 @@ cleared_from cleared tenths = has_below_min (option_map round tenths) || cleared
 abbrev pub moved : State → ℤ → State
 moved s step = record s {
   zero = s.zero +ℤ step;
-  pause = pause_from step s.pause (tracking_gap s.setup);
+  pause = pause_from step s.pause (readings_a_step s.setup);
   cleared = cleared_from s.cleared (above (last_load s.held.readings) (s.zero +ℤ step));
 }
 
 -- and this step is the one that it makes
 abbrev pub tracked : State → State
-tracked s = moved s (step_of (is_stable s.held.size s.held.band s.held.readings) s.pause (pos (zero_limit s.setup)) s.zero (last_load s.held.readings))
+tracked s = moved s (step_of (is_stable s.held.size s.held.band s.held.readings) s.pause (pos (farthest_zero s.setup)) s.zero (last_load s.held.readings))
 
 -- the answer to setting the zero
 abbrev pub target_answer : State → ZeroAnswer
-target_answer s = zero_answer_of (is_stable s.held.size s.held.band s.held.readings) (pos (zero_limit s.setup)) (last_load s.held.readings)
+target_answer s = zero_answer_of (is_stable s.held.size s.held.band s.held.readings) (pos (farthest_zero s.setup)) (last_load s.held.readings)
 
 -- the zero may be set to the last load
 pub record IsTarget (s : State) (load : ℤ) : Type 0 where
   pub last : last_load s.held.readings ≡ Some load
   pub done : target_answer s ≡ Done
-  pub within : (neg_ℤ (pos (zero_limit s.setup)) ≤ℤ load) × (load ≤ℤ pos (zero_limit s.setup))
+  pub within : (neg_ℤ (pos (farthest_zero s.setup)) ≤ℤ load) × (load ≤ℤ pos (farthest_zero s.setup))
 
 -- it may not
 pub record IsRefused (s : State) (answer : ZeroAnswer) : Type 0 where

@@ -13,12 +13,12 @@ use Rattle.wb_station.specs.declared.fault.Method.TheVariants.{Get, Post}
 use Rattle.wb_station.specs.declared.request.Sought.{Sought}
 use Rattle.wb_station.specs.declared.routes.Route.{Route}
 use Rattle.wb_station.specs.declared.routes.Route.TheVariants.{Check, Indication, JournalCsv, Purge, Ticket, TicketsCsv, Voids, Weighings}
-use Rattle.wb_station.specs.BodyLength.{are_wrong, first_number, is_encoded, is_number_text, lengths}
+use Rattle.wb_station.specs.BodyLength.{are_wrong, first_number, has_transfer_encoding, is_number_text, lengths}
 use Rattle.wb_station.specs.HttpJudgement.{FaultCondition, allows, asked_by, cut_short, fault_on, first_fault, judgement_of, malformed_length, no_length, no_route, of_body, request_asked, too_large, unless_faulty, wrong_method}
 use Rattle.wb_station.specs.RequestBytes.{Received, fields}
 use Rattle.wb_station.specs.Routes.{method_of, route_of_target}
 use Rattle.wb_station.specs.helpers.LengthSaid.{said, said_values}
-use Rattle.wb_station.specs.helpers.AskedByHead.{answered, answered_by, sought, sought_at, sought_on, with_length}
+use Rattle.wb_station.specs.helpers.AskedByHead.{answer_to_sought, answered_by, sought, sought_at, sought_on, with_length}
 
 -- the first fault of a head, by what its conditions say
 abbrev pub first_of : Bool → Bool → Bool → Bool → Bool → Bool → Option HttpFault
@@ -43,7 +43,7 @@ steps Get route get post length = if get then Ok (record { route = route; length
 steps Post route get post length = if post then with_length route length else Err (WrongMethod Post)
 
 in_time : (route : Route) (target rest : List ℕ) (n : ℕ) (late : Bool) → nat_lt (length rest) n ≡ late
-    → unless_faulty (cond late (Some Malformed) None) (asked_by (take n rest) target route) ≡ answered (record { route = route; length = n }) target rest
+    → unless_faulty (cond late (Some Malformed) None) (asked_by (take n rest) target route) ≡ answer_to_sought (record { route = route; length = n }) target rest
 in_time route target rest n true e = rw e refl
 in_time route target rest n false e = rw e refl
 
@@ -127,7 +127,7 @@ judged_by_steps x =
     ap (λ (o : Option HttpFault). unless_faulty (option_or o (first_fault of_body x)) (request_asked x))
     (mapped x (no_route x) (wrong_method Get x) (wrong_method Post x) (malformed_length x) (no_length x) (too_large x))
     ∙ ap (λ (o : Option HttpFault). unless_faulty (option_or (first_of (no_route x) (wrong_method Get x) (wrong_method Post x) (malformed_length x) (no_length x) (too_large x)) o) (request_asked x)) (last_mapped (cut_short x))
-    ∙ by_option (route_of_target x.head.target) x.head.method x.head.target x.rest (is_encoded x) (lengths x)
+    ∙ by_option (route_of_target x.head.target) x.head.method x.head.target x.rest (has_transfer_encoding x) (lengths x)
 
 pub judged_by_parts : (x : Received) (method target rest : List ℕ) (ps : List (List ℕ × List ℕ))
     → method ≡ x.head.method → target ≡ x.head.target → ps ≡ fields x → rest ≡ x.rest

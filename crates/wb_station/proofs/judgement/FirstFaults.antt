@@ -10,7 +10,7 @@ use Rattle.wb_station.specs.declared.fault.Method.TheVariants.{Get, Post}
 use Rattle.wb_station.specs.declared.request.Sought.{Sought}
 use Rattle.wb_station.specs.declared.routes.Route.{Route}
 use Rattle.wb_station.specs.declared.routes.Route.TheVariants.{Check, Indication, JournalCsv, Purge, Ticket, TicketsCsv, Voids, Weighings}
-use Rattle.wb_station.specs.BodyLength.{are_wrong, first_number, is_encoded, is_number_text, lengths}
+use Rattle.wb_station.specs.BodyLength.{are_wrong, first_number, has_transfer_encoding, is_number_text, lengths}
 use Rattle.wb_station.specs.Form.{IsPlain}
 use Rattle.wb_station.specs.HttpJudgement.{MayWantMemory, allows, cut_short, first_fault, has_form, malformed_length, no_length, no_route, of_body, of_head, too_large, wrong_method}
 use Rattle.wb_station.specs.RequestBytes.{ReadsAs, Received, fields}
@@ -71,7 +71,7 @@ pub fault_by_steps : (x : Received) → option_or (first_fault of_head x) (first
 fault_by_steps x =
     ap (λ (o : Option HttpFault). option_or o (first_fault of_body x)) (mapped x (no_route x) (wrong_method Get x) (wrong_method Post x) (malformed_length x) (no_length x) (too_large x))
     ∙ ap (option_or (first_of (no_route x) (wrong_method Get x) (wrong_method Post x) (malformed_length x) (no_length x) (too_large x))) (last_mapped (cut_short x))
-    ∙ by_option (route_of_target x.head.target) x.head.method x.rest (is_encoded x) (lengths x)
+    ∙ by_option (route_of_target x.head.target) x.head.method x.rest (has_transfer_encoding x) (lengths x)
 
 -- ---- a form
 
@@ -126,7 +126,7 @@ sought_on_of (Some route) method encoded vs s e =
 wants : (bytes : List ℕ) (x : Received) (r : Result Sought HttpFault) → ReadsAs bytes x → sought x ≡ r → IsDecoded r x.rest → MayWantMemory bytes
 wants bytes x (Err fault) reads e d = absurd d
 wants bytes x (Ok s) reads e d =
-    let of = sought_on_of (route_of_target x.head.target) x.head.method (is_encoded x) (lengths x) s e in
+    let of = sought_on_of (route_of_target x.head.target) x.head.method (has_transfer_encoding x) (lengths x) s e in
     record {
       received = x;
       reads = reads;

@@ -14,12 +14,12 @@ use Rattle.wb_station.specs.declared.fault.Method.{Method}
 use Rattle.wb_station.specs.declared.fault.Method.TheVariants.{Get, Post}
 use Rattle.wb_station.specs.declared.request.Sought.{Sought}
 use Rattle.wb_station.specs.declared.routes.Route.{Route}
-use Rattle.wb_station.specs.BodyLength.{are_wrong, first_number, is_encoded, is_number_text, lengths}
+use Rattle.wb_station.specs.BodyLength.{are_wrong, first_number, has_transfer_encoding, is_number_text, lengths}
 use Rattle.wb_station.specs.HttpJudgement.{IsJudged, cut_short, fault_without_head, first_fault, judgement, judgement_of, malformed_length, no_length, no_route, of_body, of_head, too_large, wrong_method}
 use Rattle.wb_station.specs.RequestBytes.{IsRead, ReadsAs, Received, fields}
 use Rattle.wb_station.specs.Routes.{method_of, route_of_target}
 use Rattle.wb_station.specs.helpers.LengthSaid.{said}
-use Rattle.wb_station.specs.helpers.AskedByHead.{answered, answered_by, sought, sought_on, whole_by, with_length}
+use Rattle.wb_station.specs.helpers.AskedByHead.{answer_to_sought, answered_by, sought, sought_on, whole_by, with_length}
 use Rattle.wb_station.specs.WholeRequests.{OneJudgement, WholeStays, is_whole}
 use Rattle.wb_station.proofs.judgement.AskedByHead.{first_of, judged_by_steps, last_mapped, mapped, not_both, said_with, steps, steps_at}
 use Rattle.wb_station.proofs.judgement.FirstFaults.{fault_by_steps, fault_in, fault_with, known_fault}
@@ -57,7 +57,7 @@ by_option (Some route) method encoded vs =
 head_fault : (x : Received) → first_fault of_head x ≡ fault_in (sought x)
 head_fault x =
     mapped x (no_route x) (wrong_method Get x) (wrong_method Post x) (malformed_length x) (no_length x) (too_large x)
-    ∙ by_option (route_of_target x.head.target) x.head.method (is_encoded x) (lengths x)
+    ∙ by_option (route_of_target x.head.target) x.head.method (has_transfer_encoding x) (lengths x)
 
 -- ---- whole by steps
 
@@ -94,7 +94,7 @@ one_judgement bytes r s h k = h.2 ∙ ap (judgement bytes) (one_reading bytes h.
 -- ---- more bytes
 
 longer : (rest more : List ℕ) (n : ℕ) (target : List ℕ) (route : Route) → not (nat_lt (length rest) n) ≡ true
-    → answered (record { route = route; length = n }) target (rest ++ more) ≡ answered (record { route = route; length = n }) target rest
+    → answer_to_sought (record { route = route; length = n }) target (rest ++ more) ≡ answer_to_sought (record { route = route; length = n }) target rest
 longer rest more n target route e =
     let enough : n ≤ length rest = grind (arith, nat_tests, e) in
     let first : nat_lt (length rest) n ≡ false = grind (arith, nat_tests, enough) in

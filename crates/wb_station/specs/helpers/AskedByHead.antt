@@ -40,12 +40,12 @@ abbrev pub sought_in : Head → Result Sought HttpFault
 sought_in h = sought_on (route_of_target h.target.now) h.method.now (said (pairs h))
 
 -- the answer to what is sought, of a target and what follows the head
-abbrev pub answered : Sought → List ℕ → List ℕ → Result Request HttpFault
-answered s target rest =
+abbrev pub answer_to_sought : Sought → List ℕ → List ℕ → Result Request HttpFault
+answer_to_sought s target rest =
     if nat_lt (length rest) s.length then Err Malformed else ok_or (asked_by (take s.length rest) target s.route) BadField
 
 abbrev pub answered_by : Result Sought HttpFault → List ℕ → List ℕ → Result Request HttpFault
-answered_by (Ok s) target rest = answered s target rest
+answered_by (Ok s) target rest = answer_to_sought s target rest
 answered_by (Err fault) target rest = Err fault
 
 -- nothing of it is cut short

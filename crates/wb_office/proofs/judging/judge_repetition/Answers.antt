@@ -1,5 +1,5 @@
 use Rattle.std.proofs.Common.{rules, ◌≡◌, ◌∙◌, sym, ap, Bool, true, false, not}
-use Rattle.wb_office.proofs.Common.{option_copied, key_gone, is_damaged, is_other}
+use Rattle.wb_office.proofs.Common.{option_copied, key_gone, is_damaged_entry, is_other}
 use Rattle.wb_office.specs.helpers.Partners.{is_damaged_with}
 use Rattle.wb_office.proofs.FoundEntries.{found_unspent}
 use Rattle.wb_office.proofs.Verdicts.{by_damage, by_other, by_repetition}
@@ -18,7 +18,7 @@ returns-then-is_damaged-clause-judged c = λ a asks lists found paired.
     let same : is_other a c.args.entry ≡ false = not_not (is_other a c.args.entry) true (sym (c.is_same.ensures a asks) ∙ c.if-not-is_same.false) in
     let ungone : key_gone a ≡ false = found_unspent a.now.entries a.now.spent a.key c.args.entry lists.apart found in
     let held : option_copied c.as_ref.result ≡ c.args.partner = search (rules, c.as_ref.ensures.value) in
-    let damaged : is_damaged a.now.entries c.args.entry ≡ true = ap (is_damaged_with c.args.entry) (sym paired ∙ sym held) ∙ sym c.is_damaged.ensures ∙ c.if-is_damaged.true in
+    let damaged : is_damaged_entry a.now.entries c.args.entry ≡ true = ap (is_damaged_with c.args.entry) (sym paired ∙ sym held) ∙ sym c.is_damaged.ensures ∙ c.if-is_damaged.true in
     by_damage a c.args.entry found same ungone damaged
 
 pub returns-clause-judged : goal.returns-clause-judged
@@ -26,5 +26,5 @@ returns-clause-judged c = λ a asks lists found paired.
     let same : is_other a c.args.entry ≡ false = not_not (is_other a c.args.entry) true (sym (c.is_same.ensures a asks) ∙ c.if-not-is_same.false) in
     let ungone : key_gone a ≡ false = found_unspent a.now.entries a.now.spent a.key c.args.entry lists.apart found in
     let held : option_copied c.as_ref.result ≡ c.args.partner = search (rules, c.as_ref.ensures.value) in
-    let sound : is_damaged a.now.entries c.args.entry ≡ false = ap (is_damaged_with c.args.entry) (sym paired ∙ sym held) ∙ sym c.is_damaged.ensures ∙ c.if-is_damaged.false in
+    let sound : is_damaged_entry a.now.entries c.args.entry ≡ false = ap (is_damaged_with c.args.entry) (sym paired ∙ sym held) ∙ sym c.is_damaged.ensures ∙ c.if-is_damaged.false in
     record { judged = by_repetition a c.args.entry found same ungone sound; paired = λ second. paired }

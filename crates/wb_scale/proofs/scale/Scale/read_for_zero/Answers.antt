@@ -1,6 +1,6 @@
 use Rattle.std.proofs.Common.{◌≡◌, arith, of_z, pos, sym, to_z, w32, ◌∙◌, refl}
 use Rattle.std.proofs.lemmas.Int.{ints}
-use Rattle.wb_instrument.specs.Limits.{tracking_gap}
+use Rattle.wb_instrument.specs.Limits.{readings_a_step}
 use Rattle.wb_scale.specs.helpers.After.{IsRefused, IsTarget, pause_from, seen}
 use Rattle.wb_scale.specs.Stands.{ScaleStands}
 use Rattle.wb_scale.specs.State.{State}
@@ -22,7 +22,7 @@ before g c = record { setup = c.self.inside.instrument; held = g.W.Window.held c
 target : (g : Over) (c : goal.After-self-in-Ok-3-1 g) → IsTarget (seen (before g c) c.args.reading) c.in-Ok.load
 target g c = rw c.read.ensures at c.in-Ok.ensures.ok
 
-pause : (g : Over) (c : goal.After-self-in-Ok-3-1 g) → c.pause_after-self-inside.result ≡ pause_from (pos 0) c.self.inside.pause (tracking_gap c.self.inside.instrument)
+pause : (g : Over) (c : goal.After-self-in-Ok-3-1 g) → c.pause_after-self-inside.result ≡ pause_from (pos 0) c.self.inside.pause (readings_a_step c.self.inside.instrument)
 pause g c = c.pause_after-self-inside.ensures
 
 pub invariant_of-self-in-Ok : goal.invariant_of-self-in-Ok

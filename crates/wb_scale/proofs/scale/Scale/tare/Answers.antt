@@ -6,7 +6,7 @@ use Rattle.wb_scale.specs.helpers.After.{above, balance_answer}
 use Rattle.wb_scale.specs.Call.{tare}
 use Rattle.wb_scale.specs.Moment.{nothing}
 use Rattle.wb_scale.specs.Stands.{ScaleStands}
-use Rattle.wb_scale.specs.Tare.{tare_kg}
+use Rattle.wb_scale.specs.Tare.{tare_in_kilograms}
 use Rattle.wb_scale.specs.State.{State}
 use Rattle.wb_scale.specs.Zero.{last_load}
 use Rattle.wb_scale.proofs.Balances.{balance_answer-held, weighed-held, weighed-refused}
@@ -20,7 +20,7 @@ before g c = record { setup = c.self.inside.instrument; held = g.W.Window.held c
 load : (g : Over) (c : goal.After-tare_kilograms g) → above (last_load (before g c).held.readings) (before g c).zero ≡ Some c.in-Ok.tenths
 load g c = subst (λ (t : State). above (last_load t.held.readings) t.zero ≡ Some c.in-Ok.tenths) (sym c.self.view_is) (sym c.above_zero.ensures.value ∙ c.in-Ok.ensures.ok.0)
 
-tared : (g : Over) (c : goal.After-tare_kilograms g) → balance_answer (before g c) ≡ Done (tare_kg c.self.inside.instrument (Weighed c.in-Ok.tenths))
+tared : (g : Over) (c : goal.After-tare_kilograms g) → balance_answer (before g c) ≡ Done (tare_in_kilograms c.self.inside.instrument (Weighed c.in-Ok.tenths))
 tared g c = rw (load g c) (rw (c.stable-stable.ensures, c.in-Ok.ensures.ok.0) at c.in-Ok.ensures.ok.1)
 
 pub returns-in-Ok-clause-answer : goal.returns-in-Ok-clause-answer

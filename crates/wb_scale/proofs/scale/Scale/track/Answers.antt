@@ -1,6 +1,6 @@
 use Rattle.std.proofs.Common.{◌≡◌, ◌+ℤ◌, arith, of_z, pos, subst, sym, to_z, w32}
 use Rattle.std.proofs.lemmas.Int.{ints}
-use Rattle.wb_instrument.specs.Limits.{zero_limit}
+use Rattle.wb_instrument.specs.Limits.{farthest_zero}
 use Rattle.wb_window.specs.Stability.{is_stable}
 use Rattle.wb_scale.specs.helpers.After.{step_of, tracked}
 use Rattle.wb_scale.specs.State.{IsScale, State}
@@ -23,7 +23,7 @@ load : (g : Over) (c : goal.After-self-3-1 g) → c.load-load.result ≡ last_lo
 load g c = subst (λ (t : State). c.load-load.result ≡ last_load t.held.readings) (sym c.self.view_is) c.load-load.ensures.value
 
 step : (g : Over) (c : goal.After-self-3-1 g) → let s = before g c in
-    c.tracking_step-step.result ≡ step_of (is_stable s.held.size s.held.band s.held.readings) s.pause (pos (zero_limit s.setup)) s.zero (last_load s.held.readings)
+    c.tracking_step-step.result ≡ step_of (is_stable s.held.size s.held.band s.held.readings) s.pause (pos (farthest_zero s.setup)) s.zero (last_load s.held.readings)
 step g c =
     let zero : to_z w32 (of_z w32 c.self.inside.zero) ≡ c.self.inside.zero = omega (arith, ints) in
     rw (zero, load g c) at c.tracking_step-step.ensures.value

@@ -1,0 +1,137 @@
+#!/usr/bin/env python3
+"""Journals of version 1 as the program 1.0.0 left them: how they were made, and where they are.
+
+Usage: version_one.py PROGRAM FOLDER [ENTRIES]. PROGRAM is weighbridge 1.0.0; in FOLDER it makes `none`, `pair` and `purged`, each as the two
+files of a journal, `.db` and `.db-wal`, packed by gzip. The vehicles are weighed over sockets, under a clock of 2025, and the service is
+killed at the end, so that what it stored last stands in the log. With ENTRIES it makes `many` alone, with so many Singles, a few minutes for 90,000.
+Needs faketime. checks/data/version_1 was made so, by the program of the last commit of version 1.0.0.
+"""
+
+import glob
+import gzip
+import os
+import shutil
+import sys
+import tempfile
+
+sys.path.insert(0, os.path.dirname(os.path.abspath(__file__)))
+import bridge  # noqa: E402
+
+KEPT = os.path.join(os.path.dirname(os.path.dirname(os.path.abspath(__file__))), "data", "version_1")
+SPRING, AUTUMN = "@2025-03-10 08:00:00", "@2025-09-01 08:00:00"
+LIBRARY = "/usr/lib/*/faketime/libfaketimeMT.so.1"
+
+
+def unpack(name, path):
+    """Puts the two files of a journal that is kept at this path."""
+    for end in ("", "-wal"):
+        with gzip.open(os.path.join(KEPT, f"{name}.db{end}.gz")) as packed, open(path + end, "wb") as file:
+            shutil.copyfileobj(packed, file)
+
+
+class Bridge:
+    """A bridge of version 1, at which one vehicle after another is weighed."""
+
+    def __init__(self, program, path, clock):
+        os.environ |= {"LD_PRELOAD": glob.glob(LIBRARY)[0], "FAKETIME": clock, "TZ": "UTC", "DONT_FAKE_MONOTONIC": "1"}
+        self.converter = bridge.Fed()
+        self.service = bridge.Service(program, path, self.converter, "--capacity", "100000")
+        for name in ("LD_PRELOAD", "FAKETIME", "DONT_FAKE_MONOTONIC"):
+            del os.environ[name]
+
+    def ask(self, command, wanted):
+        terminal = bridge.Terminal(self.service)
+        found = terminal.ask(command)
+        terminal.close()
+        if found != wanted:
+            raise SystemExit(f"{command}: {found}")
+
+    def enter(self, key, kind, plate, load):
+        """Weighs a vehicle, or voids an open weighing, once the readings of it were taken."""
+        if kind == "void":
+            target, body = "/voids", f"key={key}&plate={plate}"
+        else:
+            target, body = "/weighings", f"key={key}&kind={kind}&plate={plate}"
+            self.converter.send(*[0] * 6, *[load] * 6)
+        for _ in range(1000):
+            status, text = bridge.post(self.service, target, body)
+            if status == 201:
+                return
+            if "unstable" not in text and "not_cleared" not in text and "below_min" not in text:
+                break
+        raise SystemExit(f"{key}: {status} {text}")
+
+    def pairs(self, first, last):
+        for number in range(first, last + 1):
+            self.enter(f"F{number}", "first", f"P-{number}", 9000 + number)
+            self.enter(f"S{number}", "second", f"P-{number}", 4000 + number)
+
+    def singles(self, first, last):
+        self.converter.send(*[0] * 6)
+        self.ask("TA 5003 kg", "TA A       5000 kg")
+        for number in range(first, last + 1):
+            self.enter(f"T{number}", "single", f"T-{number % 5000}", 6000 + 20 * (number % 1000))
+        self.ask("TAC", "TAC A")
+
+    def voids(self, first, last):
+        for number in range(first, last + 1):
+            self.enter(f"W{number}", "first", f"V-{number}", 7000 + number)
+            self.enter(f"V{number}", "void", f"V-{number}", None)
+
+    def stop(self):
+        self.service.kill()
+        self.converter.close()
+
+
+def make_none(program, path):
+    Bridge(program, path, SPRING).stop()
+
+
+def make_pair(program, path):
+    it = Bridge(program, path, SPRING)
+    it.enter("K1", "first", "AB-12", 9170)
+    it.enter("K2", "second", "AB-12", 4070)
+    it.stop()
+
+
+def make_purged(program, path):
+    """300 entries, of which those below 281 were purged."""
+    it = Bridge(program, path, SPRING)
+    it.pairs(1, 100)
+    it.singles(1, 60)
+    it.voids(1, 10)
+    it.stop()
+    it = Bridge(program, path, AUTUMN)
+    it.pairs(101, 105)
+    it.singles(61, 64)
+    it.voids(11, 12)
+    it.enter("O1", "first", "O-1", 8000)
+    it.enter("O2", "first", "O-2", 8100)
+    status, text = bridge.post(it.service, "/purge")
+    it.stop()
+    if (status, text) != (200, "PURGED 280\n"):
+        raise SystemExit(f"purge: {status} {text}")
+
+
+def make_many(program, path, entries):
+    it = Bridge(program, path, SPRING)
+    it.singles(1, entries)
+    it.stop()
+
+
+def main(program, folder, entries=None):
+    makers = {"none": make_none, "pair": make_pair, "purged": make_purged}
+    if entries:
+        makers = {"many": lambda program, path: make_many(program, path, int(entries))}
+    os.makedirs(folder, exist_ok=True)
+    for name, make in makers.items():
+        with tempfile.TemporaryDirectory() as here:
+            path = os.path.join(here, "journal.db")
+            make(os.path.abspath(program), path)
+            for end in ("", "-wal"):
+                with open(path + end, "rb") as file, open(os.path.join(folder, f"{name}.db{end}.gz"), "wb") as packed:
+                    packed.write(gzip.compress(file.read(), mtime=0))
+
+
+if __name__ == "__main__":
+    main(*sys.argv[1:])
