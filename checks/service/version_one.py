@@ -1,16 +1,20 @@
 #!/usr/bin/env python3
 """Journals of version 1 as the program 1.0.0 left them: how they were made, and where they are.
 
-Usage: version_one.py PROGRAM FOLDER [ENTRIES]. PROGRAM is weighbridge 1.0.0; in FOLDER it makes `none`, `pair` and `purged`, each as the two
-files of a journal, `.db` and `.db-wal`, packed by gzip. The vehicles are weighed over sockets, under a clock of 2025, and the service is
-killed at the end, so that what it stored last stands in the log. With ENTRIES it makes `many` alone, with so many Singles, a few minutes for 90,000.
-Needs faketime. checks/data/version_1 was made so, by the program of the last commit of version 1.0.0.
+Usage: version_one.py make PROGRAM FOLDER [ENTRIES]. PROGRAM is weighbridge 1.0.0; in FOLDER it makes `none`, `pair` and `purged`, each as the two
+files of a journal, `.db` and `.db-wal`, and as that program's exports of it, `.journal.csv` and `.tickets.csv`, all packed by gzip. The vehicles are
+weighed over sockets, under a clock of 2025, and the service is killed at the end, so that what it stored last stands in the log. With ENTRIES it
+makes `many` alone, with so many Singles, in a few minutes for 90,000. It needs faketime. checks/data/version_1 was made so, by the program of the last
+commit of version 1.0.0.
+
+       version_one.py unpack NAME PATH. It puts the two files of a journal that is kept there at PATH, and its exports beside them.
 """
 
 import glob
 import gzip
 import os
 import shutil
+import subprocess
 import sys
 import tempfile
 
@@ -20,13 +24,20 @@ import bridge  # noqa: E402
 KEPT = os.path.join(os.path.dirname(os.path.dirname(os.path.abspath(__file__))), "data", "version_1")
 SPRING, AUTUMN = "@2025-03-10 08:00:00", "@2025-09-01 08:00:00"
 LIBRARY = "/usr/lib/*/faketime/libfaketimeMT.so.1"
+FILES, EXPORTS = (".db", ".db-wal"), (".journal.csv", ".tickets.csv")
 
 
-def unpack(name, path):
+def unpack(name, path, kept=KEPT, ends=FILES):
     """Puts the two files of a journal that is kept at this path."""
-    for end in ("", "-wal"):
-        with gzip.open(os.path.join(KEPT, f"{name}.db{end}.gz")) as packed, open(path + end, "wb") as file:
+    for end in ends:
+        with gzip.open(os.path.join(kept, f"{name}{end}.gz")) as packed, open(path.removesuffix(".db") + end, "wb") as file:
             shutil.copyfileobj(packed, file)
+
+
+def export_of(name, what, kept=KEPT):
+    """What the program 1.0.0 exported of a journal that is kept."""
+    with gzip.open(os.path.join(kept, f"{name}.{what}.csv.gz"), "rt") as packed:
+        return packed.read()
 
 
 class Bridge:
@@ -119,18 +130,36 @@ def make_many(program, path, entries):
     it.stop()
 
 
-def main(program, folder, entries=None):
+def make_all(program, folder, entries=None):
     makers = {"none": make_none, "pair": make_pair, "purged": make_purged}
     if entries:
         makers = {"many": lambda program, path: make_many(program, path, int(entries))}
     os.makedirs(folder, exist_ok=True)
+    program = os.path.abspath(program)
     for name, make in makers.items():
         with tempfile.TemporaryDirectory() as here:
-            path = os.path.join(here, "journal.db")
-            make(os.path.abspath(program), path)
-            for end in ("", "-wal"):
-                with open(path + end, "rb") as file, open(os.path.join(folder, f"{name}.db{end}.gz"), "wb") as packed:
-                    packed.write(gzip.compress(file.read(), mtime=0))
+            path = os.path.join(here, name + ".db")
+            make(program, path)
+            for end in FILES:
+                pack(folder, name + end, os.path.join(here, name + end))
+            for end in EXPORTS:
+                with open(os.path.join(here, name + end), "w") as file:
+                    subprocess.run([program, "export", "--file", path, "--what", end.split(".")[1]], stdout=file, check=True)
+                pack(folder, name + end, os.path.join(here, name + end))
+
+
+def pack(folder, name, path):
+    with open(path, "rb") as file, open(os.path.join(folder, name + ".gz"), "wb") as packed:
+        packed.write(gzip.compress(file.read(), mtime=0))
+
+
+def main(word, *words):
+    if word == "make":
+        make_all(*words)
+    elif word == "unpack":
+        unpack(*words, ends=FILES + EXPORTS)
+    else:
+        raise SystemExit(__doc__)
 
 
 if __name__ == "__main__":

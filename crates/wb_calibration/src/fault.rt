@@ -76,7 +76,7 @@ pub(crate) fn falls(points: &[Point]) -> bool
 /// The first fault of the points that follow one, the first of them at this place.
 fn fault_from(falls: bool, place: u8, before: Point, points: &[Point]) -> Option<CalibrationFault>
     requires { place + length points.now ≤ u8.MAX }
-    ensures { result ≡ fault_behind counts_fall place before points.now }
+    ensures { result ≡ fault_behind falls place before points.now }
 {
     match points {
         [] => None,
@@ -110,7 +110,7 @@ fn are_apart_loads(before: Point, point: Point) -> bool
 
 /// Whether the counts of a point are far enough from those of the one before.
 fn are_apart_counts(falls: bool, before: Point, point: Point) -> bool
-    ensures { result ≡ counts_are_apart counts_fall before point }
+    ensures { result ≡ counts_are_apart falls before point }
 {
     turned(falls, before.counts) + LEAST_COUNTS_APART <= turned(falls, point.counts)
 }

@@ -2,7 +2,7 @@ use Rattle.std.proofs.Common.{◌≡◌, ◌∙◌, sym, ◌-◌, ◌≤◌, Boo
 use Rattle.std.proofs.lemmas.List.{take_all}
 use Rattle.wb_calibration.specs.declared.point.Point.{Point}
 use Rattle.wb_calibration.specs.Line.{segment_among, stands_for_less}
-use Rattle.wb_calibration.proofs.segment.+segment_among.Goals as goal
+use Rattle.wb_calibration.proofs.segment.+segment_from.Goals as goal
 
 -- the next two, where the counts reach the upper point
 segment_from-reached : (falling : Bool) (lower upper : Point) (above : List Point) (counts : ℤ) (d : Point) → 1 ≤ length above → stands_for_less falling counts upper.counts ≡ false
