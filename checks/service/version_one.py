@@ -24,6 +24,7 @@ import bridge  # noqa: E402
 KEPT = os.path.join(os.path.dirname(os.path.dirname(os.path.abspath(__file__))), "data", "version_1")
 SPRING, AUTUMN = "@2025-03-10 08:00:00", "@2025-09-01 08:00:00"
 LIBRARY = "/usr/lib/*/faketime/libfaketimeMT.so.1"
+LINES_A_SECOND = 1000.0
 FILES, EXPORTS = (".db", ".db-wal"), (".journal.csv", ".tickets.csv")
 
 
@@ -45,7 +46,7 @@ class Bridge:
 
     def __init__(self, program, path, clock):
         os.environ |= {"LD_PRELOAD": glob.glob(LIBRARY)[0], "FAKETIME": clock, "TZ": "UTC", "DONT_FAKE_MONOTONIC": "1"}
-        self.converter = bridge.Fed()
+        self.converter = bridge.Played(LINES_A_SECOND)
         self.service = bridge.Service(program, path, self.converter, "--capacity", "100000")
         for name in ("LD_PRELOAD", "FAKETIME", "DONT_FAKE_MONOTONIC"):
             del os.environ[name]
@@ -58,19 +59,16 @@ class Bridge:
             raise SystemExit(f"{command}: {found}")
 
     def enter(self, key, kind, plate, load):
-        """Weighs a vehicle, or voids an open weighing, once the readings of it were taken."""
+        """Weighs a vehicle, or voids an open weighing."""
         if kind == "void":
             target, body = "/voids", f"key={key}&plate={plate}"
         else:
             target, body = "/weighings", f"key={key}&kind={kind}&plate={plate}"
-            self.converter.send(*[0] * 6, *[load] * 6)
-        for _ in range(1000):
-            status, text = bridge.post(self.service, target, body)
-            if status == 201:
-                return
-            if "unstable" not in text and "not_cleared" not in text and "below_min" not in text:
-                break
-        raise SystemExit(f"{key}: {status} {text}")
+            self.service.put(0)
+            self.service.put(load)
+        status, text = bridge.post(self.service, target, body)
+        if status != 201:
+            raise SystemExit(f"{key}: {status} {text}")
 
     def pairs(self, first, last):
         for number in range(first, last + 1):
@@ -78,7 +76,7 @@ class Bridge:
             self.enter(f"S{number}", "second", f"P-{number}", 4000 + number)
 
     def singles(self, first, last):
-        self.converter.send(*[0] * 6)
+        self.service.put(0)
         self.ask("TA 5003 kg", "TA A       5000 kg")
         for number in range(first, last + 1):
             self.enter(f"T{number}", "single", f"T-{number % 5000}", 6000 + 20 * (number % 1000))
