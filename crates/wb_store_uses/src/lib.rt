@@ -5,10 +5,12 @@
 #![tactic(auto)]
 
 ghost use Rattle.sqlite.specs.Steps.{over_memory};
+ghost use Rattle.std.specs.Bool.{Decides};
 ghost use Rattle.std.specs.Prelude.{◌++◌, [], ◌∷◌, if◌then◌else◌, IfOk, IfSome, List};
 ghost use Rattle.wb_journal.specs.declared.entry.EntryParts.{EntryParts};
 ghost use Rattle.wb_store.specs.Journal.{IsHonest, StoreStands};
 ghost use Rattle.wb_store.specs.Keeping.{LeavesOnly};
+ghost use Rattle.wb_store.specs.Lists.{IsNext};
 ghost use Rattle.wb_store.specs.Rows.{SpentKey};
 
 use sqlite::{Alter, Connection, MemStore};
@@ -38,7 +40,8 @@ pub fn add_if_free<D: Alter>(store: &mut Store<D>, entry: &Entry) -> Result<bool
         → StoreStands D.Store store.old entries spent → IsHonest D.Store store.new
         → IfOk result (λ is_added.
         StoreStands D.Store store.new (if is_added then entries ++ entry.now ∷ [] else entries) spent
-        × LeavesOnly D.Store store.new (if is_added then entries ++ entry.now ∷ [] else entries) spent) }
+        × LeavesOnly D.Store store.new (if is_added then entries ++ entry.now ∷ [] else entries) spent
+        × Decides is_added (IsNext entries spent entry.now)) }
 {
     if store.by_key(entry.key())?.is_some() {
         return Ok(false);
