@@ -4,7 +4,7 @@
 Usage: version_one.py make PROGRAM FOLDER [ENTRIES]. PROGRAM is weighbridge 1.0.0; in FOLDER it makes `none`, `pair` and `purged`, each as the two
 files of a journal, `.db` and `.db-wal`, and as that program's exports of it, `.journal.csv` and `.tickets.csv`, all packed by gzip. The vehicles are
 weighed over sockets, under a clock of 2025, and the service is killed at the end, so that what it stored last stands in the log. With ENTRIES it
-makes `many` alone, with so many Singles, in a few minutes for 90,000. It needs faketime. checks/data/version_1 was made so, by the program of the last
+makes `many` alone, with so many Singles, in some twenty minutes for 90,000, by what 300 took. It needs faketime. checks/data/version_1 was made so, by the program of the last
 commit before version 2 of the journal.
 
        version_one.py unpack NAME PATH. It puts the two files of a journal that is kept there at PATH, and its exports beside them.
