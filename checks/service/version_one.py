@@ -28,16 +28,16 @@ LINES_A_SECOND = 1000.0
 FILES, EXPORTS = (".db", ".db-wal"), (".journal.csv", ".tickets.csv")
 
 
-def unpack(name, path, kept=KEPT, ends=FILES):
+def unpack(name, path, ends=FILES):
     """Puts the two files of a journal that is kept at this path."""
     for end in ends:
-        with gzip.open(os.path.join(kept, f"{name}{end}.gz")) as packed, open(path.removesuffix(".db") + end, "wb") as file:
+        with gzip.open(os.path.join(KEPT, f"{name}{end}.gz")) as packed, open(path.removesuffix(".db") + end, "wb") as file:
             shutil.copyfileobj(packed, file)
 
 
-def export_of(name, what, kept=KEPT):
+def export_of(name, what):
     """What the program 1.0.0 exported of a journal that is kept."""
-    with gzip.open(os.path.join(kept, f"{name}.{what}.csv.gz"), "rt") as packed:
+    with gzip.open(os.path.join(KEPT, f"{name}.{what}.csv.gz"), "rt") as packed:
         return packed.read()
 
 
