@@ -1,11 +1,12 @@
 //! What a migration prints.
 ghost use Rattle.std.specs.Io.KnownBytes.{Appends};
-ghost use Rattle.std.specs.Prelude.{◌≡◌, ◌≢◌, IfErr, IfOk, List, false, length};
+ghost use Rattle.std.specs.Prelude.{◌≡◌, ◌≢◌, Err, IfErr, IfOk, List, false, length, true};
 ghost use Rattle.wb_journal.specs.declared.entry.EntryParts.{EntryParts};
 ghost use Rattle.wb_program.specs.Migrated.{migrated_line};
 ghost use Rattle.wb_program.specs.declared.commands.PrintFault.TheVariants as fault;
 ghost use Rattle.wb_store.specs.Journal.{IsHonest, StoreStands};
 ghost use Rattle.wb_store.specs.Rows.{SpentKey};
+ghost use Rattle.wb_store.specs.declared.fault.StoreFault.TheVariants.{Closed};
 
 use crate::commands::{PrintFault, print_number};
 use sqlite::Alter;
@@ -24,6 +25,7 @@ pub fn print_migrated<D: Alter, O: Write>(
     ensures refused { IfErr result (λ f. f ≢ fault.Write
         → O.contents writer.new ≡ O.contents writer.old) }
     ensures open { store.now.is_closed ≡ false → IfErr result (λ f. f ≡ fault.Write) }
+    ensures closed { store.now.is_closed ≡ true → result ≡ Err (fault.Store Closed) }
 {
     match store.count() {
         Ok(count) => print_number(b"MIGRATED ", count as u64, writer),
