@@ -1,10 +1,10 @@
 //! A store that is made with lists in it.
 use super::calls::Call::{self, Counts, Finds};
 use super::calls::{Count, Look, Wanted, answered};
-use super::steps::{connected, disks};
+use super::steps::{Step, connected, disks, walked_on};
 use super::{Row, entry};
-use sqlite::{Alter, Connection, FileStore};
-use sqlite_disk::{Fuse, Memory};
+use sqlite::{Alter, Connection, Files};
+use sqlite_disk::Disk;
 use std::alloc::Global;
 use std::test::Fail;
 use wb_journal::{Entry, Key, Kind};
@@ -27,42 +27,42 @@ const MADE: &[Call] = &[
     Finds(Look::Partner(7), Wanted::Number(3)),
 ];
 
-fn is_as_made<D: Alter>(alloc: Global, store: &mut Store<D>) -> bool {
-    answered(alloc, store, MADE) == MADE.len()
-}
-
-/// The connection to a database that was empty and has these lists.
-fn made(
+/// The connection to a database in which a store is made with these lists, and how many calls it answers as wanted, or the fault. None where
+/// it wasn't tried.
+fn made<D: Alter>(
     alloc: Global,
+    conn: Connection<D>,
     entries: &[Entry],
     spent: &[(Key, u32)],
-) -> Result<Connection<FileStore<Fuse<Memory>>>, Fail> {
-    let conn = connected(alloc, disks(alloc, u64::MAX, u64::MAX), &[]).ok_or("connected")?;
+) -> (Connection<D>, Option<Result<usize, StoreFault>>) {
     if !conn.is_autocommit() {
-        return Err("connected".into());
-    }
-    let Ok(mut store) = Store::create(conn, entries, spent) else {
-        return Err("created".into());
-    };
-    if !is_as_made(alloc, &mut store) {
-        return Err("as made".into());
-    }
-    Ok(store.into_connection())
-}
-
-/// The connection to a database in which no store is made a second time.
-fn refused(
-    conn: Connection<FileStore<Fuse<Memory>>>,
-    entries: &[Entry],
-    spent: &[(Key, u32)],
-) -> Result<Connection<FileStore<Fuse<Memory>>>, Fail> {
-    if !conn.is_autocommit() {
-        return Err("made".into());
+        return (conn, None);
     }
     match Store::create(conn, entries, spent) {
-        Err((StoreFault::NotEmpty, conn)) => Ok(conn),
-        _other => Err("not refused".into()),
+        Ok(mut store) => {
+            let count = answered(alloc, &mut store, MADE);
+            (store.into_connection(), Some(Ok(count)))
+        }
+        Err((fault, conn)) => (conn, Some(Err(fault))),
     }
+}
+
+/// Whether a store is made in an empty database, isn't made in it a second time, and answers the same when it is opened.
+fn is_made_once<D: Disk + Drop>(
+    alloc: Global,
+    disks: Files<D>,
+    entries: &[Entry],
+    spent: &[(Key, u32)],
+) -> bool {
+    let Ok(conn) = connected(alloc, disks, 1) else {
+        return false;
+    };
+    let (conn, first) = made(alloc, conn, entries, spent);
+    let (conn, second) = made(alloc, conn, entries, spent);
+    let (_disks, done) = walked_on(alloc, conn, &[Step::Open(MADE)]);
+    first == Some(Ok(MADE.len()))
+        && second == Some(Err(StoreFault::NotEmpty))
+        && done == MADE.len().saturating_add(2)
 }
 
 #[test]
@@ -74,14 +74,7 @@ fn makes_a_store_with_lists_in_it(rt: HostRuntime) -> Result<(), Fail> {
     }
     let mut spent: Vec<(Key, u32)> = Vec::new(alloc);
     spent.push((Key::new("K1").ok_or("key")?, 1))?;
-    let conn = made(alloc, entries.as_slice(), spent.as_slice())?;
-    let conn = refused(conn, entries.as_slice(), spent.as_slice())?;
-    if !conn.is_autocommit() {
-        return Err("refused".into());
-    }
-    let Ok(mut store) = Store::open(conn) else {
-        return Err("opened".into());
-    };
-    assert!(rt; is_as_made(alloc, &mut store));
+    let disks = disks(alloc, u64::MAX, u64::MAX);
+    assert!(rt; is_made_once(alloc, disks, entries.as_slice(), spent.as_slice()));
     Ok(())
 }

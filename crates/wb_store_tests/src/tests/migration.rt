@@ -1,10 +1,11 @@
 //! Databases of version 1 that are migrated into empty ones, or refused; and stops of the disks of either.
 use super::calls::Call::{self, Appends, Counts, Finds};
 use super::calls::{Count, Look, Wanted, answered};
-use super::steps::{Disks, connected, disks, number};
+use super::steps::{Disks, Step, closed, connected, disks, run};
+use super::stops::leaves_the_one;
 use super::{FIRST, Row, SECOND};
-use sqlite::{Alter, Connection};
-use sqlite_disk::Crash;
+use sqlite::{Alter, Connection, Files};
+use sqlite_disk::Disk;
 use std::alloc::Global;
 use std::test::Fail;
 use wb_journal::Kind;
@@ -159,88 +160,118 @@ const CASES: [Case; 16] = [
     (&[TABLES, DAY], &[TABLES], Err(StoreFault::NotEmpty)),
 ];
 
-/// The rows of the journal of a database of version 1, less what a migration could change of it.
-fn rows<D: Alter>(conn: &mut Connection<D>) -> Option<[i64; 3]> {
-    Some([
-        number(
-            conn,
-            "SELECT count(*) FROM journal WHERE length(digest) = 64",
-        )?,
-        number(conn, "SELECT value FROM about")?,
-        number(
-            conn,
-            "SELECT count(*) FROM sqlite_schema WHERE type = 'table'",
-        )?,
-    ])
+/// Statements that are run on the old database and on the new one, and what the store is asked that their migration gives.
+#[derive(Clone, Copy, Drop)]
+struct Migration {
+    old: &'static [&'static str],
+    new: &'static [&'static str],
+    calls: &'static [Call],
+}
+
+/// How many calls the store answered as wanted that a migration gave, or its fault. None where it wasn't tried.
+type Gave = Option<Result<usize, StoreFault>>;
+
+/// The disks of both databases after a migration, and what it gave.
+fn migrated_on<D: Disk + Drop>(
+    alloc: Global,
+    old: Files<D>,
+    new: Files<D>,
+    migration: &Migration,
+) -> (Files<D>, Files<D>, Gave) {
+    match connected(alloc, old, 1) {
+        Ok(old) => match connected(alloc, new, 1) {
+            Ok(new) => {
+                let (old, new, gave) = migrated(alloc, old, new, migration);
+                (closed(old), closed(new), gave)
+            }
+            Err(new) => (closed(old), new, None),
+        },
+        Err(old) => (old, new, None),
+    }
+}
+
+/// The connections to both databases after a migration, and what it gave.
+fn migrated<D: Alter>(
+    alloc: Global,
+    old: Connection<D>,
+    new: Connection<D>,
+    migration: &Migration,
+) -> (Connection<D>, Connection<D>, Gave) {
+    let (mut old, mut new) = (old, new);
+    let is_ready = are_run(&mut old, migration.old) && are_run(&mut new, migration.new);
+    if !new.is_autocommit() || !is_ready {
+        return (old, new, None);
+    }
+    match Store::migrate(old, new) {
+        Ok((mut store, old)) => {
+            let count = answered(alloc, &mut store, migration.calls);
+            (old, store.into_connection(), Some(Ok(count)))
+        }
+        Err(MigrateRefused { fault, old, new }) => (old, new, Some(Err(fault))),
+    }
+}
+
+fn are_run<D: Alter>(conn: &mut Connection<D>, statements: &[&str]) -> bool {
+    for text in statements {
+        if conn.execute_batch(text).is_err() {
+            return false;
+        }
+    }
+    true
 }
 
 /// Whether a migration gives what is wanted.
-fn is_as_wanted(alloc: Global, case: &Case) -> Result<bool, Fail> {
-    let (before, beside, wanted) = case;
-    let old = connected(alloc, disks(alloc, u64::MAX, u64::MAX), before).ok_or("old")?;
-    let new = connected(alloc, disks(alloc, u64::MAX, u64::MAX), beside).ok_or("new")?;
-    if !new.is_autocommit() {
-        return Err("new".into());
-    }
-    match Store::migrate(old, new) {
-        Ok((mut store, _old)) => match wanted {
-            Ok(calls) => Ok(answered(alloc, &mut store, calls) == calls.len()),
-            Err(_) => Ok(false),
-        },
-        Err(
-            MigrateRefused {
-                fault,
-                old: _old,
-                new: _new,
-            },
-        ) => Ok(wanted.err() == Some(fault)),
-    }
+fn is_as_wanted(alloc: Global, case: &Case) -> bool {
+    let (old, new, wanted) = *case;
+    let (calls, wanted): (&'static [Call], _) = match wanted {
+        Ok(calls) => (calls, Ok(calls.len())),
+        Err(fault) => (&[], Err(fault)),
+    };
+    let (_old, _new, gave) = migrated_on(
+        alloc,
+        disks(alloc, u64::MAX, u64::MAX),
+        disks(alloc, u64::MAX, u64::MAX),
+        &Migration { old, new, calls },
+    );
+    gave == Some(wanted)
 }
 
 #[test]
-fn brings_a_journal_over_or_says_why_not(rt: HostRuntime) -> Result<(), Fail> {
+fn brings_a_journal_over_or_says_why_not(rt: HostRuntime) {
     for (place, case) in CASES.iter().enumerate() {
-        assert!(rt; is_as_wanted(rt.alloc(), case)?, "case {place}");
+        assert!(rt; is_as_wanted(rt.alloc(), case), "case {place}");
     }
-    Ok(())
 }
 
-/// Whether a migration into disks with these was answered, and how many entries what a crash leaves of them has. None where the disks
-/// were stopped before it.
-fn stopped(alloc: Global, new: Disks) -> Result<Option<(bool, u64)>, Fail> {
-    let old = connected(alloc, disks(alloc, u64::MAX, u64::MAX), &[TABLES, DAY]).ok_or("old")?;
-    let Some(new) = connected(alloc, new, &[]) else {
+/// Shows that a database of version 1 has its entries, its version and its tables.
+const UNTOUCHED: &[Step<'static>] = &[
+    Step::Shows("SELECT count(*) FROM journal WHERE length(digest) = 64", 2),
+    Step::Shows("SELECT value FROM about", 1),
+    Step::Shows("SELECT count(*) FROM sqlite_schema WHERE type = 'table'", 3),
+];
+
+fn is_untouched(alloc: Global, old: Disks) -> bool {
+    let (_old, done) = run(alloc, old, 1, UNTOUCHED);
+    done == UNTOUCHED.len().saturating_add(1)
+}
+
+/// Whether a migration into disks was answered, and whether a crash leaves all entries on them, else none. None where it wasn't tried.
+fn stopped(alloc: Global, new: Disks) -> Result<Option<(bool, bool)>, Fail> {
+    let migration = Migration {
+        old: &[TABLES, DAY],
+        new: &[],
+        calls: &[],
+    };
+    let old = disks(alloc, u64::MAX, u64::MAX);
+    let (old, new, gave) = migrated_on(alloc, old, new, &migration);
+    let Some(gave) = gave else {
         return Ok(None);
     };
-    if !new.is_autocommit() {
-        return Err("new".into());
-    }
-    let (is_done, mut old, new) = match Store::migrate(old, new) {
-        Ok((store, old)) => (true, old, store.into_connection()),
-        Err(MigrateRefused { old, new, .. }) => (false, old, new),
-    };
-    if rows(&mut old) != Some([2, 1, 3]) {
+    if !is_untouched(alloc, old) {
         return Err("the old database".into());
     }
-    let mut left = new.into_store().close();
-    left.log.crash();
-    left.db.crash();
-    let again = connected(alloc, left, &[]).ok_or("again")?;
-    if !again.is_autocommit() {
-        return Err("again".into());
-    }
-    let Ok(mut store) = Store::open(again) else {
-        return Err("opened again".into());
-    };
-    let calls = if store.count() == Ok(2) {
-        BOTH
-    } else {
-        NOTHING
-    };
-    if answered(alloc, &mut store, calls) != calls.len() {
-        return Err("neither what was before nor all".into());
-    }
-    Ok(Some((is_done, calls.len() as u64)))
+    let has_all = leaves_the_one(alloc, new, 1, BOTH, NOTHING)?;
+    Ok(Some((gave.is_ok(), has_all)))
 }
 
 /// Over stops at each call of one disk of the new database: a crash leaves what was before or all, and all once it was answered. Answers
@@ -253,11 +284,10 @@ fn leaves_all_or_nothing(alloc: Global, of_log: bool) -> Result<[bool; 2], Fail>
         } else {
             disks(alloc, u64::MAX, calls)
         };
-        if let Some((is_done, entries)) = stopped(alloc, new)? {
-            let is_all = entries == BOTH.len() as u64;
-            *met.get_mut(is_all as usize).ok_or("met")? = true;
+        if let Some((is_done, has_all)) = stopped(alloc, new)? {
+            *met.get_mut(has_all as usize).ok_or("met")? = true;
             if is_done {
-                return if is_all {
+                return if has_all {
                     Ok(met)
                 } else {
                     Err("answered and gone".into())
