@@ -1,6 +1,6 @@
 //! What is printed of a store's journal, and lines of a load converter.
 use super::store;
-use sqlite::MemStore;
+use sqlite::{Alter, Connection};
 use std::alloc::Global;
 use std::process::Abort;
 use std::str;
@@ -41,7 +41,7 @@ fn entry(
 }
 
 /// Stores a pair of weighings and another first one. The very first has its digest, or none.
-fn weigh(store: &mut Store<MemStore>, is_sound: bool) -> Result<(), Fail> {
+fn weigh<D: Alter>(store: &mut Store<D>, is_sound: bool) -> Result<(), Fail> {
     let first = entry(1, "K1", Kind::First, MORNING, 18_340, ZEROS)?;
     let first = if is_sound { first.sealed() } else { first };
     let second = entry(2, "K2", Kind::Second, LATER, 8_140, first.digest().as_str())?.sealed();
@@ -83,8 +83,14 @@ const OF_A_DAMAGED_JOURNAL: &[Row] = &[
 ];
 
 /// Asks for each row at one store.
-fn prints_each(rt: &impl Abort, alloc: Global, is_sound: bool, rows: &[Row]) -> Result<(), Fail> {
-    let mut store = store(alloc)?;
+fn prints_each<D: Alter + Drop>(
+    rt: &impl Abort,
+    alloc: Global,
+    conn: Connection<D>,
+    is_sound: bool,
+    rows: &[Row],
+) -> Result<(), Fail> {
+    let mut store = store(conn)?;
     weigh(&mut store, is_sound)?;
     for (asked, printed) in rows {
         prints(rt, alloc, &mut store, asked, printed)?;
@@ -92,10 +98,10 @@ fn prints_each(rt: &impl Abort, alloc: Global, is_sound: bool, rows: &[Row]) -> 
     Ok(())
 }
 
-fn prints(
+fn prints<D: Alter>(
     rt: &impl Abort,
     alloc: Global,
-    store: &mut Store<MemStore>,
+    store: &mut Store<D>,
     asked: &Asked,
     printed: &str,
 ) -> Result<(), Fail> {
@@ -116,12 +122,14 @@ fn prints(
 
 #[test]
 fn prints_a_check_and_both_exports(rt: HostRuntime) -> Result<(), Fail> {
-    prints_each(&rt, rt.alloc(), true, OF_A_SOUND_JOURNAL)
+    let conn = Connection::open_in_memory(rt.alloc())?;
+    prints_each(&rt, rt.alloc(), conn, true, OF_A_SOUND_JOURNAL)
 }
 
 #[test]
 fn prints_no_tickets_of_a_damaged_journal(rt: HostRuntime) -> Result<(), Fail> {
-    prints_each(&rt, rt.alloc(), false, OF_A_DAMAGED_JOURNAL)
+    let conn = Connection::open_in_memory(rt.alloc())?;
+    prints_each(&rt, rt.alloc(), conn, false, OF_A_DAMAGED_JOURNAL)
 }
 
 const REPORTED: &[(PrintFault, &str)] = &[

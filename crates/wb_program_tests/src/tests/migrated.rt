@@ -1,5 +1,6 @@
 //! What is printed of a migration.
 use super::store;
+use sqlite::{Alter, Connection};
 use std::alloc::Global;
 use std::process::Abort;
 use std::str;
@@ -32,8 +33,14 @@ fn entries(alloc: Global) -> Result<Vec<Entry>, Fail> {
 }
 
 /// What is printed once these entries are stored.
-fn prints(rt: &impl Abort, alloc: Global, entries: &[Entry], line: &str) -> Result<(), Fail> {
-    let mut store = store(alloc)?;
+fn prints<D: Alter + Drop>(
+    rt: &impl Abort,
+    alloc: Global,
+    conn: Connection<D>,
+    entries: &[Entry],
+    line: &str,
+) -> Result<(), Fail> {
+    let mut store = store(conn)?;
     for entry in entries {
         store.append(entry)?;
     }
@@ -45,7 +52,20 @@ fn prints(rt: &impl Abort, alloc: Global, entries: &[Entry], line: &str) -> Resu
 
 #[test]
 fn prints_how_many_entries_were_brought_over(rt: HostRuntime) -> Result<(), Fail> {
-    let entries = entries(rt.alloc())?;
-    prints(&rt, rt.alloc(), &[], "MIGRATED 0\n")?;
-    prints(&rt, rt.alloc(), &entries, "MIGRATED 3\n")
+    let alloc = rt.alloc();
+    let entries = entries(alloc)?;
+    prints(
+        &rt,
+        alloc,
+        Connection::open_in_memory(alloc)?,
+        &[],
+        "MIGRATED 0\n",
+    )?;
+    prints(
+        &rt,
+        alloc,
+        Connection::open_in_memory(alloc)?,
+        &entries,
+        "MIGRATED 3\n",
+    )
 }

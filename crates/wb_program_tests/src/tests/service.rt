@@ -1,5 +1,6 @@
 //! A whole service over sockets of this machine. One thread does both ends, one after the other.
-use sqlite::{Connection, MemStore};
+use super::store;
+use sqlite::{Alter, Connection};
 use std::alloc::Global;
 use std::io::{Read, Write};
 use std::net::{OpenListener, TcpListener, TcpStream};
@@ -10,17 +11,16 @@ use wb_program::{ServeEnd, serve};
 use wb_road::ROAD;
 use wb_sockets::{Converter, ConverterFault, Sockets, listen};
 use wb_station::Station;
-use wb_store::Store;
 use wb_window::RingWindow;
 
-/// A station of a road weighbridge, over a journal in memory.
-fn road(alloc: Global) -> Result<Station<RingWindow, MemStore>, Fail> {
+/// A station of a road weighbridge, over an empty database.
+fn road<D: Alter + Drop>(
+    alloc: Global,
+    conn: Connection<D>,
+) -> Result<Station<RingWindow, D>, Fail> {
     let instrument = Instrument::new(ROAD)?;
-    let Ok(store) = Store::open(Connection::open_in_memory(alloc)?) else {
-        return Err("want of memory")?;
-    };
     let window = RingWindow::new(alloc, instrument.window() as usize, instrument.band())?;
-    match Station::open(alloc, instrument, window, store) {
+    match Station::open(alloc, instrument, window, store(conn)?) {
         Ok(station) => Ok(station),
         Err(_) => Err("want of memory")?,
     }
@@ -97,16 +97,21 @@ fn played(rt: &HostRuntime) -> Result<(Converter<TcpStream>, TcpStream), Fail> {
     Ok((source, stream))
 }
 
-#[test]
-fn serves_ten_turns(rt: HostRuntime) -> Result<(), Fail> {
-    let mut station = road(rt.alloc())?;
-    let (mut sockets, mut ends) = connected(&rt)?;
+/// Serves ten turns of a fresh station.
+fn serves<D: Alter + Drop>(rt: &HostRuntime, conn: Connection<D>) -> Result<(), Fail> {
+    let mut station = road(rt.alloc(), conn)?;
+    let (mut sockets, mut ends) = connected(rt)?;
     ends.send()?;
     assert_eq!(rt; serve(&mut station, &mut sockets, 10), ServeEnd::Turns(10));
-    ends.typist_is_answered(&rt)?;
-    ends.client_is_answered(&rt)?;
+    ends.typist_is_answered(rt)?;
+    ends.client_is_answered(rt)?;
     assert!(rt; ends.client_has_all()?, "it is the whole answer");
     drop(ends);
     sockets.finish();
     Ok(())
+}
+
+#[test]
+fn serves_ten_turns(rt: HostRuntime) -> Result<(), Fail> {
+    serves(&rt, Connection::open_in_memory(rt.alloc())?)
 }

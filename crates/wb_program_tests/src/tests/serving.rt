@@ -1,5 +1,6 @@
 //! Turns of the service over sources in memory.
 use super::store;
+use sqlite::{Alter, Connection};
 use std::alloc::Global;
 use std::process::Abort;
 use std::test::Fail;
@@ -251,7 +252,8 @@ fn serves_no_more_turns_than_it_is_told(rt: HostRuntime) -> Result<(), Fail> {
 fn serves(rt: &impl Abort, alloc: Global, service: &Service) -> Result<(), Fail> {
     let shows = service.shows;
     let mut sources = ListSources::new(alloc, turns(alloc, service.turns)?);
-    let end = ended(alloc, &mut sources, service.limit)?;
+    let conn = Connection::open_in_memory(alloc)?;
+    let end = ended(alloc, conn, &mut sources, service.limit)?;
     assert_eq!(rt; end, service.end, "{shows}");
     assert!(rt; !sources.has_fault(), "{shows}");
     let handed = handed(alloc, sources.handed())?;
@@ -262,10 +264,15 @@ fn serves(rt: &impl Abort, alloc: Global, service: &Service) -> Result<(), Fail>
 }
 
 /// How a service at a fresh station ends.
-fn ended(alloc: Global, sources: &mut ListSources, limit: u64) -> Result<ServeEnd, Fail> {
+fn ended<D: Alter + Drop>(
+    alloc: Global,
+    conn: Connection<D>,
+    sources: &mut ListSources,
+    limit: u64,
+) -> Result<ServeEnd, Fail> {
     let instrument = Instrument::new(ROAD)?;
     let window = DequeWindow::new(alloc, instrument.window() as usize, instrument.band())?;
-    match Station::open(alloc, instrument, window, store(alloc)?) {
+    match Station::open(alloc, instrument, window, store(conn)?) {
         Ok(mut station) => Ok(serve(&mut station, sources, limit)),
         Err(_) => Err("station".into()),
     }

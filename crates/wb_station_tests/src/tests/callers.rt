@@ -1,13 +1,12 @@
 //! The callers of the office and of the station to copy.
-use super::days::{instrument, store};
-use sqlite::{Connection, MemStore};
+use super::days::{instrument, station, store};
+use sqlite::{Alter, Connection};
 use std::alloc::Global;
 use std::process::Abort;
 use std::test::Fail;
 use wb_journal::{Key, Moment, Plate};
 use wb_office::{Answer, Office, Refusal};
 use wb_scale::Scale;
-use wb_station::Station;
 use wb_station_uses::office::weigh_first;
 use wb_station_uses::station::read_and_ask;
 use wb_store::Store;
@@ -28,11 +27,16 @@ fn bridge(alloc: Global) -> Result<Scale<RingWindow>, Fail> {
 }
 
 /// The store of an office that was asked for a First, whose slip begins so.
-fn weighed(alloc: Global, at: Moment, begins: &str) -> Result<Store<MemStore>, Fail> {
+fn weighed<D: Alter + Drop>(
+    alloc: Global,
+    conn: Connection<D>,
+    at: Moment,
+    begins: &str,
+) -> Result<Store<D>, Fail> {
     let key = Key::new("K1").ok_or("key")?;
     let plate = Plate::new("AB-12").ok_or("plate")?;
     let mut scale = bridge(alloc)?;
-    let mut office = Office::new(store(Connection::open_in_memory(alloc)?)?);
+    let mut office = Office::new(store(conn)?);
     let reading = Reading::of(9_170);
     let answer = weigh_first(alloc, &mut office, &mut scale, reading, at, key, plate);
     if is_slip(&answer, begins) {
@@ -50,20 +54,21 @@ fn is_slip(answer: &Result<Answer, Refusal>, begins: &str) -> bool {
     }
 }
 
-#[test]
-fn weighs_a_first_and_asks_for_the_check(rt: HostRuntime) -> Result<(), Fail> {
-    let at = Moment::new(MORNING).ok_or("moment")?;
-    let store = weighed(rt.alloc(), at.copied(), "WEIGHING SLIP 1\nPLATE AB-12\n")?;
-    let instrument = instrument(1_000)?;
-    let window = RingWindow::new(rt.alloc(), instrument.window() as usize, instrument.band())?;
-    let Ok(mut station) = Station::open(rt.alloc(), instrument, window, store) else {
-        return Err("no station".into());
-    };
+/// What a station over the store answers to a request for the check.
+fn checked<D: Alter + Drop>(alloc: Global, store: Store<D>, at: Moment) -> Result<Vec<u8>, Fail> {
+    let mut station = station(alloc, 1_000, store)?;
     let reading = Reading::of(9_170);
     let bytes = b"GET /check HTTP/1.1\r\n\r\n";
-    match read_and_ask(rt.alloc(), &mut station, reading, at, bytes) {
-        Some(response) => assert!(rt; response.as_slice().ends_with(b"SOUND 1\n")),
-        None => return Err("no response".into()),
-    }
+    Ok(read_and_ask(alloc, &mut station, reading, at, bytes).ok_or("no response")?)
+}
+
+#[test]
+fn weighs_a_first_and_asks_for_the_check(rt: HostRuntime) -> Result<(), Fail> {
+    let alloc = rt.alloc();
+    let at = Moment::new(MORNING).ok_or("moment")?;
+    let conn = Connection::open_in_memory(alloc)?;
+    let store = weighed(alloc, conn, at.copied(), "WEIGHING SLIP 1\nPLATE AB-12\n")?;
+    let response = checked(alloc, store, at)?;
+    assert!(rt; response.as_slice().ends_with(b"SOUND 1\n"));
     Ok(())
 }

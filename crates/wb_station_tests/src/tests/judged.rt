@@ -1,12 +1,12 @@
 //! Requests that were judged before: they are answered as their bytes are.
-use super::days::{instrument, response, store};
+use super::days::{response, station_of_queues, store};
 use sqlite::{Alter, Connection};
 use std::alloc::Global;
 use std::process::Abort;
 use std::test::Fail;
 use wb_journal::Moment;
 use wb_station::{Event, Judged, Output, Routes, Station};
-use wb_window::{DequeWindow, Reading, Window};
+use wb_window::{Reading, Window};
 
 /// 2025-03-10 08:00:00.
 const MORNING: u64 = 1_741_593_600;
@@ -131,20 +131,16 @@ fn all_responses<W: Window, D: Alter>(
 }
 
 /// The same of a station of its own.
-fn responses(alloc: Global, by: By) -> Result<String, Fail> {
-    let instrument = instrument(1_000)?;
-    let store = store(Connection::open_in_memory(alloc)?)?;
-    let window = DequeWindow::new(alloc, instrument.window() as usize, instrument.band())?;
-    match Station::open(alloc, instrument, window, store) {
-        Ok(mut station) => all_responses(alloc, &mut station, by),
-        Err(_) => Err("no station".into()),
-    }
+fn responses<D: Alter + Drop>(alloc: Global, conn: Connection<D>, by: By) -> Result<String, Fail> {
+    let mut station = station_of_queues(alloc, 1_000, store(conn)?)?;
+    all_responses(alloc, &mut station, by)
 }
 
 #[test]
 fn answers_what_was_judged_before_as_its_bytes(rt: HostRuntime) -> Result<(), Fail> {
-    let by_bytes = responses(rt.alloc(), By::Bytes)?;
-    let by_judgement = responses(rt.alloc(), By::Judgement)?;
+    let alloc = rt.alloc();
+    let by_bytes = responses(alloc, Connection::open_in_memory(alloc)?, By::Bytes)?;
+    let by_judgement = responses(alloc, Connection::open_in_memory(alloc)?, By::Judgement)?;
     assert_eq!(rt; by_judgement.as_str(), by_bytes.as_str());
     Ok(())
 }

@@ -1,6 +1,6 @@
 //! A journal of 3,000 entries: 1,500 vehicles, each weighed full and empty.
-use super::days::{Step, instrument, is_response, is_wanted, response, store};
-use sqlite::{Connection, MemStore};
+use super::days::{Step, is_response, is_wanted, response, station, store};
+use sqlite::{Alter, Connection};
 use std::alloc::Global;
 use std::process::Abort;
 use std::test::Fail;
@@ -94,9 +94,9 @@ fn weighings(vehicle: u16) -> [Weighing; 2] {
 }
 
 /// Whether a vehicle that comes onto the empty bridge is weighed.
-fn is_weighed(
+fn is_weighed<D: Alter>(
     alloc: Global,
-    station: &mut Station<RingWindow, MemStore>,
+    station: &mut Station<RingWindow, D>,
     vehicle: u16,
     weighing: Weighing,
 ) -> Result<bool, Fail> {
@@ -117,10 +117,10 @@ fn is_weighed(
     Ok(is_quiet && is_response(answer.as_str(), "201 WEIGHING ")?)
 }
 
-fn weighs_all(
+fn weighs_all<D: Alter>(
     rt: &impl Abort,
     alloc: Global,
-    station: &mut Station<RingWindow, MemStore>,
+    station: &mut Station<RingWindow, D>,
 ) -> Result<(), Fail> {
     for vehicle in 0..VEHICLES {
         for weighing in weighings(vehicle) {
@@ -131,10 +131,10 @@ fn weighs_all(
     Ok(())
 }
 
-fn answers_each(
+fn answers_each<D: Alter>(
     rt: &impl Abort,
     alloc: Global,
-    station: &mut Station<RingWindow, MemStore>,
+    station: &mut Station<RingWindow, D>,
     rows: &[Row],
 ) -> Result<(), Fail> {
     for (request, length, digest) in rows {
@@ -150,20 +150,21 @@ fn answers_each(
     Ok(())
 }
 
+/// Asks before and after a purge.
+fn keeps_and_purges<D: Alter + Drop>(
+    rt: &impl Abort,
+    alloc: Global,
+    conn: Connection<D>,
+) -> Result<(), Fail> {
+    let mut station = station(alloc, 10_000, store(conn)?)?;
+    weighs_all(rt, alloc, &mut station)?;
+    answers_each(rt, alloc, &mut station, ALL)?;
+    let purged = response(alloc, &mut station, ASKED_AT, PURGE)?;
+    assert!(rt; is_response(purged.as_str(), "200 PURGED 960")?);
+    answers_each(rt, alloc, &mut station, LEFT)
+}
+
 #[test]
 fn keeps_exports_and_purges_3000_entries(rt: HostRuntime) -> Result<(), Fail> {
-    let alloc = rt.alloc();
-    let instrument = instrument(10_000)?;
-    let window = RingWindow::new(alloc, instrument.window() as usize, instrument.band())?;
-    let store = store(Connection::open_in_memory(alloc)?)?;
-    match Station::open(alloc, instrument, window, store) {
-        Ok(mut station) => {
-            weighs_all(&rt, alloc, &mut station)?;
-            answers_each(&rt, alloc, &mut station, ALL)?;
-            let purged = response(alloc, &mut station, ASKED_AT, PURGE)?;
-            assert!(rt; is_response(purged.as_str(), "200 PURGED 960")?);
-            answers_each(&rt, alloc, &mut station, LEFT)
-        }
-        Err(_) => Err("no station".into()),
-    }
+    keeps_and_purges(&rt, rt.alloc(), Connection::open_in_memory(rt.alloc())?)
 }

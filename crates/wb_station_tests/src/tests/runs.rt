@@ -1,8 +1,8 @@
 //! Runs of events: what is handed on, and where a run stops.
 ghost use Rattle.wb_station.specs.KeptOutputs.{kept_of};
 
-use super::days::{instrument, store};
-use sqlite::{Connection, MemStore};
+use super::days::{station, store};
+use sqlite::{Alter, Connection};
 use std::alloc::Global;
 use std::process::Abort;
 use std::test::Fail;
@@ -81,24 +81,8 @@ const EMPTY_LINES: [Event<'static>; 20] = [
     Event::Byte(b'\n'),
 ];
 
-#[test]
-fn hands_on_each_reply_until_one_is_refused(rt: HostRuntime) -> Result<(), Fail> {
-    let alloc = rt.alloc();
-    let instrument = instrument(1_000)?;
-    let window = RingWindow::new(alloc, instrument.window() as usize, instrument.band())?;
-    let store = store(Connection::open_in_memory(alloc)?)?;
-    match Station::open(alloc, instrument, window, store) {
-        Ok(mut station) => {
-            hands_on_each(&rt, alloc, &mut station);
-            stops_at_the_second(&rt, alloc, &mut station);
-            Ok(())
-        }
-        Err(_) => Err("no station".into()),
-    }
-}
-
 /// Each of 20 replies is handed on at its place.
-fn hands_on_each(rt: &impl Abort, alloc: Global, station: &mut Station<RingWindow, MemStore>) {
+fn hands_on_each<D: Alter>(rt: &impl Abort, alloc: Global, station: &mut Station<RingWindow, D>) {
     let mut outputs = OutputList::new(alloc);
     assert_eq!(rt; station.run(&EMPTY_LINES, &mut outputs), Ok(()));
     let taken = outputs.outputs();
@@ -110,10 +94,10 @@ fn hands_on_each(rt: &impl Abort, alloc: Global, station: &mut Station<RingWindo
 }
 
 /// The run stops at the reply that is refused.
-fn stops_at_the_second(
+fn stops_at_the_second<D: Alter>(
     rt: &impl Abort,
     alloc: Global,
-    station: &mut Station<RingWindow, MemStore>,
+    station: &mut Station<RingWindow, D>,
 ) {
     let mut outputs = Limited {
         alloc,
@@ -125,4 +109,17 @@ fn stops_at_the_second(
     assert_eq!(rt; stopped, Err(RunStopped { events: 6 }));
     assert_eq!(rt; outputs.outputs.len(), 1);
     assert_eq!(rt; outputs.outputs[0].at, 3);
+}
+
+/// Runs the events of both kinds at one station.
+fn runs<D: Alter + Drop>(rt: &impl Abort, alloc: Global, conn: Connection<D>) -> Result<(), Fail> {
+    let mut station = station(alloc, 1_000, store(conn)?)?;
+    hands_on_each(rt, alloc, &mut station);
+    stops_at_the_second(rt, alloc, &mut station);
+    Ok(())
+}
+
+#[test]
+fn hands_on_each_reply_until_one_is_refused(rt: HostRuntime) -> Result<(), Fail> {
+    runs(&rt, rt.alloc(), Connection::open_in_memory(rt.alloc())?)
 }

@@ -1,13 +1,13 @@
 //! Stops at each call of either file's disk while a whole station is asked. Opened again, a fresh station answers as it would if the
 //! stopped request was made, or if it wasn't. Not opened again, it answers 503, and its scale goes on.
-use super::days::{Step, instrument, is_response, is_wanted, response, store};
+use super::days::{Step, is_response, is_wanted, response, station, store};
 use sqlite::{Alter, Connection, FileStore, Files, Options};
 use sqlite_disk::{Crash, Disk, Fuse, Memory};
 use std::alloc::Global;
 use std::test::Fail;
 use wb_station::Station;
 use wb_store::Store;
-use wb_window::{RingWindow, Window};
+use wb_window::Window;
 
 type Fused = Files<Fuse<Memory>>;
 
@@ -138,19 +138,6 @@ fn connected<D: Disk + Drop>(
     }
 }
 
-/// A road weighbridge over the store, before its first reading.
-fn station<D: Alter + Drop>(
-    alloc: Global,
-    store: Store<D>,
-) -> Result<Station<RingWindow, D>, Fail> {
-    let instrument = instrument(1_000)?;
-    let window = RingWindow::new(alloc, instrument.window() as usize, instrument.band())?;
-    match Station::open(alloc, instrument, window, store) {
-        Ok(station) => Ok(station),
-        Err(_) => Err("no station".into()),
-    }
-}
-
 /// How a step is answered.
 fn hear<W: Window, D: Alter>(
     alloc: Global,
@@ -220,7 +207,7 @@ fn asked_over<D: Alter + Drop>(
     }
     match Store::open(conn) {
         Ok(store) => {
-            let mut station = station(alloc, store)?;
+            let mut station = station(alloc, 1_000, store)?;
             let all = asked(alloc, &mut station, steps)?;
             Ok((station.into_store().into_connection(), all))
         }
@@ -315,7 +302,7 @@ fn asked_again<D: Disk + Drop>(alloc: Global, disks: Files<D>, stop: &Stop) -> R
     let conn = connected(alloc, disks, ALL_PAGES)
         .ok()
         .ok_or("connected again")?;
-    let mut station = station(alloc, store(conn)?)?;
+    let mut station = station(alloc, 1_000, store(conn)?)?;
     is_made(alloc, &mut station, stop)
 }
 
