@@ -98,14 +98,18 @@ fn played(rt: &HostRuntime) -> Result<(Converter<TcpStream>, TcpStream), Fail> {
 }
 
 /// Serves ten turns of a fresh station.
-fn serves<D: Alter + Drop>(rt: &HostRuntime, conn: Connection<D>) -> Result<(), Fail> {
+fn serves<D: Alter + Drop>(
+    abort: &impl Abort,
+    rt: &HostRuntime,
+    conn: Connection<D>,
+) -> Result<(), Fail> {
     let mut station = road(rt.alloc(), conn)?;
     let (mut sockets, mut ends) = connected(rt)?;
     ends.send()?;
-    assert_eq!(rt; serve(&mut station, &mut sockets, 10), ServeEnd::Turns(10));
-    ends.typist_is_answered(rt)?;
-    ends.client_is_answered(rt)?;
-    assert!(rt; ends.client_has_all()?, "it is the whole answer");
+    assert_eq!(abort; serve(&mut station, &mut sockets, 10), ServeEnd::Turns(10));
+    ends.typist_is_answered(abort)?;
+    ends.client_is_answered(abort)?;
+    assert!(abort; ends.client_has_all()?, "it is the whole answer");
     drop(ends);
     sockets.finish();
     Ok(())
@@ -113,5 +117,5 @@ fn serves<D: Alter + Drop>(rt: &HostRuntime, conn: Connection<D>) -> Result<(), 
 
 #[test]
 fn serves_ten_turns(rt: HostRuntime) -> Result<(), Fail> {
-    serves(&rt, Connection::open_in_memory(rt.alloc())?)
+    serves(&rt, &rt, Connection::open_in_memory(rt.alloc())?)
 }
