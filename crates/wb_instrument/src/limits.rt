@@ -1,5 +1,5 @@
 //! Limits of indication and of the zero.
-ghost use Rattle.std.specs.Prelude.{◌≡◌, ◌+◌, ◌≤ℤ◌, ◌*ℤ◌, neg_ℤ, pos};
+ghost use Rattle.std.specs.Prelude.{◌≡◌, ◌*ℤ◌, pos};
 ghost use Rattle.wb_instrument.specs.Limits.{is_above_range, is_below_range, readings_a_step, farthest_zero};
 ghost use Rattle.wb_instrument.specs.Setup.{IsSetup, intervals_in_max};
 
@@ -26,13 +26,11 @@ impl Instrument {
         self.max_kg() / self.interval_kg()
     }
 
-    /// So many intervals in kilograms.
-    pub fn kilograms(&self, whole: i32) -> i32
-        requires least { neg_ℤ (pos (intervals_in_max self.now + 20)) ≤ℤ whole }
-        requires most { whole ≤ℤ pos (intervals_in_max self.now + 9) }
+    /// So many intervals in kilograms. A gross or net that is indicated fits 16 bits, and so does a preset tare.
+    pub fn kilograms(&self, whole: i16) -> i32
         ensures { result ≡ pos self.now.interval_kg *ℤ whole }
     {
-        self.interval_kg() as i32 * whole
+        self.interval_kg() as i32 * i32::from(whole)
     }
 
     /// Whether so many intervals are above Max + 9 e.

@@ -1,6 +1,7 @@
 //! The text of an indication.
 ghost use Rattle.arrayvec.specs.ArrayString.{array_string_len};
 ghost use Rattle.std.specs.Prelude.{◌≡◌, ◌≤◌, length};
+ghost use Rattle.wb_instrument.specs.Setup.{IsSetup};
 ghost use Rattle.wb_office.specs.Answer.{motion_word, text_of_indication, weights_text};
 ghost use Rattle.wb_scale.specs.Indication.{IsIndicationInRange};
 
@@ -10,7 +11,8 @@ use wb_scale::Indicated;
 
 /// Gross and net in kilograms, or why there are none.
 pub(crate) fn indication_text(instrument: &Instrument, indicated: Indicated) -> ArrayString<512>
-    requires { IsIndicationInRange instrument.now indicated }
+    requires setup { IsSetup instrument.now }
+    requires load { IsIndicationInRange instrument.now indicated }
     ensures { result.bytes ≡ text_of_indication instrument.now indicated }
 {
     match indicated {
@@ -18,8 +20,8 @@ pub(crate) fn indication_text(instrument: &Instrument, indicated: Indicated) -> 
         Indicated::Over => text_of("OVERLOAD"),
         Indicated::Under => text_of("UNDERLOAD"),
         Indicated::Shown { gross, net, stable } => {
-            let gross_kg = instrument.kilograms(gross);
-            weights(stable, gross_kg, instrument.kilograms(net))
+            let gross_kg = instrument.kilograms(gross as i16);
+            weights(stable, gross_kg, instrument.kilograms(net as i16))
         }
     }
 }

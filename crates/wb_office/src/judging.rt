@@ -1,6 +1,7 @@
 //! The judgement of a weighing or void: by its key, and if the key is new by the conditions of `conditions.rt`.
 ghost use Rattle.std.specs.Option.{option_copied};
 ghost use Rattle.std.specs.Prelude.{◌≡◌, IfOk, None, Some, false, not, true};
+ghost use Rattle.wb_instrument.specs.Setup.{IsSetup};
 ghost use Rattle.wb_journal.specs.Digest.{is_sound_entry};
 ghost use Rattle.wb_journal.specs.Pairs.{partner_in};
 ghost use Rattle.wb_office.specs.Conditions.{holds_of, is_other, key_gone};
@@ -145,6 +146,7 @@ fn shown<W: Window>(scale: &Scale<W>) -> OfScale
 
 /// Judges what the scale and the journal show.
 fn judge_evidence(instrument: &Instrument, evidence: Evidence, asked: Asked) -> Judgement
+    requires setup { IsSetup instrument.now }
     requires load { IsIndicationInRange instrument.now evidence.scale.indicated }
     requires tare { IsTare instrument.now evidence.scale.tare }
     ensures plain { is_plain result ≡ true }

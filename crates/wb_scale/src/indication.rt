@@ -1,5 +1,6 @@
 //! What is indicated.
 ghost use Rattle.std.specs.Prelude.{◌≡◌, IfSome, List};
+ghost use Rattle.wb_instrument.specs.Setup.{IsSetup};
 ghost use Rattle.wb_scale.specs.Call.{Call};
 ghost use Rattle.wb_scale.specs.History.{moments};
 ghost use Rattle.wb_scale.specs.Indication.{IsIndicationInRange, indicated, indicated_at, weights_unless_outside};
@@ -52,6 +53,7 @@ fn indicated_of(
     tare: TareNow,
     above_zero: Option<i32>,
 ) -> Indicated
+    requires setup { IsSetup instrument.now }
     requires load { IfSome above_zero IsAbove }
     requires tare { IsTare instrument.now tare }
     ensures { result ≡ indicated_at instrument.now stable tare above_zero }

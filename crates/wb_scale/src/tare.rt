@@ -1,5 +1,6 @@
 //! Weighed and preset tares.
 ghost use Rattle.std.specs.Prelude.{◌≡◌, ◌≤ℤ◌, false, IfErr, IfOk, IfSome, if◌then◌else◌, List, None, pos, Some};
+ghost use Rattle.wb_instrument.specs.Setup.{IsSetup};
 ghost use Rattle.wb_scale.specs.Call.{Call, clear_tare, preset, tare};
 ghost use Rattle.wb_scale.specs.History.{moments};
 ghost use Rattle.wb_scale.specs.Stands.{ScaleStands, ScaleTakes};
@@ -119,25 +120,24 @@ fn preset_target(tare: TareNow, whole: Option<i32>) -> Result<i32, PresetAnswer>
 
 /// The kilograms of a tare, a weighed one rounded to e.
 fn tare_kilograms(instrument: &Instrument, tare: TareNow) -> i32
-    requires { IsTare instrument.now tare }
+    requires setup { IsSetup instrument.now }
+    requires tare { IsTare instrument.now tare }
     ensures { result ≡ tare_in_kilograms instrument.now tare }
 {
-    let _intervals = instrument.intervals();
-    let interval_kg = instrument.interval_kg() as i32;
     match tare {
         TareNow::Empty => 0,
-        TareNow::Weighed(tenths) => interval_kg * round_tenths(tenths),
-        TareNow::Preset(whole) => interval_kg * whole,
+        TareNow::Weighed(tenths) => instrument.kilograms(round_tenths(tenths) as i16),
+        TareNow::Preset(whole) => instrument.kilograms(whole as i16),
     }
 }
 
 /// The tenths of a tare.
 pub(crate) fn tenths_of(instrument: &Instrument, tare: TareNow) -> i32
-    requires { IsTare instrument.now tare }
+    requires setup { IsSetup instrument.now }
+    requires tare { IsTare instrument.now tare }
     ensures value { result ≡ tare_tenths tare }
     ensures in_range { (pos 0 ≤ℤ result) × (result ≤ℤ pos 100_000) }
 {
-    let _intervals = instrument.intervals();
     match tare {
         TareNow::Empty => 0,
         TareNow::Weighed(tenths) => tenths,

@@ -1,7 +1,8 @@
 //! The replies that the scale's answers give.
 ghost use Rattle.std.specs.Prelude.{◌≡◌};
+ghost use Rattle.wb_instrument.specs.Setup.{IsSetup};
 ghost use Rattle.wb_scale.specs.Indication.{IsIndicationInRange};
-ghost use Rattle.wb_sics.specs.Answers.{reply_to_preset, reply_to_tare, reply_to_weight, reply_to_weight_now, reply_to_zero, weight_shown};
+ghost use Rattle.wb_sics.specs.Answers.{reply_to_preset, reply_to_tare, reply_to_weight, reply_to_weight_now, reply_to_zero};
 
 use crate::reply::Reply;
 use wb_instrument::Instrument;
@@ -9,7 +10,8 @@ use wb_scale::{Indicated, PresetAnswer, TareAnswer, ZeroAnswer};
 
 /// The reply to `SI`.
 pub(crate) fn weight_now(instrument: &Instrument, indicated: Indicated) -> Reply
-    requires { IsIndicationInRange instrument.now indicated }
+    requires setup { IsSetup instrument.now }
+    requires load { IsIndicationInRange instrument.now indicated }
     ensures { result ≡ reply_to_weight_now instrument.now indicated }
 {
     match indicated {
@@ -20,23 +22,21 @@ pub(crate) fn weight_now(instrument: &Instrument, indicated: Indicated) -> Reply
             gross: _,
             net,
             stable,
-        } => weight(stable, instrument.kilograms(net)),
-    }
-}
-
-fn weight(stable: bool, kg: i32) -> Reply
-    ensures { result ≡ weight_shown stable kg }
-{
-    if stable {
-        Reply::WeightStable(kg)
-    } else {
-        Reply::WeightMoving(kg)
+        } => {
+            let kg = instrument.kilograms(net as i16);
+            if stable {
+                Reply::WeightStable(kg)
+            } else {
+                Reply::WeightMoving(kg)
+            }
+        }
     }
 }
 
 /// The decided reply to `S`: where over, under or stable.
 pub(crate) fn weight_reply(instrument: &Instrument, indicated: Indicated) -> Option<Reply>
-    requires { IsIndicationInRange instrument.now indicated }
+    requires setup { IsSetup instrument.now }
+    requires load { IsIndicationInRange instrument.now indicated }
     ensures { result ≡ reply_to_weight instrument.now indicated }
 {
     match indicated {
@@ -49,7 +49,7 @@ pub(crate) fn weight_reply(instrument: &Instrument, indicated: Indicated) -> Opt
             stable,
         } => {
             if stable {
-                Some(Reply::WeightStable(instrument.kilograms(net)))
+                Some(Reply::WeightStable(instrument.kilograms(net as i16)))
             } else {
                 None
             }

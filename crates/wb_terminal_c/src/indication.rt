@@ -1,7 +1,8 @@
 //! What is indicated, as C reads it.
 ghost use Rattle.std.specs.Prelude.{◌≡◌, pos};
+ghost use Rattle.wb_instrument.specs.Setup.{IsSetup};
 ghost use Rattle.wb_scale.specs.Indication.{IsIndicationInRange};
-ghost use Rattle.wb_terminal_c.specs.Shown.{shown_indication, weights};
+ghost use Rattle.wb_terminal_c.specs.Shown.{shown_indication, state_of, weights};
 
 use wb_instrument::Instrument;
 use wb_scale::Indicated;
@@ -18,7 +19,8 @@ pub struct Indication {
 
 /// What is indicated, with the weights in kilograms.
 pub(crate) fn indication_of(instrument: &Instrument, indicated: Indicated) -> Indication
-    requires { IsIndicationInRange instrument.now indicated }
+    requires setup { IsSetup instrument.now }
+    requires load { IsIndicationInRange instrument.now indicated }
     ensures { result ≡ shown_indication instrument.now indicated }
 {
     match indicated {
@@ -26,11 +28,18 @@ pub(crate) fn indication_of(instrument: &Instrument, indicated: Indicated) -> In
         Indicated::Over => without_weights(1),
         Indicated::Under => without_weights(2),
         Indicated::Shown { gross, net, stable } => Indication {
-            state: if stable { 4 } else { 3 },
-            gross_kg: instrument.kilograms(gross),
-            net_kg: instrument.kilograms(net),
+            state: state_of(stable),
+            gross_kg: instrument.kilograms(gross as i16),
+            net_kg: instrument.kilograms(net as i16),
         },
     }
+}
+
+/// The state of weights.
+fn state_of(stable: bool) -> u32
+    ensures { result ≡ state_of stable }
+{
+    if stable { 4 } else { 3 }
 }
 
 fn without_weights(state: u32) -> Indication

@@ -21,6 +21,8 @@ enum Ask {
     TrackingGap,
     IsOver(i32),
     IsUnder(i32),
+    /// So many intervals in kilograms.
+    Kilograms(i16),
     Numbers,
     /// The intervals of a preset tare, in grams.
     Preset(u64),
@@ -33,12 +35,19 @@ enum Ask {
 }
 
 use Ask::{
-    Fault, Field, Intervals, IsInterval, IsOver, IsSerial, IsUnder, Numbers, Preset, Rounded,
-    SerialCopied, SerialFrom, SerialText, TrackingGap, ZeroLimit,
+    Fault, Field, Intervals, IsInterval, IsOver, IsSerial, IsUnder, Kilograms, Numbers, Preset,
+    Rounded, SerialCopied, SerialFrom, SerialText, TrackingGap, ZeroLimit,
 };
 
 /// What a row shows, the parts of an instrument, what is asked, and the answer.
 struct Row(&'static str, Parts<'static>, Ask, &'static str);
+
+/// The greatest interval and the greatest Max.
+const GREATEST: Parts<'static> = Parts {
+    interval_kg: 50,
+    max_kg: 500_000,
+    ..ROAD
+};
 
 static FAULTS: [Row; 12] = [
     Row(
@@ -182,11 +191,7 @@ static LIMITS: [Row; 4] = [
     ),
     Row(
         "e of 50 kg and Max of 500000 kg",
-        Parts {
-            interval_kg: 50,
-            max_kg: 500_000,
-            ..ROAD
-        },
+        GREATEST,
         Intervals,
         "10000",
     ),
@@ -270,6 +275,24 @@ static INTERVALS: [Row; 9] = [
     Row("100 kg", ROAD, IsInterval(100), "false"),
 ];
 
+static WEIGHTS: [Row; 5] = [
+    Row("917 intervals", ROAD, Kilograms(917), "18340"),
+    Row("no interval", ROAD, Kilograms(0), "0"),
+    Row("twenty below zero", ROAD, Kilograms(-20), "-400"),
+    Row(
+        "the most intervals of the greatest e",
+        GREATEST,
+        Kilograms(i16::MAX),
+        "1638350",
+    ),
+    Row(
+        "the fewest intervals of the greatest e",
+        GREATEST,
+        Kilograms(i16::MIN),
+        "-1638400",
+    ),
+];
+
 static TIES: [Row; 7] = [
     Row("9163 tenths", ROAD, Rounded(9_163), "916"),
     Row("9164 tenths", ROAD, Rounded(9_164), "916"),
@@ -314,6 +337,7 @@ fn answer_of_instrument(
         TrackingGap => note(&instrument.tracking_gap(), answer),
         IsOver(intervals) => note(&instrument.is_over(intervals), answer),
         IsUnder(intervals) => note(&instrument.is_under(intervals), answer),
+        Kilograms(intervals) => note(&instrument.kilograms(intervals), answer),
         Numbers => note(&numbers(instrument), answer),
         Preset(grams) => note(&instrument.preset_of_grams(grams), answer),
         _ => answer_of_none(ask, answer),
@@ -379,6 +403,11 @@ fn accepts_the_limits_of_interval_and_max(rt: HostRuntime) -> Result<(), Fail> {
 #[test]
 fn reports_what_was_set_up(rt: HostRuntime) -> Result<(), Fail> {
     rows(&rt, rt.alloc(), &REPORTS)
+}
+
+#[test]
+fn weighs_intervals_in_kilograms(rt: HostRuntime) -> Result<(), Fail> {
+    rows(&rt, rt.alloc(), &WEIGHTS)
 }
 
 #[test]

@@ -8,8 +8,8 @@ use Rattle.wb_scale.proofs.Balances.{given-held, given-refused, preset-range}
 use Rattle.wb_scale.proofs.Standing.{Stands-kept, Stands-tare, Takes-behind}
 use Rattle.wb_scale.proofs.scale.Scale.preset.Goals as goal
 
-pub tare_kilograms-requires : goal.tare_kilograms-requires
-tare_kilograms-requires g c =
+pub tare_kilograms-requires-clause-tare : goal.tare_kilograms-requires-clause-tare
+tare_kilograms-requires-clause-tare g c =
     let range = preset-range c.self.inside.instrument c.args.grams c.preset_of_grams.result c.in-Ok.whole c.preset_of_grams.ensures.value c.preset_of_grams.ensures.nearest c.in-Ok.ensures.ok.0 in
     let whole : to_z w32 (of_z w32 c.in-Ok.whole) ≡ c.in-Ok.whole = omega (arith, ints) in
     rw whole range
