@@ -28,7 +28,7 @@ pub(crate) fn indication_of(instrument: &Instrument, indicated: Indicated) -> In
         Indicated::Over => without_weights(1),
         Indicated::Under => without_weights(2),
         Indicated::Shown { gross, net, stable } => Indication {
-            state: state_of(stable),
+            state: state_number(stable),
             gross_kg: instrument.kilograms(gross as i16),
             net_kg: instrument.kilograms(net as i16),
         },
@@ -36,7 +36,7 @@ pub(crate) fn indication_of(instrument: &Instrument, indicated: Indicated) -> In
 }
 
 /// The state of weights.
-fn state_of(stable: bool) -> u32
+fn state_number(stable: bool) -> u32
     ensures { result ≡ state_of stable }
 {
     if stable { 4 } else { 3 }
