@@ -3,9 +3,9 @@ use Rattle.std.proofs.Common.{ℕ, ◌≡◌, ◌≢◌, ◌∙◌, ◌↔◌, i
 use Rattle.wb_office.proofs.Common.{Ghosts, EntryParts, is_void_kind, open_entry, StoreFault, Closed, Foreign, Memory, is_disk, IsHonest, StoreView, StoreStands, LeavesEither, LeavesOnly, IsNext, SpentKey, Refusal, Request, Content, answer_by_verdict, asking, entries_after, is_marked, nothing, outcome_of, spent_by_outcome, entry_content, Situation, IsOnLists, holds_of, AsksFor, IsAccepted, IsOnScale, IsNow, Marks, Serves, fault_of_refusal, is_of_store, is_store_refusal, content_of, content_or_refusal, Wanted, HasBound, IsWanted, wanted, Verdict, accepted, verdict, IsWeighingWanted, wanted_by}
 use Rattle.std.specs.Result.{IsErrAnd}
 use Rattle.wb_scale.specs.State.{State}
-use Rattle.wb_office.specs.declared.answer.Answer.{Answer}
+use Rattle.wb_events.specs.declared.answer.Answer.{Answer}
 use Rattle.wb_office.specs.declared.judging.Asked.{Asked}
-use Rattle.wb_office.specs.declared.refusal.Refusal.TheVariants.{Store}
+use Rattle.wb_events.specs.declared.refusal.Refusal.TheVariants.{Store}
 use Rattle.wb_office.specs.Serves.{is_closed_after}
 use Rattle.wb_office.proofs.LookUps.{Reads, ok_is_no_fault, stood}
 

@@ -19,24 +19,15 @@ use Rattle.wb_scale.specs.Indication.{indicated}
 use Rattle.wb_store.specs.Lists.{number_after}
 use Rattle.wb_store.specs.Purging.{entries_below, spent_after_purge}
 use Rattle.wb_store.specs.Rows.{SpentKey}
-use Rattle.wb_office.specs.declared.refusal.Refusal.{Refusal}
-use Rattle.wb_office.specs.declared.refusal.Refusal.TheVariants as refusal
-use Rattle.wb_office.specs.declared.request.Request.{Request}
-use Rattle.wb_office.specs.declared.request.Request.TheVariants.{Weigh, VoidOpen, Ticket, Indication, JournalCsv, TicketsCsv, Purge, Check}
+use Rattle.wb_events.specs.Content.{Content, csv_content, damaged_content, purged_content, slip_content, sound_content, text_content, ticket_content}
+use Rattle.wb_events.specs.declared.refusal.Refusal.{Refusal}
+use Rattle.wb_events.specs.declared.refusal.Refusal.TheVariants as refusal
+use Rattle.wb_events.specs.declared.request.Request.{Request}
+use Rattle.wb_events.specs.declared.request.Request.TheVariants.{Weigh, VoidOpen, Ticket, Indication, JournalCsv, TicketsCsv, Purge, Check}
 use Rattle.wb_office.specs.Situation.{Asking, Situation}
 use Rattle.wb_office.specs.Conditions.{is_damaged_entry}
 use Rattle.wb_office.specs.Exports.{journal_csv, tickets_csv}
 use Rattle.wb_office.specs.Verdict.{Verdict, accepted, refused, repeated, verdict}
-
--- an answer: the bytes of its text, or its count or number
-pub data Content : Type 0 where
-  slip_content : List ℕ → Content
-  ticket_content : List ℕ → Content
-  text_content : List ℕ → Content
-  csv_content : List ℕ → Content
-  purged_content : ℕ → Content
-  sound_content : ℕ → Content
-  damaged_content : ℕ → Content
 
 -- ---- a weighing or void
 

@@ -7,7 +7,7 @@ use Rattle.wb_journal.specs.Pairs.{partner_in}
 use Rattle.wb_journal.specs.Rising.{IsRising}
 use Rattle.wb_store.specs.Lists.{entry_by_key, is_spent}
 use Rattle.wb_store.specs.Migrated.{MayBeChained}
-use Rattle.wb_office.specs.declared.request.Request.{Request}
+use Rattle.wb_events.specs.declared.request.Request.{Request}
 use Rattle.wb_office.specs.Answer.{office_answer, entry_content}
 use Rattle.wb_office.specs.Situation.{Asking}
 use Rattle.wb_office.specs.Conditions.{is_other}

@@ -4,7 +4,6 @@ pub mod Conditions
 pub mod Verdict
 pub mod Exports
 pub mod Answer
-pub mod RefusalText
 -- What a request leaves of the store and the scale.
 pub mod Wanted
 pub mod Serves

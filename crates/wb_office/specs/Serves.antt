@@ -12,28 +12,13 @@ use Rattle.wb_store.specs.Faults.{is_disk}
 use Rattle.wb_store.specs.Journal.{IsHonest, StoreView, StoreStands}
 use Rattle.wb_store.specs.Keeping.{LeavesEither, LeavesOnly}
 use Rattle.wb_store.specs.Rows.{SpentKey}
-use Rattle.wb_office.specs.declared.answer.Answer.{Answer}
-use Rattle.wb_office.specs.declared.answer.Answer.TheVariants.{Slip, Ticket, Text, Csv, Purged, Sound, Damaged}
-use Rattle.wb_office.specs.declared.refusal.Refusal.{Refusal}
-use Rattle.wb_office.specs.declared.refusal.Refusal.TheVariants.{Store}
-use Rattle.wb_office.specs.Answer.{Content, csv_content, damaged_content, purged_content, slip_content, sound_content, text_content, ticket_content}
+use Rattle.wb_events.specs.declared.answer.Answer.{Answer}
+use Rattle.wb_events.specs.declared.refusal.Refusal.{Refusal}
+use Rattle.wb_events.specs.declared.refusal.Refusal.TheVariants.{Store}
+use Rattle.wb_events.specs.Content.{content_or_refusal}
 use Rattle.wb_office.specs.Situation.{Situation}
 use Rattle.wb_office.specs.Conditions.{holds_of}
 use Rattle.wb_office.specs.Wanted.{Wanted}
-
--- what an answer tells
-abbrev pub content_of : Answer → Content
-content_of (Slip text) = slip_content text.bytes
-content_of (Ticket text) = ticket_content text.bytes
-content_of (Text text) = text_content text.bytes
-content_of (Csv text) = csv_content text
-content_of (Purged count) = purged_content count
-content_of (Sound count) = sound_content count
-content_of (Damaged number) = damaged_content number
-
-abbrev pub content_or_refusal : Result Answer Refusal → Result Content Refusal
-content_or_refusal (Ok answer) = Ok (content_of answer)
-content_or_refusal (Err why) = Err why
 
 -- the fault of the store for which it is refused
 abbrev pub fault_of_refusal : Refusal → Option StoreFault

@@ -9,12 +9,13 @@ use Rattle.wb_scale.specs.State.{State}
 use Rattle.wb_store.specs.HasTables.{HasTables, MayHaveOpen}
 use Rattle.wb_store.specs.Journal.{Holds, IsHonest, StoreView, StoreStands}
 use Rattle.wb_store.specs.Lists.{entry_by_key, is_spent}
-use Rattle.wb_office.specs.declared.answer.Answer.{Answer}
-use Rattle.wb_office.specs.declared.refusal.Refusal.{Refusal}
-use Rattle.wb_office.specs.declared.refusal.Refusal.TheVariants as refusal
-use Rattle.wb_office.specs.declared.request.Request.{Request}
-use Rattle.wb_office.specs.declared.request.Request.TheVariants.{Weigh, VoidOpen}
-use Rattle.wb_office.specs.Answer.{Content, office_answer, answer_by_verdict, entry_content}
+use Rattle.wb_events.specs.declared.answer.Answer.{Answer}
+use Rattle.wb_events.specs.declared.refusal.Refusal.{Refusal}
+use Rattle.wb_events.specs.declared.refusal.Refusal.TheVariants as refusal
+use Rattle.wb_events.specs.declared.request.Request.{Request}
+use Rattle.wb_events.specs.declared.request.Request.TheVariants.{Weigh, VoidOpen}
+use Rattle.wb_events.specs.Content.{Content}
+use Rattle.wb_office.specs.Answer.{office_answer, answer_by_verdict, entry_content}
 use Rattle.wb_office.specs.Situation.{Asking, IsOnLists}
 use Rattle.wb_office.specs.Conditions.{is_damaged_entry, is_other}
 use Rattle.wb_office.specs.CourseOfRequests.{Journal, RequestTurn, left, situation_of_turn}

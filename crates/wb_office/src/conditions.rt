@@ -10,7 +10,7 @@ ghost use Rattle.wb_office.specs.helpers.EvidenceShown.{Shows};
 ghost use Rattle.wb_office.specs.helpers.IndicatedLoad.{is_preset_below_shown, refusal_of_shown};
 
 use crate::evidence::Evidence;
-use crate::refusal::Refusal;
+use wb_events::Refusal;
 use wb_instrument::MIN_INTERVALS;
 use wb_journal::{Kind, is_sound};
 use wb_scale::{Indicated, TareNow};

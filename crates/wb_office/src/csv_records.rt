@@ -3,11 +3,11 @@ ghost use Rattle.csv.specs.Writing.{default_writer, row_text};
 ghost use Rattle.std.specs.Prelude.{◌≡◌, ◌++◌, ◌∷◌, [], IfOk, decimal};
 ghost use Rattle.wb_office.specs.Exports.{optional_field, optional_signed_field};
 
-use crate::answer::CsvText;
 use csv::{ByteRecord, Writer};
 use itoa::Buffer;
 use std::alloc::{AllocError, Global};
 use std::marker::Model;
+use wb_events::CsvText;
 
 /// The bytes of a record of the journal, and its fields; those of a ticket are fewer.
 const RECORD: usize = 192;

@@ -1,20 +1,20 @@
 //! The answers of the exports.
 ghost use Rattle.std.specs.Prelude.{◌≡◌, ℕ, IfOk, List, Ok};
 ghost use Rattle.wb_journal.specs.Rising.{IsRising};
-ghost use Rattle.wb_office.specs.Answer.{csv_content, tickets_answer};
+ghost use Rattle.wb_events.specs.Content.{csv_content};
+ghost use Rattle.wb_office.specs.Answer.{tickets_answer};
 ghost use Rattle.wb_office.specs.Serves.{Serves};
 ghost use Rattle.wb_office.specs.Wanted.{IsWanted};
-ghost use Rattle.wb_office.specs.declared.request.Request.TheVariants as request;
+ghost use Rattle.wb_events.specs.declared.request.Request.TheVariants as request;
 ghost use Rattle.wb_office.specs.helpers.WantOfMemory.{IsAnsweredSo, WantsMemory};
 ghost use Rattle.wb_scale.specs.State.{State};
 
-use crate::answer::{Answer, CsvText};
 use crate::checking::finding_of;
 use crate::journal_export::journal_text;
-use crate::refusal::Refusal;
 use crate::tickets_export::tickets_text;
 use sqlite::Alter;
 use std::alloc::{AllocError, Global};
+use wb_events::{Answer, CsvText, Refusal};
 use wb_journal::{Entry, Finding};
 use wb_store::{Store, StoreFault};
 

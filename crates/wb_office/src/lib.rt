@@ -6,7 +6,6 @@
 //! the entry is added, and nothing is refused after.
 #![tactic(auto)]
 
-mod answer;
 mod checking;
 mod conditions;
 mod csv_records;
@@ -18,16 +17,12 @@ mod judging;
 mod new_entry;
 mod office;
 mod purging;
-mod refusal;
-mod request;
 mod texts;
 mod tickets;
 mod tickets_export;
 mod weighing;
 
-pub use answer::{Answer, CsvText};
 pub use journal_export::journal_text;
 pub use office::Office;
-pub use refusal::Refusal;
-pub use request::Request;
 pub use tickets_export::tickets_text;
+pub use wb_events::{Answer, CsvText, Refusal, Request};

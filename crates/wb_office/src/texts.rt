@@ -5,10 +5,10 @@ ghost use Rattle.wb_journal.specs.Kind.{is_second_kind};
 ghost use Rattle.wb_journal.specs.Pairs.{partner_in};
 ghost use Rattle.wb_journal.specs.declared.entry.EntryParts.{EntryParts};
 ghost use Rattle.wb_office.specs.Answer.{entry_content};
-ghost use Rattle.wb_office.specs.Serves.{content_of};
+ghost use Rattle.wb_events.specs.Content.{content_of};
 
-use crate::answer::Answer;
 use std::alloc::AllocError;
+use wb_events::Answer;
 use wb_journal::{Entry, Kind, slip_text, ticket_text};
 
 /// The slip of a First or Void; the ticket of a Single, and of a Second with its partner.

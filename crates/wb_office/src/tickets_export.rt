@@ -5,9 +5,9 @@ ghost use Rattle.wb_journal.specs.Rising.{IsRising};
 ghost use Rattle.wb_office.specs.Exports.{of_both, pair_record, preset_record, record_with, ticket_columns, tickets_csv};
 ghost use Rattle.wb_office.specs.helpers.ExportRecord.{record_text};
 
-use crate::answer::CsvText;
 use crate::csv_records::{Export, Fields};
 use std::alloc::{AllocError, Global};
+use wb_events::CsvText;
 use wb_journal::{Entry, Kind, net, partner_at, text_of_moment};
 
 /// The tickets as CSV with their columns, in the order of the entries. Refuses for want of memory alone.

@@ -9,11 +9,11 @@ use Rattle.std.proofs.lemmas.List.Elements.{All-weaker}
 use Rattle.std.proofs.lemmas.List.Splits.{slice_split_at}
 use Rattle.std.proofs.lemmas.List.Sums.{AllPass-from_list_all}
 use Rattle.wb_program.specs.PrintedOutputs.{body_lines, is_empty_line, printed_lines, printed_response, status_of}
-use Rattle.wb_station.specs.Faults.{fault_status}
-use Rattle.wb_station.specs.Response.{ResponseContent, allow_line_text, length_lines, media_type_text, phrase_of_status, response_content, response_text, status_line, type_lines}
-use Rattle.wb_station.specs.Routes.{method_text}
-use Rattle.wb_station.specs.declared.fault.Method.{Method}
-use Rattle.wb_program.proofs.FirstLine.{line_feed, some_parts}
+use Rattle.wb_http.specs.Faults.{fault_status}
+use Rattle.wb_http.specs.Response.{ResponseContent, allow_line_text, length_lines, media_type_text, phrase_of_status, response_content, response_text, status_line, type_lines}
+use Rattle.wb_http.specs.Routes.{method_text}
+use Rattle.wb_http.specs.declared.fault.Method.{Method}
+use Rattle.wb_trace.proofs.FirstLine.{line_feed, some_parts}
 use Rattle.wb_program.proofs.OneLine.{OneLine, first_word-decimal, joined, known, no_feed, one_line-decimal, one_line-media, one_line-method}
 
 strip-return : (text : List ℕ) → strip_carriage_return (text ++ codes "\r") ≡ text

@@ -1,6 +1,4 @@
-mod FirstLine
 mod HeadLines
-mod LineKinds
 mod OneLine
 mod PerformedHappenings
 mod ReplayedLines

@@ -14,23 +14,23 @@ use Rattle.httpdate.specs.Date.{date_text}
 use Rattle.httpdate.specs.Text.{day_name, month_name, time_of_day, two_digits}
 use Rattle.httpdate.specs.declared.parts.Parts.{Parts}
 use Rattle.httpdate.specs.declared.date.HttpDate.{HttpDate}
-use Rattle.wb_program.specs.Words.{first_word}
-use Rattle.wb_office.specs.declared.refusal.Refusal.{Refusal}
-use Rattle.wb_office.specs.declared.refusal.Refusal.TheVariants as refusal
-use Rattle.wb_office.specs.declared.request.Request.{Request}
-use Rattle.wb_office.specs.declared.request.Request.TheVariants as request
-use Rattle.wb_office.specs.Answer.{Content}
-use Rattle.wb_office.specs.Serves.{content_or_refusal}
-use Rattle.wb_station.specs.declared.fault.HttpFault.{HttpFault}
-use Rattle.wb_station.specs.declared.fault.HttpFault.TheVariants.{BadField, HeadTooLarge, Malformed, Memory, NoLength, NoRoute, TooLarge, WrongMethod}
-use Rattle.wb_station.specs.declared.outcome.Outcome.{Outcome}
-use Rattle.wb_station.specs.declared.outcome.Outcome.TheVariants.{Fault, Office}
-use Rattle.wb_station.specs.Faults.{fault_status}
-use Rattle.wb_station.specs.Response.{media_type_text, phrase_of_status, status_of_answer, status_of_refusal, response_content, response_to_result}
-use Rattle.wb_station.specs.Routes.{method_text}
-use Rattle.wb_station.specs.declared.fault.Method.{Method}
-use Rattle.wb_station.specs.declared.fault.Method.TheVariants.{Get, Post}
-use Rattle.wb_program.proofs.FirstLine.{line_feed}
+use Rattle.wb_trace.specs.Words.{first_word}
+use Rattle.wb_events.specs.declared.refusal.Refusal.{Refusal}
+use Rattle.wb_events.specs.declared.refusal.Refusal.TheVariants as refusal
+use Rattle.wb_events.specs.declared.request.Request.{Request}
+use Rattle.wb_events.specs.declared.request.Request.TheVariants as request
+use Rattle.wb_events.specs.Content.{Content}
+use Rattle.wb_events.specs.Content.{content_or_refusal}
+use Rattle.wb_http.specs.declared.fault.HttpFault.{HttpFault}
+use Rattle.wb_http.specs.declared.fault.HttpFault.TheVariants.{BadField, HeadTooLarge, Malformed, Memory, NoLength, NoRoute, TooLarge, WrongMethod}
+use Rattle.wb_http.specs.declared.outcome.Outcome.{Outcome}
+use Rattle.wb_http.specs.declared.outcome.Outcome.TheVariants.{Fault, Office}
+use Rattle.wb_http.specs.Faults.{fault_status}
+use Rattle.wb_http.specs.Response.{media_type_text, phrase_of_status, status_of_answer, status_of_refusal, response_content, response_to_result}
+use Rattle.wb_http.specs.Routes.{method_text}
+use Rattle.wb_http.specs.declared.fault.Method.{Method}
+use Rattle.wb_http.specs.declared.fault.Method.TheVariants.{Get, Post}
+use Rattle.wb_trace.proofs.FirstLine.{line_feed}
 
 -- a text of one line
 abbrev pub is_one_line : List ℕ → Bool

@@ -7,13 +7,13 @@ use Rattle.std.proofs.lemmas.List.{map-append, replicate_more, reverse-append, t
 use Rattle.sqlite.specs.Store.{Ghosts}
 use Rattle.wb_program.specs.helpers.Performed.{Performed}
 use Rattle.wb_program.specs.PrintedOutputs.{printed, printed_out}
-use Rattle.wb_program.specs.TraceLines.{typed}
+use Rattle.wb_trace.specs.TraceLines.{typed}
 use Rattle.wb_program.proofs.WrittenTexts.{Appends-append, Appends-none, printed-append}
 use Rattle.wb_sics.specs.Stands.{TerminalState}
 use Rattle.wb_station.proofs.offered.Runs.{ran_append, ran_more, ran_none, unmarked_happening}
 use Rattle.wb_station.specs.Account.{Out}
-use Rattle.wb_station.specs.declared.event.Event.{Event}
-use Rattle.wb_station.specs.Happening.{Happening, byte, happening, unmarked}
+use Rattle.wb_events.specs.declared.event.Event.{Event}
+use Rattle.wb_events.specs.Happening.{Happening, byte, happening, unmarked}
 use Rattle.wb_station.specs.Stands.{Took}
 use Rattle.wb_store.specs.Journal.{StoreView}
 

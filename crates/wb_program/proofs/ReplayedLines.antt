@@ -8,12 +8,12 @@ use Rattle.sqlite.specs.Steps.{over_memory}
 use Rattle.sqlite_trees.specs.declared.memory.MemStore.{MemStore}
 use Rattle.wb_program.specs.helpers.Performed.{Performed}
 use Rattle.wb_program.specs.Replayed.{Replayed, StopsAt, at_first}
-use Rattle.wb_program.specs.Trace.{both, trace_events}
-use Rattle.wb_program.specs.TraceLines.{line_events}
+use Rattle.wb_trace.specs.Trace.{both, trace_events}
+use Rattle.wb_trace.specs.TraceLines.{line_events}
 use Rattle.wb_program.proofs.PerformedHappenings.{Performed-append, Performed-none}
 use Rattle.wb_sics.specs.Stands.{TerminalState}
 use Rattle.wb_station.proofs.offered.Runs.{leads}
-use Rattle.wb_station.specs.Happening.{Happening}
+use Rattle.wb_events.specs.Happening.{Happening}
 use Rattle.wb_station.specs.Stands.{Hears, StationStands}
 use Rattle.wb_store.specs.Journal.{StoreView}
 

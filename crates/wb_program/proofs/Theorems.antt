@@ -1,7 +1,7 @@
 -- What holds of the definitions themselves.
 use Rattle.std.proofs.Common.{ap, ◌∙◌}
 use Rattle.wb_program.specs.PrintedOutputs.{PrintsTold, printed_response}
-use Rattle.wb_station.specs.Response.{response_content}
+use Rattle.wb_http.specs.Response.{response_content}
 use Rattle.wb_program.proofs.HeadLines.{prints}
 use Rattle.wb_program.proofs.OneLine.{one_line-date, one_line-phrase}
 

@@ -17,8 +17,8 @@ use Rattle.wb_program.proofs.SourceAnswers.{all_handed_on_append, tells_append, 
 use Rattle.wb_sics.specs.Stands.{TerminalState}
 use Rattle.wb_station.proofs.offered.Runs.{ran_append, ran_more, ran_none, unmarked_happening}
 use Rattle.wb_station.specs.Account.{Out}
-use Rattle.wb_station.specs.declared.event.Event.{Event}
-use Rattle.wb_station.specs.Happening.{Happening, happening, office, reading, unmarked}
+use Rattle.wb_events.specs.declared.event.Event.{Event}
+use Rattle.wb_events.specs.Happening.{Happening, happening, office, reading, unmarked}
 use Rattle.wb_station.specs.Stands.{Took}
 use Rattle.wb_store.specs.Journal.{StoreView}
 use Rattle.wb_window.specs.declared.reading.Reading.{Reading}

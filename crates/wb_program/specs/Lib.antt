@@ -1,9 +1,3 @@
--- The lines of a trace, and what happens at them.
-pub mod Words
-pub mod Numerals
-pub mod TraceLines
-pub mod RequestLines
-pub mod Trace
 -- What a replay prints.
 pub mod PrintedOutputs
 pub mod Replayed

@@ -2,11 +2,11 @@
 use Rattle.std.specs.Prelude.{◌≡◌, ℕ, Bool, true, false, List, [], ◌∷◌, ◌++◌, codes, decimal}
 use Rattle.std.specs.List.{after_first}
 use Rattle.std.specs.Str.Lines.{lines}
-use Rattle.wb_program.specs.Words.{after_word, first_word}
+use Rattle.wb_trace.specs.Words.{after_word, first_word}
 use Rattle.wb_sics.specs.declared.reply.Reply.{Reply}
 use Rattle.wb_sics.specs.ReplyText.{reply_text}
-use Rattle.wb_station.specs.declared.outcome.Outcome.{Outcome}
-use Rattle.wb_station.specs.Response.{IsResponse, response_content}
+use Rattle.wb_http.specs.declared.outcome.Outcome.{Outcome}
+use Rattle.wb_http.specs.Response.{IsResponse, response_content}
 use Rattle.wb_station.specs.Account.{Out, nothing, replied, responded}
 
 -- `t `, the reply without its CR LF, and a line feed

@@ -7,12 +7,12 @@ use Rattle.sqlite_trees.specs.declared.memory.MemStore.{MemStore}
 use Rattle.wb_instrument.specs.Setup.{Setup}
 use Rattle.wb_program.specs.declared.replaying.ReplayEnd.{ReplayEnd}
 use Rattle.wb_program.specs.declared.replaying.ReplayEnd.TheVariants.{Done, BadLine, TooLong, ReadFault, WriteFault, Memory}
-use Rattle.wb_program.specs.TraceLines.{line_events}
-use Rattle.wb_program.specs.Trace.{trace_events, trace_limit}
+use Rattle.wb_trace.specs.TraceLines.{line_events}
+use Rattle.wb_trace.specs.Trace.{trace_events, trace_limit}
 use Rattle.wb_program.specs.PrintedOutputs.{printed}
 use Rattle.wb_sics.specs.Stands.{TerminalState}
 use Rattle.wb_station.specs.Account.{Account, Out, opened}
-use Rattle.wb_station.specs.Happening.{Happening, unmarked}
+use Rattle.wb_events.specs.Happening.{Happening, unmarked}
 use Rattle.wb_station.specs.RunOfEvents.{AreOuts, AreReplies, Ran}
 use Rattle.wb_station.specs.Stands.{Hears, StationStands}
 use Rattle.wb_station.specs.Unmade.{AllMayBeUnmade}

@@ -8,7 +8,7 @@ use Rattle.wb_station.specs.SourceAnswers.{Answer, SourceTells, Told, asked, con
 use Rattle.wb_program.specs.Turns.{Begun, Turn, all_handed_on, answers_begun, answers_of, happenings_begun, happenings_of}
 use Rattle.wb_sics.specs.Stands.{TerminalState}
 use Rattle.wb_station.specs.Account.{Out}
-use Rattle.wb_station.specs.Happening.{Happening, unmarked}
+use Rattle.wb_events.specs.Happening.{Happening, unmarked}
 use Rattle.wb_station.specs.RunOfEvents.{Ran}
 use Rattle.wb_store.specs.Journal.{StoreView}
 

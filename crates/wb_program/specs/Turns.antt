@@ -3,7 +3,7 @@ use Rattle.std.specs.Prelude.{ℕ, Bool, true, false, List, [], ◌∷◌, ◌++
 use Rattle.wb_sources.specs.declared.sources.Converter.TheVariants.{Line}
 use Rattle.wb_station.specs.SourceAnswers.{Answer, Handed, asked, converted, timed, to_office, to_terminal, took}
 use Rattle.wb_station.specs.Account.{Out, bytes_of_replies, nothing, replied, responded}
-use Rattle.wb_station.specs.Happening.{Happening, byte, hang_up, office, reading}
+use Rattle.wb_events.specs.Happening.{Happening, byte, hang_up, office, reading}
 use Rattle.wb_window.specs.declared.reading.Reading.{Reading}
 
 -- a request to the office, and the moment at which it came

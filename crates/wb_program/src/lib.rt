@@ -7,16 +7,11 @@
 #![tactic(auto)]
 
 mod commands;
-mod lines;
 mod migrated;
-mod numerals;
 mod performing;
 mod printing;
 mod replaying;
-mod request_line;
 mod serving;
-mod trace;
-mod trace_line;
 
 pub use commands::{PrintFault, What, print_check, print_export};
 pub use migrated::print_migrated;

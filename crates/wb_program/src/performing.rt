@@ -1,16 +1,16 @@
 //! What the lines of a trace do to a station.
 ghost use Rattle.std.specs.Prelude.{◌∷◌, [], false, OnOk, map, replicate, reverse};
-ghost use Rattle.wb_program.specs.TraceLines.{typed};
-ghost use Rattle.wb_program.specs.helpers.LineEvents.{IsReadLine, events_of};
+ghost use Rattle.wb_trace.specs.TraceLines.{typed};
+ghost use Rattle.wb_trace.specs.helpers.LineEvents.{IsReadLine, events_of};
 ghost use Rattle.wb_program.specs.helpers.Performed.{Performed};
-ghost use Rattle.wb_station.specs.Happening.{IsTaken, byte as byte_happening, happening, reading as reading_happening};
+ghost use Rattle.wb_events.specs.Happening.{IsTaken, byte as byte_happening, happening, reading as reading_happening};
 ghost use Rattle.wb_window.specs.Reading.{IsReading};
 
 use crate::printing::{WriteFault, print_output, print_replies};
-use crate::trace_line::TraceLine;
 use sqlite::Alter;
 use std::io::Write;
 use wb_station::{Event, Station};
+use wb_trace::TraceLine;
 use wb_window::{Reading, Window};
 
 /// Does what a line asks for, with its bytes in the room, and prints what is put out.

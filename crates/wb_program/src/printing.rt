@@ -5,11 +5,11 @@ ghost use Rattle.std.specs.Str.Lines.{lines};
 ghost use Rattle.wb_program.specs.PrintedOutputs.{body_lines, printed_body_line, printed_lines, printed_out, printed_replies, printed_reply, printed_response, status_of};
 ghost use Rattle.wb_station.specs.OutputShows.{out_shown};
 
-use crate::lines::{first_line, split_word};
 use std::io::Write;
 use thiserror::Error;
 use wb_sics::{Replies, Reply};
 use wb_station::Output;
+use wb_trace::{first_line, split_word};
 
 /// The writer failed. A reading at which nothing waits hands on this result, so it is small.
 #[derive(Clone, Copy, Debug, PartialEq, Eq, Error)]

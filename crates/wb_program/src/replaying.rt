@@ -7,11 +7,7 @@ ghost use Rattle.wb_program.specs.helpers.RunEnds.{WasRun};
 ghost use Rattle.wb_station.specs.Stands.{Hears, StationStands};
 ghost use Rattle.wb_store.specs.Journal.{StoreStands};
 
-use crate::lines::first_line;
 use crate::performing::perform;
-use crate::request_line::HEAD_ROOM;
-use crate::trace::{TraceFault, read_trace};
-use crate::trace_line::read_line;
 use sqlite::{Connection, MemStore};
 use std::alloc::{AllocError, Global};
 use std::io::{Read, Write};
@@ -19,6 +15,7 @@ use thiserror::Error;
 use wb_instrument::Instrument;
 use wb_station::Station;
 use wb_store::Store;
+use wb_trace::{HEAD_ROOM, TraceFault, first_line, read_line, read_trace};
 use wb_window::DequeWindow;
 
 /// The status of any fault but refused words or a refused setup.

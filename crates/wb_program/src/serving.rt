@@ -3,7 +3,7 @@ ghost use Rattle.std.specs.Prelude.{◌≡◌, ◌∷◌, [], false, map, revers
 ghost use Rattle.wb_program.specs.Served.{Handled, Served};
 ghost use Rattle.wb_program.specs.Turns.{handed_on};
 ghost use Rattle.wb_program.specs.helpers.TurnParts.{ExchangeServed, StretchServed, end_of, TurnServed};
-ghost use Rattle.wb_station.specs.Happening.{IsTaken, byte as byte_happening, happening, office as office_happening};
+ghost use Rattle.wb_events.specs.Happening.{IsTaken, byte as byte_happening, happening, office as office_happening};
 ghost use Rattle.wb_station.specs.OutputShows.{out_shown};
 ghost use Rattle.wb_station.specs.SourceAnswers.{SourceTells};
 

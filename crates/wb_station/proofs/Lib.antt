@@ -1,5 +1,4 @@
 mod Accounts
-mod AppendedTexts
 mod BytesOfReplies
 mod Courses
 mod HeardEvents
@@ -8,6 +7,4 @@ mod OneHistory
 mod RunsSoFar
 mod SourcesInMemory
 pub mod Theorems
-mod judgement
-pub mod RefusalNames
 pub mod offered

@@ -4,10 +4,11 @@ use Rattle.sqlite.specs.Held.{state}
 use Rattle.sqlite.specs.Store.{Ghosts}
 use Rattle.sqlite.specs.Tree.{Trees}
 use Rattle.wb_instrument.specs.Setup.{Setup}
-use Rattle.wb_office.specs.declared.refusal.Refusal.TheVariants.{NoTicket}
-use Rattle.wb_office.specs.declared.request.Request.{Request}
-use Rattle.wb_office.specs.declared.request.Request.TheVariants.{Indication, Ticket}
-use Rattle.wb_office.specs.Answer.{text_content, text_of_indication}
+use Rattle.wb_events.specs.declared.refusal.Refusal.TheVariants.{NoTicket}
+use Rattle.wb_events.specs.declared.request.Request.{Request}
+use Rattle.wb_events.specs.declared.request.Request.TheVariants.{Indication, Ticket}
+use Rattle.wb_events.specs.Content.{text_content}
+use Rattle.wb_office.specs.Answer.{text_of_indication}
 use Rattle.wb_office.specs.Wanted.{asks_store}
 use Rattle.wb_scale.specs.History.{moments}
 use Rattle.wb_scale.specs.Indication.{indicated}
@@ -20,12 +21,12 @@ use Rattle.wb_sics.specs.Stands.{TerminalState, TerminalStands}
 use Rattle.wb_store.specs.Journal.{IsHonest, Reopens, StoreView, StoreStands}
 use Rattle.wb_store.specs.Keeping.{LeavesOnly}
 use Rattle.wb_store.specs.Lists.{AreLists}
-use Rattle.wb_station.specs.declared.fault.HttpFault.{HttpFault}
-use Rattle.wb_station.specs.declared.fault.HttpFault.TheVariants.{Memory}
+use Rattle.wb_http.specs.declared.fault.HttpFault.{HttpFault}
+use Rattle.wb_http.specs.declared.fault.HttpFault.TheVariants.{Memory}
 use Rattle.wb_station.specs.Account.{Account, Comes, IsAccount, IsResponseOut, Out, nothing, replied}
-use Rattle.wb_station.specs.Happening.{Happening, heard_of, reading, byte, hang_up, office, unmarked}
-use Rattle.wb_station.specs.HttpJudgement.{IsJudged}
-use Rattle.wb_station.specs.Response.{response_to_fault, response_to_result}
+use Rattle.wb_events.specs.Happening.{Happening, heard_of, reading, byte, hang_up, office, unmarked}
+use Rattle.wb_http.specs.HttpJudgement.{IsJudged}
+use Rattle.wb_http.specs.Response.{response_to_fault, response_to_result}
 use Rattle.wb_station.specs.Unmade.{MayBeUnmade}
 
 -- ---- a terminal alone

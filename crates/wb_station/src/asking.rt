@@ -1,18 +1,15 @@
 //! What follows once a request was judged: the office answers it, or its fault is reported, and the response is left in the room.
 ghost use Rattle.std.specs.Prelude.{Bool, List, Ok, ℕ};
 ghost use Rattle.wb_station.specs.Account.{IsResponseOut, responded};
-ghost use Rattle.wb_station.specs.Happening.{office as office_happening};
-ghost use Rattle.wb_station.specs.HttpJudgement.{IsJudged};
-ghost use Rattle.wb_station.specs.Response.{response_to_fault};
+ghost use Rattle.wb_events.specs.Happening.{office as office_happening};
+ghost use Rattle.wb_http.specs.HttpJudgement.{IsJudged};
+ghost use Rattle.wb_http.specs.Response.{response_to_fault};
 ghost use Rattle.wb_station.specs.Stands.{Took};
-ghost use Rattle.wb_station.specs.UnlessMemoryRefused.{WasJudged};
+ghost use Rattle.wb_http.specs.UnlessMemoryRefused.{WasJudged};
 
-use crate::fault::HttpFault;
-use crate::outcome::Outcome;
-use crate::response::response_bytes;
-use crate::room::ResponseRoom;
 use sqlite::Alter;
 use std::alloc::Global;
+use wb_http::{HttpFault, Outcome, ResponseRoom, response_bytes};
 use wb_journal::Moment;
 use wb_office::{Office, Request};
 use wb_sics::Terminal;

@@ -3,7 +3,7 @@ ghost use Rattle.std.specs.Prelude.{[], ◌∷◌, ◌≤◌, IfSome, Option, op
 ghost use Rattle.wb_sources.specs.Converted.{IsConverted};
 ghost use Rattle.wb_station.specs.SourceAnswers.{IsInRoom, Told, SourceTells, asked, converted, exchanged, timed, to_office, to_terminal, took};
 
-use crate::judged::Judged;
+use wb_http::Judged;
 use wb_journal::Moment;
 use wb_sources::{Converter, REQUEST_ROOM, TERMINAL_ROOM, Taken};
 

@@ -2,7 +2,7 @@
 use Rattle.std.proofs.Common.{◌≡◌, ◌∙◌, sym, ap, subst, ℕ, ◌+◌, ◌<◌, Bool, true, false, ◌&&◌, ◌||◌, if◌then◌else◌, List, [], ◌∷◌, ◌++◌, take, Option, Some, None, refl, arith, true≢false}
 use Rattle.wb_office.proofs.Common.{nat_tests, list_any, EntryParts, Finding, Sound, FoundDamaged, Kind, First, Second, Single, Void, finding_in, is_closing_kind, entry_by_key, number_after, Refusal, Request, Weigh, VoidOpen, Purge, Outcome, adds, office_answer, answer_by_verdict, asking, nothing, outcome, outcome_of, purges, unless_damaged, Asking, Situation, key_gone, is_damaged_entry, is_other, journal_full, places, places_needed, added, added_by, answered_with, entry_of, Condition, Verdict, accepted, first_refusal, entry_added, of_new, on, on_new, refused, repeated, verdict}
 use Rattle.std.specs.Prelude.{nat_lt}
-use Rattle.wb_office.specs.declared.refusal.Refusal.TheVariants as refusal
+use Rattle.wb_events.specs.declared.refusal.Refusal.TheVariants as refusal
 use Rattle.wb_office.proofs.FoundEntries.{is_some_same, none_some}
 use Rattle.wb_office.proofs.Verdicts.{by_damage, by_newness, by_other, by_repetition, by_spent}
 

@@ -1,11 +1,12 @@
 -- An answer that only want of memory keeps back.
 use Rattle.std.specs.Prelude.{◌≡◌, true, false, Result, Err}
 use Rattle.wb_store.specs.declared.fault.StoreFault.TheVariants.{Memory}
-use Rattle.wb_office.specs.declared.answer.Answer.{Answer}
-use Rattle.wb_office.specs.declared.refusal.Refusal.{Refusal}
-use Rattle.wb_office.specs.declared.refusal.Refusal.TheVariants.{Store}
-use Rattle.wb_office.specs.Answer.{Content}
-use Rattle.wb_office.specs.Serves.{content_or_refusal, is_store_refusal}
+use Rattle.wb_events.specs.declared.answer.Answer.{Answer}
+use Rattle.wb_events.specs.declared.refusal.Refusal.{Refusal}
+use Rattle.wb_events.specs.declared.refusal.Refusal.TheVariants.{Store}
+use Rattle.wb_events.specs.Content.{Content}
+use Rattle.wb_events.specs.Content.{content_or_refusal}
+use Rattle.wb_office.specs.Serves.{is_store_refusal}
 
 -- it is answered so, unless the store refuses
 abbrev pub IsAnsweredSo : Result Answer Refusal → Result Content Refusal → Type 0

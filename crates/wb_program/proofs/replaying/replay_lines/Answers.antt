@@ -1,5 +1,5 @@
 use Rattle.std.proofs.Common.{sym}
-use Rattle.wb_program.specs.helpers.LineEvents.{events_of}
+use Rattle.wb_trace.specs.helpers.LineEvents.{events_of}
 use Rattle.wb_program.proofs.ReplayedLines.{Replaying-all, Replaying-next, Replaying-none, Replaying-stops}
 use Rattle.wb_program.proofs.replaying.replay_lines.Goals as goal
 

@@ -1,5 +1,5 @@
 use Rattle.wb_program.proofs.Turns.{handled_one}
-use Rattle.wb_station.specs.Happening.{office}
+use Rattle.wb_events.specs.Happening.{office}
 use Rattle.wb_program.proofs.serving.handle_judged.Goals as goal
 
 pub returns : goal.returns

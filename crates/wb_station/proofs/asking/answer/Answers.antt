@@ -1,9 +1,10 @@
 use Rattle.std.proofs.Common.{◌≡◌, ap, subst, subst₂, sym, ◌∙◌}
 use Rattle.wb_office.specs.WithoutStore.{Outright}
-use Rattle.wb_office.specs.Serves.{Serves, content_or_refusal}
+use Rattle.wb_events.specs.Content.{content_or_refusal}
+use Rattle.wb_office.specs.Serves.{Serves}
 use Rattle.wb_office.specs.Wanted.{IsWanted}
 use Rattle.wb_station.specs.Account.{responded}
-use Rattle.wb_station.specs.Response.{is_export, response_to_result}
+use Rattle.wb_http.specs.Response.{is_export, response_to_result}
 use Rattle.wb_station.proofs.Accounts.{response_is, when_err, when_not_err}
 use Rattle.wb_station.proofs.OfficeRequests.{answered_took, failed_took}
 use Rattle.wb_station.proofs.asking.answer.Goals as goal

@@ -1,7 +1,7 @@
 use Rattle.std.proofs.Common.{subst}
 use Rattle.wb_station.specs.Account.{responded}
-use Rattle.wb_station.specs.HttpJudgement.{IsJudged}
-use Rattle.wb_station.specs.UnlessMemoryRefused.{WasJudged}
+use Rattle.wb_http.specs.HttpJudgement.{IsJudged}
+use Rattle.wb_http.specs.UnlessMemoryRefused.{WasJudged}
 use Rattle.wb_station.proofs.OfficeRequests.{fault_took}
 use Rattle.wb_station.proofs.asking.ask.Goals as goal
 

@@ -1,6 +1,6 @@
 use Rattle.std.proofs.Common.{ap, refl, subst}
 use Rattle.wb_station.specs.Account.{responded}
-use Rattle.wb_station.specs.Response.{IsDateOf}
+use Rattle.wb_http.specs.Response.{IsDateOf}
 use Rattle.wb_station.proofs.Accounts.{when_ok}
 use Rattle.wb_station.proofs.asking.put_fault.Goals as goal
 

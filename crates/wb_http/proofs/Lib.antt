@@ -1,0 +1,4 @@
+mod AppendedTexts
+mod RefusalNames
+pub mod Theorems
+pub mod judgement

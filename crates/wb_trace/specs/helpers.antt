@@ -1,0 +1,2 @@
+pub mod LineEvents
+pub mod TakenFromReader

@@ -1,0 +1,46 @@
+//! Lines, and the words of a line.
+ghost use Rattle.std.specs.Prelude.{◌≡◌, ◌<◌, ◌≤◌, ◌+◌, ◌∷◌, [], IfSome, MatchOption, length};
+ghost use Rattle.std.specs.Str.Lines.{lines, strip_carriage_return as strip};
+ghost use Rattle.wb_trace.specs.Words.{after_word, first_word};
+
+use wb_text::split_at_first;
+
+/// The first line of what is left of a trace, without its LF or CR LF, and what follows it; none where nothing is
+/// left. A last line without an end counts.
+pub fn first_line(rest: &[u8]) -> Option<(&[u8], &[u8])>
+    ensures first { MatchOption result (rest.now ≡ []) (λ p. lines rest.now
+        ≡ p.0.now ∷ lines p.1.now) }
+    ensures shorter { IfSome result (λ p. length p.1.now < length rest.now) }
+    ensures within { IfSome result (λ p. length p.0.now ≤ length rest.now) }
+{
+    if rest.is_empty() {
+        return None;
+    }
+    match split_at_first(rest, b'\n') {
+        Some((line, after)) => Some((without_carriage_return(line), after)),
+        None => Some((rest, &[])),
+    }
+}
+
+/// A line without the CR at its end, if it has one.
+fn without_carriage_return(line: &[u8]) -> &[u8]
+    ensures value { result.now ≡ strip line.now }
+    ensures within { length result.now ≤ length line.now }
+{
+    match line {
+        [before @ .., last] => { if *last == b'\r' { before } else { line } }
+        [] => line,
+    }
+}
+
+/// The first word, and what follows the blank after it.
+pub fn split_word(text: &[u8]) -> (&[u8], &[u8])
+    ensures word { result.0.now ≡ first_word text.now }
+    ensures rest { result.1.now ≡ after_word text.now }
+    ensures within { length result.0.now + length result.1.now ≤ length text.now }
+{
+    match split_at_first(text, b' ') {
+        Some((word, rest)) => (word, rest),
+        None => (text, &[]),
+    }
+}
