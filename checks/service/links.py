@@ -1,4 +1,4 @@
-"""What a document's page names in this repository: rules of docs/rules.md, definitions, tests, wrong bodies, and clauses of public calls.
+"""What a document's page names in this repository: rules of docs/rules.md, definitions, tests, traces, wrong bodies, and clauses of public calls.
 
 The public calls, and which of their clauses are promised, are those of docs/promises.md; what clauses a call has stands in its source. It needs
 python3 alone.
@@ -7,6 +7,8 @@ import functools
 import glob
 import os
 import re
+
+import traces
 
 TOP = os.path.dirname(os.path.dirname(os.path.dirname(os.path.abspath(__file__))))
 PLAIN = "the clause"
@@ -52,7 +54,7 @@ def rules():
     return list(dict.fromkeys(found))
 
 
-# Definitions, tests and wrong bodies
+# Definitions, tests, traces and wrong bodies
 
 
 def definition_missing(name):
@@ -74,7 +76,8 @@ def tests():
 def test_missing(name):
     if name.startswith("checks/"):
         return None if os.access(os.path.join(TOP, name), os.X_OK) else f"there is no check {name}"
-    return None if name in tests() else f"there is no test {name}"
+    is_trace = name in traces.names() or name in traces.folders()
+    return None if is_trace or name in tests() else f"there is no test or trace {name}"
 
 
 def wrong_body_missing(name):

@@ -11,11 +11,10 @@ mod orders;
 mod responses;
 mod runs;
 mod sources;
-mod station;
 mod stops;
 mod targets;
-mod terminal;
 mod whole;
+mod windows;
 
 use std::alloc::{AllocError, Global};
 use std::process::Abort;
