@@ -1,5 +1,5 @@
-//! Worked rows of the instrument, the windows, the scale, the terminal, the journal and the command line: tests of the crates that need
-//! no store, through what they offer.
+//! Worked rows of the instrument, the windows, the scale, the terminal, the journal, the converter and the command lines: tests of the crates
+//! that need no store, through what they offer.
 //!
 //! They are a crate of their own because a crate is proved once more for its tests.
 #![tactic(auto)]

@@ -3,6 +3,8 @@ mod calibration;
 mod calibration_file;
 mod callers;
 mod command_line;
+mod converter;
+mod converter_words;
 mod instrument;
 mod journal;
 mod nets;

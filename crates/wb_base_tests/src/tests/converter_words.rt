@@ -1,4 +1,4 @@
-//! The words of the command line: defaults, refusals and statuses.
+//! The words of the command line of `weighbridge-converter`: defaults, refusals and statuses.
 use super::assert_text;
 use std::alloc::Global;
 use std::fmt::Write;

@@ -6,6 +6,7 @@ mod files;
 mod foreign;
 mod kept;
 mod migration;
+mod office;
 mod open_table;
 mod purge;
 mod refusal;
