@@ -8,6 +8,7 @@ mod lengths;
 mod long;
 mod memory;
 mod orders;
+mod over_files;
 mod responses;
 mod runs;
 mod sources;
@@ -46,20 +47,29 @@ fn asks_each(
     rows: &[Row],
     end: &str,
 ) -> Result<(), Fail> {
-    for (text, words) in rows {
-        let bytes = joined(alloc, front, text, 1, end)?;
-        asks(rt, alloc, text, bytes.as_slice(), words)?;
+    for row in rows {
+        asks_one(rt, alloc, front, row, end)?;
     }
     Ok(())
 }
 
+fn asks_one(rt: &impl Abort, alloc: Global, front: &str, row: &Row, end: &str) -> Result<(), Fail> {
+    let (text, words) = row;
+    let bytes = joined(alloc, front, text, 1, end)?;
+    asks(rt, alloc, text, bytes.as_slice(), words)
+}
+
 fn asks_stretched(rt: &impl Abort, alloc: Global, rows: &[Stretched]) -> Result<(), Fail> {
     for row in rows {
-        let bytes = joined(alloc, row.front, row.unit, row.count, row.end)?;
-        assert_eq!(rt; bytes.len(), row.size, "{}", row.shows);
-        asks(rt, alloc, row.shows, bytes.as_slice(), row.words)?;
+        asks_one_stretched(rt, alloc, row)?;
     }
     Ok(())
+}
+
+fn asks_one_stretched(rt: &impl Abort, alloc: Global, row: &Stretched) -> Result<(), Fail> {
+    let bytes = joined(alloc, row.front, row.unit, row.count, row.end)?;
+    assert_eq!(rt; bytes.len(), row.size, "{}", row.shows);
+    asks(rt, alloc, row.shows, bytes.as_slice(), row.words)
 }
 
 /// A text, so many times a unit, and another text.

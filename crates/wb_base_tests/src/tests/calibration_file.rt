@@ -5,7 +5,7 @@ use std::fmt::Write;
 use std::process::Abort;
 use std::test::Fail;
 use wb_calibration::{Calibration, Point};
-use wb_calibration_file::{addition, last_of};
+use wb_calibration_file::{Made, addition, last_of};
 use wb_journal::Moment;
 
 const FIRST: &str =
@@ -44,18 +44,20 @@ const SECOND_POINTS: [Point; 2] = [
 fn note_last(file: &[u8], answer: &mut String) -> Result<(), Fail> {
     match last_of(file) {
         Ok(None) => Ok(answer.push_str("none")?),
-        Ok(Some(made)) => {
-            let points = made.calibration.points().len();
-            Ok(write!(
-                answer,
-                "{} at {}, {points} points, {}",
-                made.number,
-                made.moment.seconds(),
-                made.digest.as_str()
-            )?)
-        }
+        Ok(Some(made)) => note_made(&made, answer),
         Err(changed) => Ok(write!(answer, "{changed}")?),
     }
+}
+
+fn note_made(made: &Made, answer: &mut String) -> Result<(), Fail> {
+    let points = made.calibration.points().len();
+    Ok(write!(
+        answer,
+        "{} at {}, {points} points, {}",
+        made.number,
+        made.moment.seconds(),
+        made.digest.as_str()
+    )?)
 }
 
 /// What a row shows, two parts of a file, and what is said of it.

@@ -7,10 +7,11 @@ use wb_base_uses::journal::{slip_of, ticket_of};
 use wb_base_uses::scale::weigh_net;
 use wb_base_uses::terminal::{ask, open};
 use wb_instrument::Instrument;
+use wb_journal::Entry;
 use wb_road::ROAD;
 use wb_scale::Indicated;
-use wb_sics::Replies;
-use wb_window::Reading;
+use wb_sics::{Replies, Terminal};
+use wb_window::{Reading, Window};
 
 #[test]
 fn tares_an_empty_vehicle_and_weighs_its_load(rt: HostRuntime) -> Result<(), Fail> {
@@ -35,19 +36,32 @@ fn writes_a_slip_and_the_ticket_of_a_pair(rt: HostRuntime) -> Result<(), Fail> {
     let slip = slip_of(parts(&FIRST).ok_or("limits")?).ok_or("slip")?;
     assert_text(&rt, "the slip of a First", slip.as_str(), SLIP);
     let entries = journal(rt.alloc(), &[FIRST, SECOND])?;
-    let ticket = ticket_of(entries.as_slice(), 2).ok_or("ticket")?;
-    assert_text(&rt, "the ticket of a pair", ticket.as_str(), TICKET);
+    writes_the_ticket(&rt, entries.as_slice())
+}
+
+fn writes_the_ticket(rt: &impl Abort, entries: &[Entry]) -> Result<(), Fail> {
+    let ticket = ticket_of(entries, 2).ok_or("ticket")?;
+    assert_text(rt, "the ticket of a pair", ticket.as_str(), TICKET);
     Ok(())
 }
 
 #[test]
 fn asks_for_the_weight_at_once(rt: HostRuntime) -> Result<(), Fail> {
     let mut terminal = open(rt.alloc(), Instrument::new(ROAD)?)?;
+    let mut replies = Replies::new();
+    asks(&mut terminal, &mut replies);
+    replies_with_the_weight(&rt, &replies)
+}
+
+/// Asks for the weight after four readings of a load.
+fn asks<W: Window>(terminal: &mut Terminal<W>, replies: &mut Replies) {
     for _ in 0..4 {
         terminal.reading(Reading::of(9_170));
     }
-    let mut replies = Replies::new();
-    ask(&mut terminal, b"SI", &mut replies);
+    ask(terminal, b"SI", replies);
+}
+
+fn replies_with_the_weight(rt: &impl Abort, replies: &Replies) -> Result<(), Fail> {
     match replies.as_slice() {
         [reply] => assert_eq!(rt; reply.text().as_str(), "S S      18340 kg"),
         _ => return Err("not one reply".into()),

@@ -92,8 +92,17 @@ fn prints_each<D: Alter + Drop>(
 ) -> Result<(), Fail> {
     let mut store = store(conn)?;
     weigh(&mut store, is_sound)?;
+    prints_rows(rt, alloc, &mut store, rows)
+}
+
+fn prints_rows<D: Alter>(
+    rt: &impl Abort,
+    alloc: Global,
+    store: &mut Store<D>,
+    rows: &[Row],
+) -> Result<(), Fail> {
     for (asked, printed) in rows {
-        prints(rt, alloc, &mut store, asked, printed)?;
+        prints(rt, alloc, store, asked, printed)?;
     }
     Ok(())
 }

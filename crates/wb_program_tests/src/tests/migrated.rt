@@ -8,6 +8,7 @@ use std::test::Fail;
 use wb_journal::{Entry, Kind};
 use wb_program::print_migrated;
 use wb_road::{MORNING, Plain, ZEROS, unsealed};
+use wb_store::Store;
 
 /// A First behind one with this digest.
 fn first(number: u32, key: &str, plate: &str, previous: &str) -> Result<Entry, Fail> {
@@ -32,6 +33,25 @@ fn entries(alloc: Global) -> Result<Vec<Entry>, Fail> {
     Ok(Vec::from_array(alloc, [one, two, three])?)
 }
 
+fn append<D: Alter>(store: &mut Store<D>, entries: &[Entry]) -> Result<(), Fail> {
+    for entry in entries {
+        store.append(entry)?;
+    }
+    Ok(())
+}
+
+fn is_printed<D: Alter>(
+    rt: &impl Abort,
+    alloc: Global,
+    store: &Store<D>,
+    line: &str,
+) -> Result<(), Fail> {
+    let mut writer = Vec::new(alloc);
+    assert_eq!(rt; print_migrated(store, &mut writer), Ok(()));
+    assert_eq!(rt; str::from_utf8(writer.as_slice())?, line);
+    Ok(())
+}
+
 /// What is printed once these entries are stored.
 fn prints<D: Alter + Drop>(
     rt: &impl Abort,
@@ -41,13 +61,8 @@ fn prints<D: Alter + Drop>(
     line: &str,
 ) -> Result<(), Fail> {
     let mut store = store(conn)?;
-    for entry in entries {
-        store.append(entry)?;
-    }
-    let mut writer = Vec::new(alloc);
-    assert_eq!(rt; print_migrated(&store, &mut writer), Ok(()));
-    assert_eq!(rt; str::from_utf8(writer.as_slice())?, line);
-    Ok(())
+    append(&mut store, entries)?;
+    is_printed(rt, alloc, &store, line)
 }
 
 #[test]

@@ -98,6 +98,8 @@ fn played(rt: &HostRuntime) -> Result<(Converter<TcpStream>, TcpStream), Fail> {
 }
 
 /// Serves ten turns of a fresh station.
+///
+/// It owns and has few exits, and what has many borrows: each exit of an owner is dear to prove.
 fn serves<D: Alter + Drop>(
     abort: &impl Abort,
     rt: &HostRuntime,
@@ -105,13 +107,24 @@ fn serves<D: Alter + Drop>(
 ) -> Result<(), Fail> {
     let mut station = road(rt.alloc(), conn)?;
     let (mut sockets, mut ends) = connected(rt)?;
+    answers(abort, &mut station, &mut sockets, &mut ends)?;
+    drop(ends);
+    sockets.finish();
+    Ok(())
+}
+
+/// Serves ten turns, and each of the other ends gets its answer.
+fn answers<D: Alter>(
+    abort: &impl Abort,
+    station: &mut Station<RingWindow, D>,
+    sockets: &mut Sockets<'_, HostRuntime, TcpListener>,
+    ends: &mut Ends,
+) -> Result<(), Fail> {
     ends.send()?;
-    assert_eq!(abort; serve(&mut station, &mut sockets, 10), ServeEnd::Turns(10));
+    assert_eq!(abort; serve(station, sockets, 10), ServeEnd::Turns(10));
     ends.typist_is_answered(abort)?;
     ends.client_is_answered(abort)?;
     assert!(abort; ends.client_has_all()?, "it is the whole answer");
-    drop(ends);
-    sockets.finish();
     Ok(())
 }
 

@@ -10,6 +10,7 @@ use wb_program::{ServeEnd, serve};
 use wb_road::{MORNING, ROAD};
 use wb_sources::Converter;
 use wb_station::{Answered, HandedIn, ListSources, ListTurn, Station};
+use wb_store::Store;
 use wb_window::{DequeWindow, Reading};
 
 const FIRST: &str =
@@ -250,17 +251,40 @@ fn serves_no_more_turns_than_it_is_told(rt: HostRuntime) -> Result<(), Fail> {
 
 /// Serves these turns, which must end so, hand in so and be answered so.
 fn serves(rt: &impl Abort, alloc: Global, service: &Service) -> Result<(), Fail> {
-    let shows = service.shows;
     let mut sources = ListSources::new(alloc, turns(alloc, service.turns)?);
     let conn = Connection::open_in_memory(alloc)?;
     let end = ended(alloc, conn, &mut sources, service.limit)?;
+    has_served(rt, alloc, service, &sources, end)
+}
+
+/// What a service that ended so left with its sources.
+fn has_served(
+    rt: &impl Abort,
+    alloc: Global,
+    service: &Service,
+    sources: &ListSources,
+    end: ServeEnd,
+) -> Result<(), Fail> {
+    let shows = service.shows;
     assert_eq!(rt; end, service.end, "{shows}");
     assert!(rt; !sources.has_fault(), "{shows}");
-    let handed = handed(alloc, sources.handed())?;
-    assert_eq!(rt; handed.as_str(), service.handed, "{shows}");
-    let answered = answered(alloc, sources.answered())?;
-    assert_eq!(rt; answered.as_str(), service.answered, "{shows}");
+    is_text(
+        rt,
+        shows,
+        handed(alloc, sources.handed())?.as_str(),
+        service.handed,
+    );
+    is_text(
+        rt,
+        shows,
+        answered(alloc, sources.answered())?.as_str(),
+        service.answered,
+    );
     Ok(())
+}
+
+fn is_text(rt: &impl Abort, shows: &str, found: &str, wanted: &str) {
+    assert_eq!(rt; found, wanted, "{shows}");
 }
 
 /// How a service at a fresh station ends.
@@ -270,10 +294,18 @@ fn ended<D: Alter + Drop>(
     sources: &mut ListSources,
     limit: u64,
 ) -> Result<ServeEnd, Fail> {
+    let mut station = station(alloc, store(conn)?)?;
+    Ok(serve(&mut station, sources, limit))
+}
+
+fn station<D: Alter + Drop>(
+    alloc: Global,
+    store: Store<D>,
+) -> Result<Station<DequeWindow, D>, Fail> {
     let instrument = Instrument::new(ROAD)?;
     let window = DequeWindow::new(alloc, instrument.window() as usize, instrument.band())?;
-    match Station::open(alloc, instrument, window, store(conn)?) {
-        Ok(mut station) => Ok(serve(&mut station, sources, limit)),
+    match Station::open(alloc, instrument, window, store) {
+        Ok(station) => Ok(station),
         Err(_) => Err("station".into()),
     }
 }

@@ -26,24 +26,35 @@ fn bridge(alloc: Global) -> Result<Scale<RingWindow>, Fail> {
     Ok(scale)
 }
 
-/// The store of an office that was asked for a First, whose slip begins so.
+/// Asks the office for a First, whose slip begins so.
+fn weighs<D: Alter>(
+    alloc: Global,
+    office: &mut Office<D>,
+    at: Moment,
+    begins: &str,
+) -> Result<(), Fail> {
+    let key = Key::new("K1").ok_or("key")?;
+    let plate = Plate::new("AB-12").ok_or("plate")?;
+    let mut scale = bridge(alloc)?;
+    let reading = Reading::of(9_170);
+    let answer = weigh_first(alloc, office, &mut scale, reading, at, key, plate);
+    if is_slip(&answer, begins) {
+        Ok(())
+    } else {
+        Err("another answer".into())
+    }
+}
+
+/// The store of an office that was asked for a First.
 fn weighed<D: Alter + Drop>(
     alloc: Global,
     conn: Connection<D>,
     at: Moment,
     begins: &str,
 ) -> Result<Store<D>, Fail> {
-    let key = Key::new("K1").ok_or("key")?;
-    let plate = Plate::new("AB-12").ok_or("plate")?;
-    let mut scale = bridge(alloc)?;
     let mut office = Office::new(store(conn)?);
-    let reading = Reading::of(9_170);
-    let answer = weigh_first(alloc, &mut office, &mut scale, reading, at, key, plate);
-    if is_slip(&answer, begins) {
-        Ok(office.into_store())
-    } else {
-        Err("another answer".into())
-    }
+    weighs(alloc, &mut office, at, begins)?;
+    Ok(office.into_store())
 }
 
 /// Whether the answer is a slip that begins so.

@@ -124,10 +124,20 @@ fn all_responses<W: Window, D: Alter>(
     }
     let mut texts = String::new(alloc);
     for row in REQUESTS {
-        let text = response_by(alloc, station, by, row)?;
-        texts.push_str(text.as_str())?;
+        add_response(alloc, station, by, row, &mut texts)?;
     }
     Ok(texts)
+}
+
+fn add_response<W: Window, D: Alter>(
+    alloc: Global,
+    station: &mut Station<W, D>,
+    by: By,
+    row: &(How, &str, &str),
+    texts: &mut String,
+) -> Result<(), Fail> {
+    let text = response_by(alloc, station, by, row)?;
+    Ok(texts.push_str(text.as_str())?)
 }
 
 /// The same of a station of its own.

@@ -93,6 +93,14 @@ fn weighings(vehicle: u16) -> [Weighing; 2] {
     ]
 }
 
+/// The request for a weighing of a vehicle.
+fn request(alloc: Global, vehicle: u16, weighing: Weighing) -> Result<String, Fail> {
+    let Weighing { kind, key, .. } = weighing;
+    let body = format!(in alloc; "key=K{key}&kind={kind}&plate=P{vehicle}")?;
+    let length = body.len();
+    Ok(format!(in alloc; "POST /weighings HTTP/1.1\r\nContent-Length: {length}\r\n\r\n{body}")?)
+}
+
 /// Whether a vehicle that comes onto the empty bridge is weighed.
 fn is_weighed<D: Alter>(
     alloc: Global,
@@ -100,20 +108,10 @@ fn is_weighed<D: Alter>(
     vehicle: u16,
     weighing: Weighing,
 ) -> Result<bool, Fail> {
-    let Weighing {
-        tenths,
-        kind,
-        key,
-        at,
-    } = weighing;
-    let body = format!(in alloc; "key=K{key}&kind={kind}&plate=P{vehicle}")?;
-    let length = body.len();
-    let request = format!(in alloc;
-        "POST /weighings HTTP/1.1\r\nContent-Length: {length}\r\n\r\n{body}"
-    )?;
     let is_quiet = is_wanted(alloc, station, &Step::Load(0, 1, ""))?
-        && is_wanted(alloc, station, &Step::Load(tenths, 4, ""))?;
-    let answer = response(alloc, station, at, request.as_str())?;
+        && is_wanted(alloc, station, &Step::Load(weighing.tenths, 4, ""))?;
+    let request = request(alloc, vehicle, weighing)?;
+    let answer = response(alloc, station, weighing.at, request.as_str())?;
     Ok(is_quiet && is_response(answer.as_str(), "201 WEIGHING ")?)
 }
 
@@ -150,21 +148,34 @@ fn answers_each<D: Alter>(
     Ok(())
 }
 
+/// Asks for a purge.
+fn is_purged<D: Alter>(alloc: Global, station: &mut Station<RingWindow, D>) -> Result<bool, Fail> {
+    let purged = response(alloc, station, ASKED_AT, PURGE)?;
+    is_response(purged.as_str(), "200 PURGED 960")
+}
+
 /// Asks before and after a purge.
-fn keeps_and_purges<D: Alter + Drop>(
+fn keeps_and_purges<D: Alter>(
+    rt: &impl Abort,
+    alloc: Global,
+    station: &mut Station<RingWindow, D>,
+) -> Result<(), Fail> {
+    weighs_all(rt, alloc, station)?;
+    answers_each(rt, alloc, station, ALL)?;
+    assert!(rt; is_purged(alloc, station)?);
+    answers_each(rt, alloc, station, LEFT)
+}
+
+fn keeps_and_purges_over<D: Alter + Drop>(
     rt: &impl Abort,
     alloc: Global,
     conn: Connection<D>,
 ) -> Result<(), Fail> {
     let mut station = station(alloc, 10_000, store(conn)?)?;
-    weighs_all(rt, alloc, &mut station)?;
-    answers_each(rt, alloc, &mut station, ALL)?;
-    let purged = response(alloc, &mut station, ASKED_AT, PURGE)?;
-    assert!(rt; is_response(purged.as_str(), "200 PURGED 960")?);
-    answers_each(rt, alloc, &mut station, LEFT)
+    keeps_and_purges(rt, alloc, &mut station)
 }
 
 #[test]
 fn keeps_exports_and_purges_3000_entries(rt: HostRuntime) -> Result<(), Fail> {
-    keeps_and_purges(&rt, rt.alloc(), Connection::open_in_memory(rt.alloc())?)
+    keeps_and_purges_over(&rt, rt.alloc(), Connection::open_in_memory(rt.alloc())?)
 }

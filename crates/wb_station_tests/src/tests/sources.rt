@@ -39,45 +39,59 @@ fn fills_both_rooms(rt: &impl Abort, alloc: Global, sources: &mut ListSources) -
     let mut typed = [0u8; TERMINAL_ROOM];
     let taken = sources.terminal(&mut typed);
     assert!(rt; taken.count == TERMINAL_ROOM && taken.hung_up);
-    assert_eq!(rt; typed.as_slice(), bytes(alloc, TERMINAL_ROOM)?.as_slice());
+    assert!(rt; are_first_bytes(alloc, &typed)?);
     let mut request = [0u8; REQUEST_ROOM];
     assert_eq!(rt; sources.office(&mut request), Some(REQUEST_ROOM));
-    assert_eq!(rt; request.as_slice(), bytes(alloc, REQUEST_ROOM)?.as_slice());
+    assert!(rt; are_first_bytes(alloc, &request)?);
     Ok(())
+}
+
+/// Whether these are the first of the bytes that were handed in.
+fn are_first_bytes(alloc: Global, found: &[u8]) -> Result<bool, Fail> {
+    Ok(found == bytes(alloc, found.len())?.as_slice())
+}
+
+/// Whether an answer is kept as it was handed out.
+fn is_kept(answered: &Answered, typed: &[u8], request: &[u8]) -> bool {
+    match answered {
+        Answered::Terminal { bytes, hung_up } => *hung_up && bytes.as_slice() == typed,
+        Answered::Office(Some(bytes)) => bytes.as_slice() == request,
+        Answered::Moment(moment) => *moment == Moment::new(MORNING),
+        Answered::Converter(_) => true,
+        Answered::Office(None) => false,
+    }
+}
+
+fn are_kept(rt: &impl Abort, sources: &ListSources, typed: &[u8], request: &[u8]) {
+    let mut kept = 0usize;
+    for answered in sources.answered() {
+        assert!(rt; is_kept(answered, typed, request), "{kept}");
+        kept = kept.saturating_add(1);
+    }
+    assert_eq!(rt; kept, 5);
 }
 
 /// What was handed out is kept.
 fn keeps_both(rt: &impl Abort, alloc: Global, sources: &ListSources) -> Result<(), Fail> {
     let typed = bytes(alloc, TERMINAL_ROOM)?;
     let request = bytes(alloc, REQUEST_ROOM)?;
-    let mut kept = 0usize;
-    for answered in sources.answered() {
-        let is_kept = match answered {
-            Answered::Terminal { bytes, hung_up } => {
-                *hung_up && bytes.as_slice() == typed.as_slice()
-            }
-            Answered::Office(Some(bytes)) => bytes.as_slice() == request.as_slice(),
-            Answered::Moment(moment) => *moment == Moment::new(MORNING),
-            Answered::Converter(_) => true,
-            Answered::Office(None) => false,
-        };
-        assert!(rt; is_kept, "{kept}");
-        kept = kept.saturating_add(1);
-    }
-    assert_eq!(rt; kept, 5);
+    are_kept(rt, sources, typed.as_slice(), request.as_slice());
     Ok(())
+}
+
+fn hands_out(rt: &impl Abort, alloc: Global, sources: &mut ListSources) -> Result<(), Fail> {
+    assert!(rt; matches!(sources.converter(), Converter::Line(Reading::Load(9_170))));
+    fills_both_rooms(rt, alloc, sources)?;
+    assert_eq!(rt; sources.moment(), Moment::new(MORNING));
+    assert!(rt; matches!(sources.converter(), Converter::End));
+    keeps_both(rt, alloc, sources)
 }
 
 #[test]
 fn hands_out_what_there_is_room_for(rt: HostRuntime) -> Result<(), Fail> {
     let alloc = rt.alloc();
     for more in [0, 1, 300] {
-        let mut sources = sources(alloc, more)?;
-        assert!(rt; matches!(sources.converter(), Converter::Line(Reading::Load(9_170))));
-        fills_both_rooms(&rt, alloc, &mut sources)?;
-        assert_eq!(rt; sources.moment(), Moment::new(MORNING));
-        assert!(rt; matches!(sources.converter(), Converter::End));
-        keeps_both(&rt, alloc, &sources)?;
+        hands_out(&rt, alloc, &mut sources(alloc, more)?)?;
     }
     Ok(())
 }

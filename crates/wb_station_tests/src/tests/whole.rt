@@ -54,14 +54,16 @@ const RUBBISH: &[(u32, bool)] = &[(8_192, false), (8_193, true)];
 
 #[test]
 fn gives_up_on_a_head_past_8192_bytes(rt: HostRuntime) -> Result<(), Fail> {
+    let routes = Routes::new(rt.alloc())?;
     for (count, whole) in RUBBISH {
-        let routes = Routes::new(rt.alloc())?;
-        let rubbish = joined(rt.alloc(), "", "a", *count, "")?;
-        assert_eq!(rt;
-            is_whole(rt.alloc(), &routes, rubbish.as_slice())?,
-            *whole,
-            "{count}"
-        );
+        let found = is_rubbish_whole(rt.alloc(), &routes, *count)?;
+        assert_eq!(rt; found, *whole, "{count}");
     }
     Ok(())
+}
+
+/// Whether so many bytes of rubbish are judged.
+fn is_rubbish_whole(alloc: Global, routes: &Routes, count: u32) -> Result<bool, AllocError> {
+    let rubbish = joined(alloc, "", "a", count, "")?;
+    is_whole(alloc, routes, rubbish.as_slice())
 }

@@ -67,14 +67,17 @@ fn is_made_once<D: Disk + Drop>(
 
 #[test]
 fn makes_a_store_with_lists_in_it(rt: HostRuntime) -> Result<(), Fail> {
-    let alloc = rt.alloc();
+    let entries = entries(rt.alloc())?;
+    let spent = [(Key::new("K1").ok_or("key")?, 1)];
+    let disks = disks(rt.alloc(), u64::MAX, u64::MAX);
+    assert!(rt; is_made_once(rt.alloc(), disks, entries.as_slice(), &spent));
+    Ok(())
+}
+
+fn entries(alloc: Global) -> Result<Vec<Entry>, Fail> {
     let mut entries: Vec<Entry> = Vec::new(alloc);
     for row in ROWS {
         entries.push(entry(&row).ok_or("row")?)?;
     }
-    let mut spent: Vec<(Key, u32)> = Vec::new(alloc);
-    spent.push((Key::new("K1").ok_or("key")?, 1))?;
-    let disks = disks(alloc, u64::MAX, u64::MAX);
-    assert!(rt; is_made_once(alloc, disks, entries.as_slice(), spent.as_slice()));
-    Ok(())
+    Ok(entries)
 }

@@ -1,7 +1,7 @@
 //! Databases of version 1 that are migrated into empty ones, or refused; and stops of the disks of either.
 use super::calls::Call::{self, Appends, Counts, Finds};
 use super::calls::{Count, Look, Wanted, answered};
-use super::steps::{Disks, Step, closed, connected, disks, run};
+use super::steps::{Disks, Step, closed, connected, disks, one_stopped, run};
 use super::stops::leaves_the_one;
 use super::{FIRST, Row, SECOND};
 use sqlite::{Alter, Connection, Files};
@@ -279,12 +279,7 @@ fn stopped(alloc: Global, new: Disks) -> Result<Option<(bool, bool)>, Fail> {
 fn leaves_all_or_nothing(alloc: Global, of_log: bool) -> Result<[bool; 2], Fail> {
     let mut met = [false; 2];
     for calls in 0..1_000u64 {
-        let new = if of_log {
-            disks(alloc, calls, u64::MAX)
-        } else {
-            disks(alloc, u64::MAX, calls)
-        };
-        if let Some((is_done, has_all)) = stopped(alloc, new)? {
+        if let Some((is_done, has_all)) = stopped(alloc, one_stopped(alloc, of_log, calls))? {
             *met.get_mut(has_all as usize).ok_or("met")? = true;
             if is_done {
                 return if has_all {

@@ -37,6 +37,15 @@ pub(super) fn disks(alloc: Global, log: u64, db: u64) -> Disks {
     }
 }
 
+/// New disks, of which that of the log or that of the database fails each call after so many.
+pub(super) fn one_stopped(alloc: Global, of_log: bool, calls: u64) -> Disks {
+    if of_log {
+        disks(alloc, calls, u64::MAX)
+    } else {
+        disks(alloc, u64::MAX, calls)
+    }
+}
+
 /// A connection to disks, or the disks where it isn't had. A log of so many pages is copied into the database.
 pub(super) fn connected<D: Disk + Drop>(
     alloc: Global,

@@ -1,7 +1,7 @@
 //! Stops of either disk of a database while a store opens, appends and purges.
 use super::calls::Call::{self, Appends, Counts, Finds};
 use super::calls::{Count, Look, Wanted};
-use super::steps::{Disks, Step, disks, run};
+use super::steps::{Disks, Step, one_stopped, run};
 use super::{FIRST, SECOND};
 use sqlite_disk::Crash;
 use std::alloc::Global;
@@ -87,6 +87,20 @@ fn is_alone(
     leaves_the_one(alloc, disks, checkpoint_frames, answered, asked)
 }
 
+/// How many stages were answered on one disk that stops after so many calls, and whether a crash left what was answered and no more.
+fn stage_met(
+    alloc: Global,
+    of_log: bool,
+    checkpoint_frames: usize,
+    calls: u64,
+) -> Result<(usize, bool), Fail> {
+    let new = one_stopped(alloc, of_log, calls);
+    let (left, stages) = run(alloc, new, checkpoint_frames, &[Step::Open(RUN)]);
+    // A stop while the connection opens isn't the store's.
+    let is_alone = stages > 0 && is_alone(alloc, left, checkpoint_frames, stages)?;
+    Ok((stages, is_alone))
+}
+
 /// The stages after which a stop was met, and those after which some crash left what was answered and no more, over stops of one
 /// disk at each of its calls.
 fn stages_met(
@@ -97,15 +111,9 @@ fn stages_met(
     let mut stopped = [false; 6];
     let mut alone = [false; 6];
     for calls in 0..1_000u64 {
-        let new = if of_log {
-            disks(alloc, calls, u64::MAX)
-        } else {
-            disks(alloc, u64::MAX, calls)
-        };
-        let (left, stages) = run(alloc, new, checkpoint_frames, &[Step::Open(RUN)]);
+        let (stages, is_alone) = stage_met(alloc, of_log, checkpoint_frames, calls)?;
         *stopped.get_mut(stages).ok_or("stages")? = true;
-        // A stop while the connection opens isn't the store's.
-        if stages > 0 && is_alone(alloc, left, checkpoint_frames, stages)? {
+        if is_alone {
             *alone.get_mut(stages).ok_or("stages")? = true;
         }
         if stages == STAGES {
