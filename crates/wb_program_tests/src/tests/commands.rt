@@ -115,17 +115,16 @@ fn prints<D: Alter>(
     printed: &str,
 ) -> Result<(), Fail> {
     let mut writer = Vec::new(alloc);
-    match asked {
-        Asked::Check(wanted) => {
-            let answer = print_check(alloc, store, &mut writer);
-            assert_eq!(rt; answer, *wanted, "{printed}");
-        }
-        Asked::Export(what, wanted) => {
-            let answer = print_export(alloc, store, *what, &mut writer);
-            assert_eq!(rt; answer, *wanted, "{printed}");
-        }
-    }
-    assert_eq!(rt; str::from_utf8(writer.as_slice())?, printed);
+    let is_answered = match asked {
+        Asked::Check(wanted) => print_check(alloc, store, &mut writer) == *wanted,
+        Asked::Export(what, wanted) => print_export(alloc, store, *what, &mut writer) == *wanted,
+    };
+    assert!(rt; is_answered, "the answer at {printed}");
+    is_text(rt, writer.as_slice(), printed)
+}
+
+fn is_text(rt: &impl Abort, found: &[u8], wanted: &str) -> Result<(), Fail> {
+    assert_eq!(rt; str::from_utf8(found)?, wanted);
     Ok(())
 }
 
@@ -169,8 +168,11 @@ const REPORTED: &[(PrintFault, &str)] = &[
 #[test]
 fn reports_each_fault_by_its_line(rt: HostRuntime) -> Result<(), Fail> {
     for (fault, line) in REPORTED {
-        let said = format!(in rt.alloc(); "{fault}")?;
-        assert_eq!(rt; said.as_str(), *line);
+        is_text(
+            &rt,
+            format!(in rt.alloc(); "{fault}")?.as_str().as_bytes(),
+            line,
+        )?;
     }
     Ok(())
 }

@@ -212,11 +212,11 @@ fn keeps(
     let mut trace = b"r 9170 4\nt SI\nt I4\nt x\n".as_slice();
     let end = replay(alloc, Instrument::new(ROAD)?, &mut trace, &mut writer);
     assert_eq!(rt; end, wanted, "{writes} writes");
-    assert_eq!(rt;
-        str::from_utf8(writer.taken.as_slice())?,
-        printed,
-        "{writes} writes"
-    );
+    was_written(rt, writes, writer.taken.as_slice(), printed)
+}
+
+fn was_written(rt: &impl Abort, writes: usize, taken: &[u8], printed: &str) -> Result<(), Fail> {
+    assert_eq!(rt; str::from_utf8(taken)?, printed, "{writes} writes");
     Ok(())
 }
 
@@ -232,9 +232,12 @@ const REPORTED: &[(ReplayEnd, &str, u8)] = &[
 #[test]
 fn reports_what_ended_it(rt: HostRuntime) -> Result<(), Fail> {
     for (end, line, status) in REPORTED {
-        let said = format!(in rt.alloc(); "{end}")?;
-        assert_eq!(rt; said.as_str(), *line);
+        is_said(&rt, format!(in rt.alloc(); "{end}")?.as_str(), line);
         assert_eq!(rt; end.status(), *status, "{line}");
     }
     Ok(())
+}
+
+fn is_said(rt: &impl Abort, said: &str, line: &str) {
+    assert_eq!(rt; said, line);
 }
