@@ -83,16 +83,27 @@ def impls_of(text):
         yield it.start(), end_of_block(text, it.end() - 1), (type_name.split("::")[-1].strip(), trait.split("::")[-1].strip())
 
 
+def first_line(text, at):
+    """Where the lines begin that belong to the function at this place, with its attributes and its comments."""
+    start = text.rfind("\n", 0, at) + 1
+    while start:
+        above = text.rfind("\n", 0, start - 1) + 1
+        if not text[above:start].lstrip().startswith(("#[", "///")):
+            break
+        start = above
+    return start
+
+
 def functions_of(text):
     """The functions of a source that have a body."""
-    text = blanked(text)
+    written, text = text, blanked(text)
     impls, found = [*impls_of(text)], []
     for it in re.finditer(r"\bfn\s+(\w+)", text):
         opening = body_of(text, it.end())
         if opening is None or any(other.opening < it.start() < other.end for other in found):
             continue
         impl = next((named for first, last, named in impls if first < it.start() < last), ("", ""))
-        found.append(Function(it[1], impl, text.rfind("\n", 0, it.start()) + 1, opening, end_of_block(text, opening)))
+        found.append(Function(it[1], impl, first_line(written, it.start()), opening, end_of_block(text, opening)))
     return found
 
 
@@ -112,15 +123,19 @@ def module_of(file):
 def path_of(homes, file, key):
     """The path below the crate by which the prover names a plain function: a method's begins with the module of its type."""
     type_name, _, name = key
-    return [*homes.get(type_name, module_of(file)), type_name, name] if type_name else [*module_of(file), name]
+    if not type_name:
+        return [*module_of(file), name]
+    modules = homes.get(type_name, [])
+    module = module_of(file) if module_of(file) in modules or not modules else modules[0]
+    return [*module, type_name, name]
 
 
 def homes_of(folder):
-    """The module in which each type of the crate is declared: the prover names methods by it."""
+    """By the names of the crate's types, the modules in which one of that name is declared."""
     homes = {}
     for file in files_below(folder, ["src"]):
         for it in re.finditer(r"(?m)^\s*(?:pub(?:\(\w+\))? )?(?:struct|enum|union) (\w+)", blanked(read(f"{folder}/{file}"))):
-            homes[it[1]] = module_of(file)
+            homes.setdefault(it[1], []).append(module_of(file))
     return homes
 
 
@@ -143,13 +158,14 @@ def leave_contracts(crate, folder, keep=frozenset()):
 
 
 def leave_hole(crate, folder, path):
-    """Puts a hole in place of the proof of the function at this path."""
-    proofs, name = f"{folder}/proofs/{'/'.join(path)}", path[-1]
+    """Puts a hole in place of the proof of the function at this path, and takes away its proof as one that calls itself."""
+    above, name = f"{folder}/proofs/{'/'.join(path[:-1])}", path[-1]
+    shutil.rmtree(f"{above}/+{name}", ignore_errors=True)
     for it in ("Answers", "Invariants"):
-        if os.path.exists(f"{proofs}/{it}.antt"):
-            os.remove(f"{proofs}/{it}.antt")
+        if os.path.exists(f"{above}/{name}/{it}.antt"):
+            os.remove(f"{above}/{name}/{it}.antt")
     statement = f"use Rattle.{crate}.proofs.{'.'.join(path)}.Statement.{{statement}}\n"
-    write(f"{proofs}/Proof.antt", f"{statement}\npub {name}_spec : {{M : Type 1}} → statement M\n{name}_spec = ?\n")
+    write(f"{above}/{name}/Proof.antt", f"{statement}\npub {name}_spec : {{M : Type 1}} → statement M\n{name}_spec = ?\n")
 
 
 def copied(source, to):
