@@ -86,12 +86,13 @@ class Edit:
             raise ValueError("it changes no function's body and no constant that a function reads")
 
 
-def readers_of(word, folder):
-    found = set()
-    for file in files_below(folder, ["src"]):
-        text = blanked(read(f"{folder}/{file}"))
-        found |= {(file, it.key()) for it in functions_of(text) if re.search(rf"\b{word}\b", text[it.opening : it.end])}
-    return found
+def readers_of(constant, folder):
+    """The functions that a constant may be seen in: those that name it, and those that call one whose head names it."""
+    texts = {file: blanked(read(f"{folder}/{file}")) for file in files_below(folder, ["src"])}
+    functions = [(file, it, texts[file][it.start : it.opening], texts[file][it.opening : it.end]) for file in texts for it in functions_of(texts[file])]
+    named = re.compile(rf"\b{constant}\b")
+    seen = re.compile("|".join(rf"\b{it}\b" for it in [constant, *(function.name for _, function, head, _ in functions if named.search(head))]))
+    return {(file, it.key()) for file, it, head, body in functions if named.search(head) or seen.search(body)}
 
 
 def crates_listed():
