@@ -1,0 +1,174 @@
+"""The functions of Rattle's sources: where they stand, what is left of a source without their bodies, and a copy of a crate in which of a function
+only its contract is left. It needs python3 alone.
+"""
+import os
+import re
+import shutil
+
+PARTS = ("src", "specs", "proofs")
+COMMENT_OR_TEXT = re.compile(r"""//[^\n]*|/\*.*?\*/|b?"(?:\\.|[^"\\])*"|b?'(?:\\[^']*|[^'\\\n])'""", re.S)
+CLAUSE = re.compile(r"\b(?:requires|ensures)\s*\*?\s*\w*\s*$|\bghost\b\s*\w*\s*:?\s*\w*\s*=?\s*$")
+
+
+def read(path):
+    with open(path, encoding="utf-8") as it:
+        return it.read()
+
+
+def write(path, text):
+    os.makedirs(os.path.dirname(path), exist_ok=True)
+    with open(path, "w", encoding="utf-8") as it:
+        it.write(text)
+
+
+def files_below(folder, parts):
+    found = [f"{at}/{name}" for part in parts for at, _, names in os.walk(f"{folder}/{part}") for name in names]
+    return sorted(os.path.relpath(it, folder) for it in found)
+
+
+class Function:
+    """A function of a text: where it stands, and the names under which the prover speaks of it."""
+
+    def __init__(self, name, impl, start, opening, end):
+        self.name, self.start, self.opening, self.end = name, start, opening, end
+        self.type, self.trait = impl
+
+    def key(self):
+        return self.type, self.trait, self.name
+
+
+def blanked(text):
+    """The text with blanks in place of comments and literals, so that each place stays where it is."""
+    return COMMENT_OR_TEXT.sub(lambda it: re.sub(r"[^\n]", " ", it[0]), text)
+
+
+def end_of_block(text, opening):
+    depth = 0
+    for it in re.compile(r"[{}]").finditer(text, opening):
+        depth += 1 if it[0] == "{" else -1
+        if depth == 0:
+            return it.end()
+    return len(text)
+
+
+def body_of(text, at):
+    """Where the body of the function whose name ends at this place begins, past its clauses; none if it has no body."""
+    depth = 0
+    head = at
+    while at < len(text):
+        letter = text[at]
+        if letter in "([":
+            depth += 1
+        elif letter in ")]":
+            depth -= 1
+        elif letter == ";" and depth == 0:
+            return None
+        elif letter == "{":
+            if not CLAUSE.search(text, head, at) and depth == 0:
+                return at
+            at = end_of_block(text, at) - 1
+        at += 1
+    return None
+
+
+def impls_of(text):
+    """The blocks of `impl` and `trait`, each with its type and its trait, none where it has none."""
+    for it in re.finditer(r"(?m)^(?:pub(?:\(\w+\))? )?(?:unsafe )?trait (\w+)[^{;]*\{", text):
+        yield it.start(), end_of_block(text, it.end() - 1), ("", it[1])
+    for it in re.finditer(r"(?m)^(?:unsafe )?impl\b([^{;]*)\{", text):
+        head = it[1]
+        while re.search(r"<[^<>]*>", head):
+            head = re.sub(r"<[^<>]*>", "", head)
+        trait, _, type_name = head.split("where")[0].rpartition(" for ")
+        yield it.start(), end_of_block(text, it.end() - 1), (type_name.split("::")[-1].strip(), trait.split("::")[-1].strip())
+
+
+def first_line(text, at):
+    """Where the lines begin that belong to the function at this place, with its attributes and its comments."""
+    start = text.rfind("\n", 0, at) + 1
+    while start:
+        above = text.rfind("\n", 0, start - 1) + 1
+        if not text[above:start].lstrip().startswith(("#[", "///")):
+            break
+        start = above
+    return start
+
+
+def functions_of(text):
+    """The functions of a source that have a body."""
+    written, text = text, blanked(text)
+    impls, found = [*impls_of(text)], []
+    for it in re.finditer(r"\bfn\s+(\w+)", text):
+        opening = body_of(text, it.end())
+        if opening is None or any(other.opening < it.start() < other.end for other in found):
+            continue
+        impl = next((named for first, last, named in impls if first < it.start() < last), ("", ""))
+        found.append(Function(it[1], impl, first_line(written, it.start()), opening, end_of_block(text, opening)))
+    return found
+
+
+def contracts_of(text):
+    """A source without comments and without the bodies of its functions: what their contracts say."""
+    parts, at = [], 0
+    for it in functions_of(text):
+        parts.append(text[at : it.opening])
+        at = it.end
+    return re.sub(r"(?m)^\s*//[^\n]*\n", "", "".join([*parts, text[at:]]))
+
+
+def module_of(file):
+    return [it for it in file.removeprefix("src/").removesuffix(".rt").split("/") if it not in ("lib", "mod")]
+
+
+def path_of(homes, file, key):
+    """The path below the crate by which the prover names a plain function: a method's begins with the module of its type."""
+    type_name, _, name = key
+    if not type_name:
+        return [*module_of(file), name]
+    modules = homes.get(type_name, [])
+    module = module_of(file) if module_of(file) in modules or not modules else modules[0]
+    return [*module, type_name, name]
+
+
+def homes_of(folder):
+    """By the names of the crate's types, the modules in which one of that name is declared."""
+    homes = {}
+    for file in files_below(folder, ["src"]):
+        for it in re.finditer(r"(?m)^\s*(?:pub(?:\(\w+\))? )?(?:struct|enum|union) (\w+)", blanked(read(f"{folder}/{file}"))):
+            homes.setdefault(it[1], []).append(module_of(file))
+    return homes
+
+
+def is_plain(function, text):
+    """Whether the function has a name of its own and a body that no type is made of: it is no method of a trait or its impl, and no constant function."""
+    head = text[function.start : function.opening]
+    return not function.trait and not re.search(r"\bconst\s+(unsafe\s+)?fn\b|->\s*impl\b", head)
+
+
+def leave_contracts(crate, folder, keep=frozenset()):
+    """Of each plain function of the copy but those to keep, leaves the contract alone: its body does nothing, and its proof is a hole."""
+    homes = homes_of(folder)
+    for file in files_below(folder, ["src"]):
+        text = read(f"{folder}/{file}")
+        for it in reversed(functions_of(text)):
+            if is_plain(it, text) and (file, it.key()) not in keep:
+                text = f"{text[: it.opening]}{{\n    unreachable!()\n}}{text[it.end :]}"
+                leave_hole(crate, folder, path_of(homes, file, it.key()))
+        write(f"{folder}/{file}", text)
+
+
+def leave_hole(crate, folder, path):
+    """Puts a hole in place of the proof of the function at this path, and takes away its proof as one that calls itself."""
+    above, name = f"{folder}/proofs/{'/'.join(path[:-1])}", path[-1]
+    shutil.rmtree(f"{above}/+{name}", ignore_errors=True)
+    for it in ("Answers", "Invariants"):
+        if os.path.exists(f"{above}/{name}/{it}.antt"):
+            os.remove(f"{above}/{name}/{it}.antt")
+    statement = f"use Rattle.{crate}.proofs.{'.'.join(path)}.Statement.{{statement}}\n"
+    write(f"{above}/{name}/Proof.antt", f"{statement}\npub {name}_spec : {{M : Type 1}} → statement M\n{name}_spec = ?\n")
+
+
+def copied(source, to):
+    for part in PARTS:
+        if os.path.isdir(f"{source}/{part}"):
+            shutil.copytree(f"{source}/{part}", f"{to}/{part}")
