@@ -1,11 +1,12 @@
 #!/usr/bin/env python3
 """Weighs the vehicle that is on the bridge, or voids the open weighing of a plate, and prints the ticket or slip.
 
-A weighing has a key of its own, made here if none is given. The request is sent again with this key until it is answered,
-so that it is stored once, however often the connection is cut. If this program is stopped before, it is called again with the
-key that it printed on standard error. WEIGHBRIDGE is the office, http://127.0.0.1:8080 if it isn't set.
+A weighing has a key of its own, made here if none is given. The request is sent again with this key until it is answered, for 30 seconds
+at most, or those of WEIGHBRIDGE_SECONDS: so it is stored once, however often the connection is cut, and no other vehicle is weighed in its
+place. If this program is stopped before, it is called again with the key that it printed on standard error, as long as the vehicle is on
+the bridge. WEIGHBRIDGE is the office, http://127.0.0.1:8080 if it isn't set.
 
-Status: 0 the weighing is stored and its text was printed, 1 refused, for the reason on standard error, 2 wrong words.
+Status: 0 the weighing is stored and its text was printed, 1 refused, for the reason on standard error, 2 wrong words, 3 no answer in time.
 """
 
 import argparse
@@ -17,12 +18,14 @@ import time
 import urllib.parse
 
 OFFICE = os.environ.get("WEIGHBRIDGE", "http://127.0.0.1:8080").removeprefix("http://")
+SECONDS = float(os.environ.get("WEIGHBRIDGE_SECONDS", "30"))
+END = time.monotonic() + SECONDS
 REFUSALS = os.path.join(os.path.dirname(os.path.abspath(__file__)), "refusals.txt")
 
 
 def ask(target, form):
     """The status and the text of the answer; the status is 0 if it didn't come whole."""
-    connection = http.client.HTTPConnection(OFFICE, timeout=60)
+    connection = http.client.HTTPConnection(OFFICE, timeout=max(1.0, END - time.monotonic()))
     try:
         connection.request("POST", target, urllib.parse.urlencode(form))
         response = connection.getresponse()
@@ -52,6 +55,11 @@ while True:
     status, text = ask(target, form)
     if 0 < status < 500:
         break
+    if time.monotonic() >= END:
+        print(f"no answer for {SECONDS:g} s, so it isn't known whether the weighing is stored", file=sys.stderr)
+        print(f"if the vehicle is still on the bridge: {sys.argv[0]} {form['kind']} {form['plate']} {form['key']}", file=sys.stderr)
+        print(f"if it has left, don't: look for the key {form['key']} in the office's journal.csv", file=sys.stderr)
+        sys.exit(3)
     print(f"no answer yet ({status:03}); asking again", file=sys.stderr, flush=True)
     time.sleep(1)
 print(text if status == 201 else reason(text), end="", file=sys.stdout if status == 201 else sys.stderr)

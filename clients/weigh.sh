@@ -3,11 +3,12 @@
 #
 # Usage: weigh.sh first|second|single|void PLATE [KEY]
 #
-# A weighing has a key of its own, made here if none is given. The request is sent again with this key until it is answered,
-# so that it is stored once, however often the connection is cut. If this program is stopped before, it is called again with the
-# key that it printed on standard error. WEIGHBRIDGE is the office, http://127.0.0.1:8080 if it isn't set. Needs curl.
+# A weighing has a key of its own, made here if none is given. The request is sent again with this key until it is answered, for 30 seconds
+# at most, or those of WEIGHBRIDGE_SECONDS: so it is stored once, however often the connection is cut, and no other vehicle is weighed in its
+# place. If this program is stopped before, it is called again with the key that it printed on standard error, as long as the vehicle is on
+# the bridge. WEIGHBRIDGE is the office, http://127.0.0.1:8080 if it isn't set. Needs curl.
 #
-# Status: 0 the weighing is stored and its text was printed, 1 refused, for the reason on standard error, 2 wrong words.
+# Status: 0 the weighing is stored and its text was printed, 1 refused, for the reason on standard error, 2 wrong words, 3 no answer in time.
 set -eu
 case "${1-} $#" in
     first\ [23] | second\ [23] | single\ [23] | void\ [23]) ;;
@@ -24,10 +25,13 @@ answer=$(mktemp)
 trap 'rm -f "$answer"' EXIT
 trap 'exit 1' INT TERM
 end_of_head=$(printf '^\r$')
+seconds=${WEIGHBRIDGE_SECONDS:-30}
+end=$(($(date +%s) + seconds))
 
 # Sends the request once, and sets the status, 000 if there was no whole answer, and the text. curl takes a cut head for a whole one.
 ask() {
-    status=$(curl --silent --http1.1 --header 'Expect:' --max-time 60 --include --output "$answer" --write-out '%{http_code}' \
+    left=$((end - $(date +%s)))
+    status=$(curl --silent --http1.1 --header 'Expect:' --max-time "$((left > 1 ? left : 1))" --include --output "$answer" --write-out '%{http_code}' \
         --data-urlencode "key=$key" --data-urlencode "plate=$plate" --data-urlencode "kind=$kind" \
         "${WEIGHBRIDGE:-http://127.0.0.1:8080}/$target") && grep -q "$end_of_head" "$answer" || status=000
     text=$(sed "1,/$end_of_head/d" "$answer")
@@ -42,6 +46,12 @@ reason() {
 echo "key $key" >&2
 ask
 while [ "$status" = 000 ] || [ "$status" -ge 500 ]; do
+    if [ "$(date +%s)" -ge "$end" ]; then
+        echo "no answer for $seconds s, so it isn't known whether the weighing is stored" >&2
+        echo "if the vehicle is still on the bridge: $0 $kind $plate $key" >&2
+        echo "if it has left, don't: look for the key $key in the office's journal.csv" >&2
+        exit 3
+    fi
     echo "no answer yet ($status); asking again" >&2
     sleep 1
     ask
