@@ -9,7 +9,7 @@ const ENTRY: &str =
     "INSERT INTO journal VALUES (5, 'K5', 1, 'AB-12', 1741593600, 18340, NULL, 20, 60000, 'WB01', '', '')";
 
 /// What is done to the tables of a store with that entry, so that it isn't opened again, and then a count of rows.
-const FOREIGN: [(&str, &str, i64); 25] = [
+const FOREIGN: [(&str, &str, i64); 26] = [
     ("DROP TABLE spent", "SELECT count(*) FROM about", 1),
     (
         "DROP TABLE about; DROP TABLE journal; DROP TABLE spent",
@@ -23,6 +23,11 @@ const FOREIGN: [(&str, &str, i64); 25] = [
     ),
     (
         "DROP TABLE about; CREATE VIEW about AS SELECT 'version' AS name, 2 AS value",
+        "SELECT count(*) FROM journal",
+        1,
+    ),
+    (
+        "DROP TABLE about; CREATE VIEW about AS SELECT 'version' AS name, 1 AS value",
         "SELECT count(*) FROM journal",
         1,
     ),

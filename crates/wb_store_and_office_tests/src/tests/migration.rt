@@ -81,7 +81,7 @@ type Case = (
     Result<&'static [Call], StoreFault>,
 );
 
-const CASES: [Case; 16] = [
+const CASES: [Case; 20] = [
     (&[TABLES, DAY], &[], Ok(BOTH)),
     (
         &[
@@ -97,6 +97,15 @@ const CASES: [Case; 16] = [
         &["CREATE TABLE other (name TEXT)"],
         Ok(BOTH),
     ),
+    (
+        &[
+            TABLES,
+            DAY,
+            "CREATE TABLE note (number INTEGER REFERENCES journal (number)) STRICT",
+        ],
+        &[],
+        Ok(BOTH),
+    ),
     (&[TABLES, PURGED], &[], Ok(BOTH_AFTER)),
     (&[TABLES], &[], Ok(NOTHING)),
     (&[], &[], Err(StoreFault::NotVersion1)),
@@ -107,6 +116,26 @@ const CASES: [Case; 16] = [
     ),
     (
         &[TABLES, DAY, "DROP TABLE spent"],
+        &[],
+        Err(StoreFault::Foreign),
+    ),
+    (
+        &[TABLES, DAY, "DROP TABLE journal"],
+        &[TABLES],
+        Err(StoreFault::Foreign),
+    ),
+    (
+        &[TABLES, DAY, "DROP TABLE about"],
+        &[],
+        Err(StoreFault::Foreign),
+    ),
+    (
+        &[
+            TABLES,
+            DAY,
+            "DROP TABLE about",
+            "CREATE VIEW about AS SELECT 'version' AS name, 2 AS value",
+        ],
         &[],
         Err(StoreFault::Foreign),
     ),
