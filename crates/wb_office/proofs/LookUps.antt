@@ -1,5 +1,5 @@
 -- Calls of the store that only read it, one after the other.
-use Rattle.std.proofs.Common.{◌≡◌, ◌∙◌, ap, sym, refl, Bool, true, false, ◌||◌, List, Result, Ok, Err, MatchResult}
+use Rattle.std.proofs.Common.{◌≡◌, ◌∙◌, inl, inr, ap, sym, refl, Bool, true, false, ◌||◌, List, Result, Ok, Err, MatchResult}
 use Rattle.wb_office.proofs.Common.{Ghosts, EntryParts, StoreFault, Closed, Disk, Memory, closed_by, IsHonest, StoreView, StoreStands, Closes, Keeps, SpentKey}
 use Rattle.wb_office.specs.helpers.LookUps.{LooksUpInStore}
 
@@ -33,6 +33,7 @@ module _ {D : Type 0} (g : Ghosts D) where
     keeps = record { stands = l.keeps.stands; leaves = l.keeps.leaves; known = l.keeps.known };
     closes = record {
       closed = ((λ e. l.closes.closed.0 (is_same_fault X f e)), λ e. is_same_fault Y f (l.closes.closed.1 e));
+      cause = l.closes.cause;
       still = l.closes.still;
       closes = l.closes.closes;
       honest = l.closes.honest;
@@ -45,6 +46,7 @@ module _ {D : Type 0} (g : Ghosts D) where
     keeps = record { stands = l.keeps.stands; leaves = l.keeps.leaves; known = l.keeps.known };
     closes = record {
       closed = ((λ e. ok_is_no_fault y e), λ e. ok_is_no_fault x (l.closes.closed.1 e));
+      cause = tt;
       still = l.closes.still;
       closes = l.closes.closes;
       honest = l.closes.honest;
@@ -57,6 +59,7 @@ module _ {D : Type 0} (g : Ghosts D) where
     keeps = record { stands = l.keeps.stands; leaves = l.keeps.leaves; known = λ es ks s h e. absurd (cc e) };
     closes = record {
       closed = ((λ e. absurd (cc e)), λ e. ok_is_no_fault {X = X} x (l.closes.closed.1 e));
+      cause = inr (inr (inl refl));
       still = l.closes.still;
       closes = l.closes.closes ∙ sym (or_none _);
       honest = l.closes.honest;
@@ -78,6 +81,7 @@ module _ {D : Type 0} (g : Ghosts D) where
     };
     closes = record {
       closed = ((λ e. sym first.closes.closes ∙ next.closes.closed.0 e), λ e. next.closes.closed.1 (first.closes.closes ∙ e));
+      cause = next.closes.cause;
       still = λ e. ok_is_no_fault {X = X} x (first.closes.closed.1 e);
       closes = next.closes.closes ∙ ap (λ was. closed_by was r) first.closes.closes;
       honest = λ h. first.closes.honest (next.closes.honest h);

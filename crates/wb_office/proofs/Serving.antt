@@ -1,11 +1,12 @@
 -- How calls of the store serve a weighing or void.
-use Rattle.std.proofs.Common.{ℕ, ◌≡◌, ◌≢◌, ◌∙◌, ◌↔◌, inl, sym, ap, Bool, true, false, ◌||◌, not, List, [], ◌∷◌, ◌++◌, IfErr, IfOk, IsOk, OnErr, Option, Some, None, is_some, unwrap_or, Result, Ok, Err, refl, true≢false}
+use Rattle.std.proofs.Common.{ℕ, ◌≡◌, ◌≢◌, ◌∙◌, ◌↔◌, inl, inr, subst, sym, ap, Bool, true, false, ◌||◌, not, List, [], ◌∷◌, ◌++◌, IfErr, IfOk, IsOk, OnErr, Option, Some, None, is_some, unwrap_or, Result, Ok, Err, refl, true≢false}
 use Rattle.wb_office.proofs.Common.{Ghosts, EntryParts, is_void_kind, open_entry, StoreFault, Closed, Foreign, Memory, is_disk, IsHonest, StoreView, StoreStands, LeavesEither, LeavesOnly, IsNext, SpentKey, Refusal, Request, Content, answer_by_verdict, asking, entries_after, is_marked, nothing, outcome_of, spent_by_outcome, entry_content, Situation, IsOnLists, holds_of, AsksFor, IsAccepted, IsOnScale, IsNow, Marks, Serves, fault_of_refusal, is_of_store, is_store_refusal, content_of, content_or_refusal, Wanted, HasBound, IsWanted, wanted, Verdict, accepted, verdict, IsWeighingWanted, wanted_by}
 use Rattle.std.specs.Result.{IsErrAnd}
 use Rattle.wb_scale.specs.State.{State}
 use Rattle.wb_events.specs.declared.answer.Answer.{Answer}
 use Rattle.wb_office.specs.declared.judging.Asked.{Asked}
 use Rattle.wb_events.specs.declared.refusal.Refusal.TheVariants.{Store}
+use Rattle.wb_store.specs.Versions.{IsOfCall}
 use Rattle.wb_office.specs.Serves.{is_closed_after}
 use Rattle.wb_office.proofs.LookUps.{Reads, ok_is_no_fault, stood}
 
@@ -115,6 +116,7 @@ module _ {D : Type 0} (g : Ghosts D) (at : ℕ) (IsWanted : Situation → Wanted
     kept = λ es ks s h p o. absurd (true≢false (sym p ∙ plain));
     leaves = λ w n s h want is db may. inl (reads.keeps.leaves w.entries w.spent s h db may);
     known = λ es ks s h e. plain_no_fault Foreign r plain e;
+    cause = λ f e. plain_no_fault f r plain e;
     closed = ((λ e. plain_no_fault Closed r plain e), λ e. ok_is_no_fault {X = X} x (reads.closes.closed.1 e));
     still = λ e. ok_is_no_fault {X = X} x (reads.closes.closed.1 e);
     closes = reads.closes.closes ∙ sym (plain_closes _ r plain);
@@ -130,6 +132,7 @@ module _ {D : Type 0} (g : Ghosts D) (at : ℕ) (IsWanted : Situation → Wanted
     kept = λ es ks s h p o. (reads.keeps.stands es ks s h o, reads.keeps.leaves es ks s h);
     leaves = λ w n s h want is db may. inl (reads.keeps.leaves w.entries w.spent s h db may);
     known = λ es ks s h e. reads.keeps.known es ks s h (is_same_fault f Foreign e);
+    cause = λ h e. subst IsOfCall (is_same_fault f h e) reads.closes.cause;
     closed = ((λ e. reads.closes.closed.0 (is_same_refusal f e)), λ e. is_that_refusal f (reads.closes.closed.1 e));
     still = reads.closes.still;
     closes = reads.closes.closes;
@@ -146,6 +149,7 @@ module _ {D : Type 0} (g : Ghosts D) (at : ℕ) (IsWanted : Situation → Wanted
     kept = λ es ks s h p o. (stood g reads s h, reads.keeps.leaves es ks s h);
     leaves = λ w n s h want is db may. inl (reads.keeps.leaves w.entries w.spent s h db may);
     known = λ es ks s h e. absurd (cc (is_same_fault Memory Foreign e));
+    cause = λ h e. subst IsOfCall (is_same_fault Memory h e) (inr (inr (inl refl)));
     closed = ((λ e. absurd (cc (is_same_fault Memory Closed e))), λ e. ok_is_no_fault {X = X} x (reads.closes.closed.1 e));
     still = λ e. ok_is_no_fault {X = X} x (reads.closes.closed.1 e);
     closes = reads.closes.closes ∙ sym (or_false _);
@@ -179,6 +183,7 @@ module _ {D : Type 0} (g : Ghosts D) (old new : StoreView D) (change : Change) (
     pub leaves : (es : List EntryParts) (ks : List SpentKey) → StoreStands g old es ks → change.may es ks → IsHonest g new
         → LeavesEither g new es ks (change.entries es ks) (change.spent es ks)
     pub known : r ≢ Err (Store Foreign)
+    pub cause : (f : StoreFault) → r ≡ Err (Store f) → IsOfCall f
     pub closed : (r ≡ Err (Store Closed)) ↔ (old.is_closed ≡ true)
     pub refused : IfErr r (λ why. is_of_store why ≡ true)
     pub still : old.is_closed ≡ true → new ≡ old
@@ -220,6 +225,7 @@ module _ {D : Type 0} (g : Ghosts D) (at : ℕ) (IsWanted : Situation → Wanted
         let lists = this.all want is in
         rw (lists.0, lists.1) (made.leaves w.entries w.spent (stood g reads s (made.honest h)) this.may h);
     known = λ es ks s h e. made.known e;
+    cause = λ f e. plain_no_fault f (Ok _) refl e;
     closed = ((λ e. plain_no_fault Closed (Ok _) refl e), λ e. ok_is_no_fault {X = X} x (reads.closes.closed.1 e));
     still = λ e. ok_is_no_fault {X = X} x (reads.closes.closed.1 e);
     closes = made.closes ∙ reads.closes.closes;
@@ -240,6 +246,7 @@ module _ {D : Type 0} (g : Ghosts D) (at : ℕ) (IsWanted : Situation → Wanted
         let lists = this.all want is in
         rw (lists.0, lists.1) (made.leaves w.entries w.spent (stood g reads s (made.honest h)) this.may h);
     known = λ es ks s h e. made.known e;
+    cause = made.cause;
     closed = ((λ e. sym reads.closes.closes ∙ made.closed.0 e), λ e. made.closed.1 (reads.closes.closes ∙ e));
     still = λ e. ok_is_no_fault {X = X} x (reads.closes.closed.1 e);
     closes = made.closes ∙ ap (λ was. is_closed_after was (Err why)) reads.closes.closes;
@@ -278,6 +285,7 @@ serves_weighing g asked request same bound served = record {
   kept = served.kept;
   leaves = λ w n s h want is. served.leaves w n s h want (is.is ∙ same w is.bound);
   known = served.known;
+  cause = served.cause;
   closed = served.closed;
   still = served.still;
   closes = served.closes;

@@ -5,13 +5,13 @@
 -- store stands for the lists that they leave (`judged`). So each request is one turn of a course. One that is answered 15 left the
 -- lists as they were (`kept`), or its disk failed; then, and at any stop, an opening finds the lists before it or those after it
 -- (`leaves`). In a course it was made or it wasn't.
-use Rattle.wb_office.proofs.Common.{Ghosts, AllWeighed, AnsweredAgain, FullAtLastNumber, KeepsPartners, KeyDecides, NumbersRun, OneEntryPerKey, WithinCapacity, ClosingsHavePartners, FirstsClosedOnce, KeptForItsTime, RefusalsChangeNothing, StaysSound, TicketGivenAgain, AnsweredAfterStops, RepeatedOverMigration}
+use Rattle.wb_office.proofs.Common.{Ghosts, AllWeighed, AnsweredAgain, FullAtLastNumber, KeepsPartners, KeyDecides, NumbersRun, OneEntryPerKey, WithinCapacity, ClosingsHavePartners, FirstsClosedOnce, KeptForItsTime, RefusalsChangeNothing, StaysSound, TicketGivenAgain, AnsweredAfterStops, RepeatedOverMigration, TicketOverMigration}
 use Rattle.wb_office.proofs.Verdicts.{key_decides}
 use Rattle.wb_office.proofs.courses.AcceptedEntries.{full_for_closing}
 use Rattle.wb_office.proofs.courses.ClosedWeighings.{closings_have_partners, firsts_closed_once}
 use Rattle.wb_office.proofs.courses.KeptEntries.{kept_for_its_time}
 use Rattle.wb_office.proofs.courses.Numbers.{numbers_run}
-use Rattle.wb_office.proofs.courses.OverMigration.{repeated_over_migration}
+use Rattle.wb_office.proofs.courses.OverMigration.{repeated_over_migration, ticket_over_migration}
 use Rattle.wb_office.proofs.courses.Places.{keeps_partners, within_capacity}
 use Rattle.wb_office.proofs.courses.Refusals.{refusals_change_nothing}
 use Rattle.wb_office.proofs.courses.RepeatedRequests.{answered_again}
@@ -41,9 +41,14 @@ law_of_known_keys = key_decides
 pub law_of_stops : {D : Type 0} (g : Ghosts D) → AnsweredAfterStops g
 law_of_stops g = answered_after_stops g
 
--- An entry that was accepted before a migration is repeated after it when its key is asked again, with the same text but for digest lines.
+-- A weighing or void that is asked again after a migration: an entry of its key is repeated, with the same text but for digest lines; a key that was purged
+-- before is refused as gone; another is judged anew.
 pub law_of_migration : RepeatedOverMigration
 law_of_migration = repeated_over_migration
+
+-- A ticket that was given by its number before a migration is given after it, with the same text but for digest lines.
+pub law_of_migrated_tickets : TicketOverMigration
+law_of_migrated_tickets = ticket_over_migration
 
 -- An accepted entry has the next number, and no request but an accepted one takes a number.
 pub law_of_numbers : NumbersRun

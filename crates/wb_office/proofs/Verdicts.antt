@@ -37,7 +37,7 @@ unfolding verdict
 by_newness a none ungone = rw (none, ungone, none) refl
 
 -- an entry of the key that was spent isn't stored
-by_gone : (a : Asking) → key_gone a ≡ true → (o : Option EntryParts) → entry_by_key a.now.entries a.key ≡ o → ((e : EntryParts) → entry_by_key a.now.entries a.key ≡ Some e → key_gone a ≡ false) → verdict a ≡ refused refusal.Gone
+pub by_gone : (a : Asking) → key_gone a ≡ true → (o : Option EntryParts) → entry_by_key a.now.entries a.key ≡ o → ((e : EntryParts) → entry_by_key a.now.entries a.key ≡ Some e → key_gone a ≡ false) → verdict a ≡ refused refusal.Gone
 by_gone a spent (Some e) found unspent = absurd (true≢false (sym spent ∙ unspent e found))
 by_gone a spent None none unspent = by_spent a none spent
 

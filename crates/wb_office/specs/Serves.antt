@@ -12,6 +12,7 @@ use Rattle.wb_store.specs.Faults.{is_disk}
 use Rattle.wb_store.specs.Journal.{IsHonest, StoreView, StoreStands}
 use Rattle.wb_store.specs.Keeping.{LeavesEither, LeavesOnly}
 use Rattle.wb_store.specs.Rows.{SpentKey}
+use Rattle.wb_store.specs.Versions.{IsOfCall}
 use Rattle.wb_events.specs.declared.answer.Answer.{Answer}
 use Rattle.wb_events.specs.declared.refusal.Refusal.{Refusal}
 use Rattle.wb_events.specs.declared.refusal.Refusal.TheVariants.{Store}
@@ -75,6 +76,8 @@ module _ {D : Type 0} (g : Ghosts D) (old new : StoreView D) (before after : Sta
         → LeavesEither g new w.entries w.spent want.entries want.spent
     -- the rows of a store that stands are never called Foreign
     pub known : (es : List EntryParts) (ks : List SpentKey) → StoreStands g old es ks → IsHonest g new → result ≢ Err (Store Foreign)
+    -- no fault is that of an opening, a creation, a reading of version 1 or a migration
+    pub cause : (f : StoreFault) → result ≡ Err (Store f) → IsOfCall f
     -- a closed store is answered Closed, and nothing else is
     pub closed : (result ≡ Err (Store Closed)) ↔ (old.is_closed ≡ true)
     pub still : old.is_closed ≡ true → new ≡ old

@@ -8,6 +8,8 @@ ghost use Rattle.wb_program.specs.CheckAndExports.{export_text, finding_line, is
 ghost use Rattle.wb_program.specs.declared.commands.PrintFault.TheVariants as fault;
 ghost use Rattle.wb_store.specs.Journal.{IsHonest, StoreStands};
 ghost use Rattle.wb_store.specs.Rows.{SpentKey};
+ghost use Rattle.wb_store.specs.Versions.{IsOfCall};
+ghost use Rattle.wb_store.specs.declared.fault.StoreFault.{StoreFault as Fault};
 
 use crate::printing::write_bytes;
 use itoa::Buffer;
@@ -60,6 +62,7 @@ pub fn print_check<D: Alter, O: Write>(
     ensures refused { IfErr result (λ f. f ≢ fault.Write
         → O.contents writer.new ≡ O.contents writer.old) }
     ensures sound { IfErr result (λ f. f ≢ fault.Damaged) }
+    ensures cause { IfErr result (λ f. (of : Fault) → f ≡ fault.Store of → IsOfCall of) }
 {
     let entries = match store.entries(alloc) {
         Ok(entries) => entries,
@@ -141,6 +144,7 @@ pub fn print_export<D: Alter, O: Write>(
         → store.new.is_closed ≡ false → StoreStands D.Store store.new entries spent }
     ensures refused { IfErr result (λ f. f ≢ fault.Write
         → O.contents writer.new ≡ O.contents writer.old) }
+    ensures cause { IfErr result (λ f. (of : Fault) → f ≡ fault.Store of → IsOfCall of) }
 {
     let entries = match store.entries(alloc) {
         Ok(entries) => entries,
@@ -157,6 +161,7 @@ fn exported(alloc: Global, what: What, entries: &[Entry]) -> Result<CsvText, Pri
     ensures damaged { IsRising entries.now
         → IfErr result (λ f. f ≡ fault.Damaged → export_text what entries.now ≡ None) }
     ensures unwritten { IfErr result (λ f. f ≢ fault.Write) }
+    ensures made { IfErr result (λ f. (of : Fault) → f ≢ fault.Store of) }
 {
     match what {
         What::Journal => made(journal_text(alloc, entries)),

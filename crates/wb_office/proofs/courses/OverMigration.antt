@@ -1,6 +1,6 @@
 -- A request whose key was accepted before a migration, asked again after it.
-use Rattle.std.proofs.Common.{◌≡◌, ◌∙◌, sym, ap, ℕ, Bool, true, false, true≢false, inl, inr, not, ◌&&◌, ◌||◌, if◌then◌else◌, List, [], ◌∷◌, length, map, Option, Some, None, refl}
-use Rattle.wb_office.proofs.Common.{find, is_none, option_map, EntryParts, Among, find-among, finding, Sound, sound-sealed, is_sound_entry, is_second_kind, is_partner, partner_in, with_number, IsRising, entry_by_key, has_key, answer_by_verdict, holds_of, is_damaged_entry, is_other, IsRepeatedAlike, RepeatedOverMigration, repeated, verdict}
+use Rattle.std.proofs.Common.{◌≡◌, ◌∙◌, sym, ap, ℕ, Bool, true, false, true≢false, inl, inr, not, ◌&&◌, ◌||◌, ◌==◌, if◌then◌else◌, List, [], ◌∷◌, length, map, Option, Some, None, refl}
+use Rattle.wb_office.proofs.Common.{find, is_none, option_map, EntryParts, Among, find-among, finding, Sound, sound-sealed, is_sound_entry, is_second_kind, is_partner, partner_in, with_number, IsRising, entry_by_key, has_key, answer_by_verdict, holds_of, is_damaged_entry, is_other, is_spent, IsRepeatedAlike, IsTicketAlike, RepeatedOverMigration, TicketOverMigration, repeated, verdict}
 use Rattle.std.specs.Prelude.{option_and_then}
 use Rattle.wb_journal.proofs.Theorems.{law_of_fields}
 use Rattle.wb_journal.proofs.offered.Chained.{chained-rising}
@@ -9,9 +9,10 @@ use Rattle.wb_journal.specs.Chaining.{chained}
 use Rattle.wb_journal.specs.Check.{finding_in_v1, is_faulty_v1}
 use Rattle.wb_journal.specs.Digest.{is_sound_v1}
 use Rattle.wb_journal.specs.LawsOfChain.{but_digests}
-use Rattle.wb_office.proofs.FoundEntries.{find_none, found_by_number, is_some_same, none_some}
+use Rattle.wb_office.proofs.FoundEntries.{find_none, found_by_number, found_unspent, is_some_same, none_some}
 use Rattle.wb_office.proofs.Members.{none_passes}
-use Rattle.wb_office.proofs.Verdicts.{by_repetition}
+use Rattle.wb_office.specs.Answer.{makes_a_ticket}
+use Rattle.wb_office.proofs.Verdicts.{by_gone, by_newness, by_other, by_repetition}
 use Rattle.wb_office.proofs.courses.RepeatedRequests.{not_damaged, of_second}
 use Rattle.wb_office.proofs.courses.Stops.{of_verdict}
 
@@ -23,16 +24,17 @@ chained_sound o [] x m = absurd m
 chained_sound o (e ∷ es) x (inl same) = sound-sealed (with_link e (previous_after o e.number)) x same
 chained_sound o (e ∷ es) x (inr m) = chained_sound (Some (linked_after o e)) es x m
 
--- a key finds the same entry but for digests
-key_alike : (key : List ℕ) (us xs : List EntryParts) → map but_digests us ≡ map but_digests xs → option_map but_digests (entry_by_key us key) ≡ option_map but_digests (entry_by_key xs key)
-key_alike key us xs same = less us ∙ ap (λ zs. entry_by_key zs key) same ∙ sym (less xs)
+-- a test that looks at no digest finds the same entry but for digests
+found_alike : (p : EntryParts → Bool) → ((z : EntryParts) → p (but_digests z) ≡ p z) → (us xs : List EntryParts) → map but_digests us ≡ map but_digests xs
+    → option_map but_digests (find p us) ≡ option_map but_digests (find p xs)
+found_alike p blind us xs same = less us ∙ ap (find p) same ∙ sym (less xs)
   where
-    less : (zs : List EntryParts) → option_map but_digests (entry_by_key zs key) ≡ entry_by_key (map but_digests zs) key
+    less : (zs : List EntryParts) → option_map but_digests (find p zs) ≡ find p (map but_digests zs)
     less [] = refl
-    less (z ∷ zs) = go (has_key key z) (less zs)
+    less (z ∷ zs) = rw (blind z) (go (p z) (less zs))
       where
-        go : (c : Bool) → option_map but_digests (entry_by_key zs key) ≡ entry_by_key (map but_digests zs) key
-            → option_map but_digests (if c then Some z else entry_by_key zs key) ≡ (if c then Some (but_digests z) else entry_by_key (map but_digests zs) key)
+        go : (c : Bool) → option_map but_digests (find p zs) ≡ find p (map but_digests zs)
+            → option_map but_digests (if c then Some z else find p zs) ≡ (if c then Some (but_digests z) else find p (map but_digests zs))
         go true more = refl
         go false more = more
 
@@ -66,26 +68,42 @@ same_none (Some x) (Some y) same = refl
 same_none None (Some y) same = none_some same
 same_none (Some x) None same = none_some (sym same)
 
-by_key : (es : List EntryParts) (e : EntryParts) (key : List ℕ) → IsRising es → entry_by_key es key ≡ Some e → option_map but_digests (entry_by_key (chained es) key) ≡ Some (but_digests e)
-by_key es e key rising found = key_alike key (chained es) es (law_of_fields es rising).fields ∙ ap (option_map but_digests) found
+-- an entry of version 1, and the chained one that the same test finds
+module _ (p : EntryParts → Bool) (blind : (z : EntryParts) → p (but_digests z) ≡ p z) (es : List EntryParts) (rising : IsRising es) where
+  in_both : option_map but_digests (find p (chained es)) ≡ option_map but_digests (find p es)
+  in_both = found_alike p blind (chained es) es (law_of_fields es rising).fields
 
--- an entry of version 1, and the chained one of its key
-module _ (es : List EntryParts) (e f : EntryParts) (key : List ℕ) (rising : IsRising es) (found : entry_by_key es key ≡ Some e) (is : entry_by_key (chained es) key ≡ Some f) where
+  chained_one : (e : EntryParts) → find p es ≡ Some e → (f : EntryParts) × (find p (chained es) ≡ Some f)
+  chained_one e found = go (find p (chained es)) refl
+    where
+      go : (o : Option EntryParts) → find p (chained es) ≡ o → (f : EntryParts) × (find p (chained es) ≡ Some f)
+      go (Some f) is = (f, is)
+      go None none = none_some (sym (ap (option_map but_digests) none) ∙ in_both ∙ ap (option_map but_digests) found)
+
+  no_other : find p es ≡ None → find p (chained es) ≡ None
+  no_other found = go (find p (chained es)) refl
+    where
+      go : (o : Option EntryParts) → find p (chained es) ≡ o → o ≡ None
+      go None none = refl
+      go (Some f) is = none_some (sym (ap (option_map but_digests) found) ∙ sym in_both ∙ ap (option_map but_digests) is)
+
+module _ (p : EntryParts → Bool) (blind : (z : EntryParts) → p (but_digests z) ≡ p z) (es : List EntryParts) (rising : IsRising es) (e f : EntryParts) (found : find p es ≡ Some e)
+    (is : find p (chained es) ≡ Some f) where
   alike : but_digests f ≡ but_digests e
-  alike = is_some_same (sym (ap (option_map but_digests) is) ∙ by_key es e key rising found)
+  alike = is_some_same (sym (ap (option_map but_digests) is) ∙ in_both p blind es rising ∙ ap (option_map but_digests) found)
 
   partner : option_map but_digests (partner_in (chained es) f) ≡ option_map but_digests (partner_in es e)
   partner =
       let numbers : f.number ≡ e.number = ap (λ x. x.number) alike in
-      let new : with_number e.number (chained es) ≡ Some f = ap (λ n. with_number n (chained es)) (sym numbers) ∙ found_by_number (has_key key) (chained es) f (chained-rising es rising) is in
-      let old = found_by_number (has_key key) es e rising found in
+      let new : with_number e.number (chained es) ≡ Some f = ap (λ n. with_number n (chained es)) (sym numbers) ∙ found_by_number p (chained es) f (chained-rising es rising) is in
+      let old = found_by_number p es e rising found in
       sym (ap (λ o. option_map but_digests (option_and_then (partner_in (chained es)) o)) new) ∙ (law_of_fields es rising).partner e.number
       ∙ ap (λ o. option_map but_digests (option_and_then (partner_in es) o)) old
 
   whole : finding_in_v1 es ≡ Sound (length es) → is_damaged_entry (chained es) f ≡ false
   whole sound =
-      let old = find-among (has_key key) es e found in
-      let new = find-among (has_key key) (chained es) f is in
+      let old = find-among p es e found in
+      let new = find-among p (chained es) f is in
       not_damaged (chained es) f (chained_sound None es f new.0) (λ second. there (partner_in (chained es) f) refl (paired old.0 second))
     where
       paired : Among e es → is_second_kind f.kind ≡ true → is_none (partner_in (chained es) f) ≡ false
@@ -98,23 +116,63 @@ module _ (es : List EntryParts) (e f : EntryParts) (key : List ℕ) (rising : Is
       there (Some g) one some = ap (holds_of is_sound_entry) one ∙ chained_sound None es g (partner_among (chained es) f g one)
 
 pub repeated_over_migration : RepeatedOverMigration
-repeated_over_migration es rising may e a asked = go (entry_by_key (chained es) a.key) refl
+repeated_over_migration es ks lists may a on = record {
+  repeated = λ e found other. repeats e found other (chained_one mine blind es rising e found);
+  reused = λ e found other. let f = chained_one mine blind es rising e found in by_other a f.0 (now f.1) (ap (is_other a) (alike mine blind es rising e f.0 found f.1) ∙ other);
+  gone = λ spent. by_gone a (ap (λ l. is_spent l a.key) on.spent ∙ spent) (entry_by_key a.now.entries a.key) refl (λ f is. absurd (true≢false (sym spent ∙ of_old f is)));
+  anew = λ none free. by_newness a (ap (find mine) on.entries ∙ no_other mine blind es rising none) (ap (λ l. is_spent l a.key) on.spent ∙ free);
+}
   where
-    repeats : (f : EntryParts) → entry_by_key (chained es) a.key ≡ Some f → IsRepeatedAlike es e a
-    repeats f is =
-        let other = ap (is_other a) (alike es e f a.key rising asked.found is) ∙ asked.same in
-        let judged : verdict a ≡ repeated f =
-        by_repetition a f (ap (λ l. entry_by_key l a.key) asked.journal ∙ is) other asked.unspent
-        (ap (λ l. is_damaged_entry l f) asked.journal ∙ whole es e f a.key rising asked.found is may.0) in
+    mine : EntryParts → Bool
+    mine = has_key a.key
+
+    blind : (z : EntryParts) → mine (but_digests z) ≡ mine z
+    blind z = refl
+
+    rising : IsRising es
+    rising = lists.rising
+
+    now : {f : EntryParts} → find mine (chained es) ≡ Some f → entry_by_key a.now.entries a.key ≡ Some f
+    now is = ap (find mine) on.entries ∙ is
+
+    -- a key that is found in the chained journal was found in version 1, so that it isn't spent
+    of_old : (f : EntryParts) → entry_by_key a.now.entries a.key ≡ Some f → is_spent ks a.key ≡ false
+    of_old f is = go (entry_by_key es a.key) refl
+      where
+        go : (o : Option EntryParts) → entry_by_key es a.key ≡ o → is_spent ks a.key ≡ false
+        go (Some e) found = found_unspent es ks a.key e lists.apart found
+        go None none = none_some (sym (no_other mine blind es rising none) ∙ sym (ap (find mine) on.entries) ∙ is)
+
+    repeats : (e : EntryParts) → entry_by_key es a.key ≡ Some e → is_other a e ≡ false → (f : EntryParts) × (find mine (chained es) ≡ Some f) → IsRepeatedAlike es e a
+    repeats e found same f =
+        let other = ap (is_other a) (alike mine blind es rising e f.0 found f.1) ∙ same in
+        let unspent = ap (λ l. is_spent l a.key) on.spent ∙ found_unspent es ks a.key e lists.apart found in
+        let judged : verdict a ≡ repeated f.0 =
+        by_repetition a f.0 (now f.1) other unspent (ap (λ l. is_damaged_entry l f.0) on.entries ∙ whole mine blind es rising e f.0 found f.1 may.0) in
         record {
-          entry = f;
-          alike = alike es e f a.key rising asked.found is;
-          partner = partner es e f a.key rising asked.found is;
+          entry = f.0;
+          alike = alike mine blind es rising e f.0 found f.1;
+          partner = partner mine blind es rising e f.0 found f.1;
           judged = judged;
           told = λ request bound asks.
-              of_verdict a bound request asks ∙ ap (answer_by_verdict a.now.entries) judged ∙ ap (λ l. answer_by_verdict l (repeated f)) asked.journal;
+              of_verdict a bound request asks ∙ ap (answer_by_verdict a.now.entries) judged ∙ ap (λ l. answer_by_verdict l (repeated f.0)) on.entries;
         }
 
-    go : (o : Option EntryParts) → entry_by_key (chained es) a.key ≡ o → IsRepeatedAlike es e a
-    go None none = none_some (sym (ap (option_map but_digests) none) ∙ by_key es e a.key rising asked.found)
-    go (Some f) is = repeats f is
+pub ticket_over_migration : TicketOverMigration
+ticket_over_migration es rising may number e found has = go (chained_one mine blind es rising e found)
+  where
+    mine : EntryParts → Bool
+    mine x = x.number == number
+
+    blind : (z : EntryParts) → mine (but_digests z) ≡ mine z
+    blind z = refl
+
+    go : (f : EntryParts) × (find mine (chained es) ≡ Some f) → IsTicketAlike es number e
+    go f =
+        let same = alike mine blind es rising e f.0 found f.1 in
+        record {
+          entry = f.0;
+          alike = same;
+          partner = partner mine blind es rising e f.0 found f.1;
+          told = rw (f.1, ap makes_a_ticket same ∙ has, whole mine blind es rising e f.0 found f.1 may.0) refl;
+        }
