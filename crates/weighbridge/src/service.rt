@@ -59,8 +59,18 @@ pub(crate) fn serve_bridge(
     service: &Service,
 ) -> Result<ServeEnd, ServiceFault> {
     let mut station = FileStation::open(rt, instrument, service.file.as_str())?;
+    serve_station(rt, &mut station.station, service)
+}
+
+/// The same, with the station open. It is generic over the database, since a function that holds one over files is dear to prove, the more so the more
+/// it holds beside.
+fn serve_station<D: Alter>(
+    rt: &HostRuntime,
+    station: &mut Station<DequeWindow, D>,
+    service: &Service,
+) -> Result<ServeEnd, ServiceFault> {
     let mut sources = open_sources(rt, service)?;
-    let end = serve(&mut station.station, &mut sources, service.turns);
+    let end = serve(station, &mut sources, service.turns);
     sources.finish();
     Ok(end)
 }
