@@ -1,6 +1,7 @@
 //! A connection of the office, from its first byte to its end. No call here waits.
 use crate::limits::{
-    LEAVING_SECONDS, READS_A_TURN, SILENT_SECONDS, UNTAKEN_SECONDS, WHOLE_WITHIN_SECONDS,
+    LEAVING_SECONDS, READS_A_TURN, REQUEST_SECONDS, SILENT_SECONDS, UNTAKEN_SECONDS,
+    WHOLE_WITHIN_SECONDS,
 };
 use crate::ready::{Ready, is_past, read_ready, write_ready};
 use std::alloc::Global;
@@ -49,6 +50,10 @@ pub(crate) enum Why {
     Stayed,
     /// No byte came of a request.
     NoRequest,
+    /// Its request may have waited too long.
+    Late,
+    /// It had no whole request, and another came.
+    GaveWay,
     /// The service ended before.
     ServiceEnds,
     /// It took nothing of its response for too long.
@@ -63,6 +68,8 @@ impl Display for Why {
             Why::Done => "done",
             Why::Stayed => "it stayed after its response",
             Why::NoRequest => "no request came",
+            Why::Late => "its request waited too long",
+            Why::GaveWay => "it had no whole request, and another came",
             Why::ServiceEnds => "the service ends",
             Why::TookNothing => "it took nothing of its response",
             Why::Broken => "it is broken",
@@ -79,19 +86,28 @@ pub(crate) struct Connection<S: Drop, J: Drop> {
     pub(crate) stage: Stage<J>,
     /// What came of its request, until that is judged.
     request: Vec<u8>,
+    /// When a look last found nothing. What was found since came after that.
+    looked: Instant,
     accepted: Instant,
     /// When a byte last came, or its socket last took one, or it was shut for writing.
     moved: Instant,
 }
 
 impl<S: Read + Write + OpenStream + Drop, J: Drop> Connection<S, J> {
-    /// Over a stream that was accepted now.
-    pub(crate) fn new(alloc: Global, stream: S, peer: SocketAddr, now: Instant) -> Self {
+    /// Over a stream that was accepted now, and connected after its listener was looked at.
+    pub(crate) fn new(
+        alloc: Global,
+        stream: S,
+        peer: SocketAddr,
+        looked: Instant,
+        now: Instant,
+    ) -> Self {
         Connection {
             stream,
             peer,
             stage: Stage::Asks,
             request: Vec::new(alloc),
+            looked,
             accepted: now,
             moved: now,
         }
@@ -123,6 +139,13 @@ impl<S: Read + Write + OpenStream + Drop, J: Drop> Connection<S, J> {
             Stage::Takes(_, _) => self.write(now),
             Stage::Leaves => self.leave(now, room),
             Stage::Asks | Stage::Waits(_, _) | Stage::Asked | Stage::Closed(_) => {}
+        }
+    }
+
+    /// Closes it if its request was judged and may have come too long ago.
+    pub(crate) fn drop_late(&mut self, now: Instant) {
+        if matches!(self.stage, Stage::Waits(_, _)) && is_past(self.looked, REQUEST_SECONDS, now) {
+            self.close(Why::Late);
         }
     }
 
@@ -170,7 +193,10 @@ impl<S: Read + Write + OpenStream + Drop, J: Drop> Connection<S, J> {
                         return Some(judged);
                     }
                 }
-                Ready::Nothing => break,
+                Ready::Nothing => {
+                    self.looked = now;
+                    break;
+                }
                 Ready::End | Ready::Fault => return self.as_it_stands(alloc, requests),
             }
         }

@@ -14,6 +14,7 @@ mod ready;
 mod report;
 mod source;
 mod terminal;
+mod waiting;
 
 pub use address::{AddressFault, listen, loopback};
 pub use connection::Requests;

@@ -1,7 +1,7 @@
 //! The times, counts and sizes that keep a client from stopping the scale.
 
-/// How many connections of the office are kept at once; more wait in the listener. A weighbridge has a handful of programs that
-/// ask it, and sixteen requests of full size together stay below 150 kB.
+/// How many connections of the office are kept at once; more wait in the listener once each has a whole request. A weighbridge has a
+/// handful of programs that ask it, and sixteen requests of full size together stay below 150 kB.
 pub(crate) const CONNECTIONS: usize = 16;
 
 /// After so many seconds without a byte, a connection of the office is taken as one that sends no more. A program sends its
@@ -23,6 +23,23 @@ pub(crate) const LEAVING_SECONDS: u64 = 5;
 /// The terminal is hung up if its socket takes no byte for so many seconds while replies wait: replies that old are of no use
 /// to who reads them.
 pub(crate) const DEAF_SECONDS: u64 = 5;
+
+/// What the terminal sent is carried out within so many seconds of when it may have come, or never: by then another vehicle may stand on
+/// the bridge. A turn over a silent converter takes one second, so that with one second no command would ever be carried out there.
+pub(crate) const COMMAND_SECONDS: u64 = 2;
+
+/// A request of the office is handed out within so many seconds of when it may have been whole, or never. Ten turns a second answer fifty
+/// by then; who waits longer asks again, and is judged by what stands on the bridge then.
+pub(crate) const REQUEST_SECONDS: u64 = 5;
+
+/// How many terminals wait while one is served: a bridge has a display, a haulier's computer and a service laptop, and one more.
+pub(crate) const WAITING_TERMINALS: usize = 4;
+
+/// A terminal that said nothing for so many seconds is hung up if another waits, so that nobody holds the scale for ever.
+pub(crate) const IDLE_SECONDS: u64 = 60;
+
+/// How often a listener is asked in a turn at most: more than the 128 that a listener of std lets wait.
+pub(crate) const ACCEPTS_A_TURN: usize = 160;
 
 /// How many bytes of replies wait for the terminal at most: more than 2,500 replies. The room is made at the start, so that a
 /// reply never wants memory.

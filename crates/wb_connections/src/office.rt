@@ -1,9 +1,10 @@
 //! The connections of the office, kept over turns. No call here waits.
 use crate::connection::{Connection, Requests, Stage, Why};
-use crate::limits::CONNECTIONS;
+use crate::limits::{ACCEPTS_A_TURN, CONNECTIONS};
+use crate::ready::{Newcomer, accept_ready};
 use crate::report::Report;
 use std::alloc::{AllocError, Global};
-use std::io::{ErrorKind, Read, Write};
+use std::io::{Read, Write};
 use std::net::{OpenListener, OpenStream, SocketAddr};
 use std::time::Instant;
 use wb_sources::REQUEST_ROOM;
@@ -15,6 +16,8 @@ where
     L::Stream: Read + Write + OpenStream,
 {
     listener: L,
+    /// When nobody waited at the listener. Who is accepted later came after that.
+    looked: Instant,
     connections: Vec<Connection<L::Stream, J>>,
     /// The place of the next request that is judged.
     next_place: u64,
@@ -26,10 +29,11 @@ impl<L: OpenListener + Drop, J: Drop> Office<L, J>
 where
     L::Stream: Read + Write + OpenStream,
 {
-    /// Over a listener that doesn't wait. Refuses for want of memory alone.
-    pub fn new(alloc: Global, listener: L) -> Result<Self, AllocError> {
+    /// Over a listener that doesn't wait, from this time on. Refuses for want of memory alone.
+    pub fn new(alloc: Global, listener: L, now: Instant) -> Result<Self, AllocError> {
         Ok(Office {
             listener,
+            looked: now,
             connections: Vec::with_capacity(alloc, CONNECTIONS)?,
             next_place: 0,
             without_request: 0,
@@ -54,7 +58,6 @@ where
         now: Instant,
         report: &Report<'_, R>,
     ) {
-        self.accept(alloc, now, report);
         let mut room = [0u8; REQUEST_ROOM];
         for connection in self.connections.iter_mut() {
             if let Some(judged) = connection.turn(alloc, requests, now, &mut room) {
@@ -63,10 +66,14 @@ where
             }
         }
         self.close(report);
+        self.accept(alloc, requests, now, report, &mut room);
     }
 
-    /// Hands out the request that was judged first.
-    pub fn take(&mut self) -> Option<J> {
+    /// Hands out the request that was judged first, of those that came less than five seconds before. The others are closed.
+    pub fn take(&mut self, now: Instant) -> Option<J> {
+        for connection in self.connections.iter_mut() {
+            connection.drop_late(now);
+        }
         let first = self.first()?;
         self.connections.get_mut(first)?.hand_out()
     }
@@ -118,43 +125,90 @@ where
         self.connections.clear();
     }
 
-    /// Accepts connections while there is a place for them.
-    fn accept<R: Eprint>(&mut self, alloc: Global, now: Instant, report: &Report<'_, R>) {
-        for _ in 0..CONNECTIONS {
-            if self.connections.len() >= CONNECTIONS || !self.accept_next(alloc, now, report) {
-                return;
-            }
-        }
-    }
-
-    /// Accepts the next connection. False if there is none.
-    fn accept_next<R: Eprint>(
+    /// Accepts all that wait, so that it is known when each came. More wait in the listener while each place has a whole request.
+    fn accept<Q: Requests<Judged = J>, R: Eprint>(
         &mut self,
         alloc: Global,
+        requests: &Q,
         now: Instant,
         report: &Report<'_, R>,
-    ) -> bool {
-        match self.listener.accept() {
-            Ok((stream, peer)) => {
-                self.keep(Connection::new(alloc, stream, peer, now), report);
-                true
+        room: &mut [u8; REQUEST_ROOM],
+    ) {
+        for _ in 0..ACCEPTS_A_TURN {
+            if self.is_full() && self.oldest_without_request().is_none() {
+                return;
             }
-            // none waits; or the system gives none now, as if it wants descriptors: a later turn asks again
-            Err(error) => error.kind() == ErrorKind::ConnectionAborted,
+            match accept_ready(&self.listener) {
+                Newcomer::Came(stream, peer) => {
+                    let connection = Connection::new(alloc, stream, peer, self.looked, now);
+                    self.admit(alloc, requests, connection, now, report, room);
+                }
+                Newcomer::Gone => {}
+                Newcomer::Nobody => {
+                    self.looked = now;
+                    return;
+                }
+                Newcomer::Refused => {
+                    if !self.make_place(report) {
+                        return;
+                    }
+                }
+            }
         }
     }
 
-    /// Keeps a connection that was accepted.
-    fn keep<R: Eprint>(&mut self, connection: Connection<L::Stream, J>, report: &Report<'_, R>) {
+    /// Reads one that was accepted, and keeps it. Where all places are taken, it gets that of one without a whole request.
+    fn admit<Q: Requests<Judged = J>, R: Eprint>(
+        &mut self,
+        alloc: Global,
+        requests: &Q,
+        mut connection: Connection<L::Stream, J>,
+        now: Instant,
+        report: &Report<'_, R>,
+        room: &mut [u8; REQUEST_ROOM],
+    ) {
         let peer = connection.peer;
         if !connection.stops_waiting() {
             tell_closed(report, peer, Why::Broken);
             return;
         }
         report.line(format_args!("office {peer}: accepted"));
-        if self.connections.push(connection).is_err() {
+        if let Some(judged) = connection.turn(alloc, requests, now, room) {
+            connection.stage = Stage::Waits(self.next_place, judged);
+            self.next_place = self.next_place.saturating_add(1);
+        }
+        if let Stage::Closed(why) = &connection.stage {
+            tell_end(report, peer, *why, &mut self.without_request);
+        } else if self.is_full() && !self.make_place(report) {
+            tell_closed(report, peer, Why::GaveWay);
+        } else if self.connections.push(connection).is_err() {
             tell_closed(report, peer, Why::Memory);
         }
+    }
+
+    /// Whether all places are taken.
+    fn is_full(&self) -> bool {
+        self.connections.len() >= CONNECTIONS
+    }
+
+    /// The index of the connection that was accepted first of those without a whole request.
+    fn oldest_without_request(&self) -> Option<usize> {
+        self.connections
+            .iter()
+            .position(|connection| matches!(connection.stage, Stage::Asks))
+    }
+
+    /// Closes the connection that was accepted first of those without a whole request. False if there is none.
+    fn make_place<R: Eprint>(&mut self, report: &Report<'_, R>) -> bool {
+        let Some(oldest) = self.oldest_without_request() else {
+            return false;
+        };
+        match self.connections.get_mut(oldest) {
+            Some(connection) => connection.close(Why::GaveWay),
+            None => return false,
+        }
+        self.close(report);
+        true
     }
 
     /// The index of the request that was judged first.
@@ -176,16 +230,27 @@ where
     fn close<R: Eprint>(&mut self, report: &Report<'_, R>) {
         for connection in self.connections.iter() {
             if let Stage::Closed(why) = &connection.stage {
-                if matches!(why, Why::NoRequest) {
-                    self.without_request = self.without_request.saturating_add(1);
-                    tell_silent(report, connection.peer, self.without_request);
-                } else {
-                    tell_closed(report, connection.peer, *why);
-                }
+                let count = &mut self.without_request;
+                tell_end(report, connection.peer, *why, count);
             }
         }
         self.connections
             .retain(|connection| !matches!(connection.stage, Stage::Closed(_)));
+    }
+}
+
+/// Tells that a connection is closed, and counts it if no byte came of its request.
+fn tell_end<R: Eprint>(
+    report: &Report<'_, R>,
+    peer: SocketAddr,
+    why: Why,
+    without_request: &mut u64,
+) {
+    if matches!(why, Why::NoRequest) {
+        *without_request = without_request.saturating_add(1);
+        tell_silent(report, peer, *without_request);
+    } else {
+        tell_closed(report, peer, why);
     }
 }
 

@@ -1,9 +1,10 @@
-//! Reads and writes that don't wait, and how long ago something was.
+//! Reads, writes and accepts that don't wait, and how long ago something was.
 ghost use Rattle.std.specs.Prelude.{◌≤◌, IfSome, length};
 ghost use Rattle.wb_connections.specs.Ready.{FitsRoom};
 
 use std::io;
 use std::io::{ErrorKind, Read, Write};
+use std::net::{OpenListener, OpenStream, SocketAddr};
 use std::time::{Duration, Instant};
 
 /// What a read found.
@@ -30,6 +31,18 @@ pub(crate) fn read_ready<S: Read>(stream: &mut S, room: &mut [u8]) -> Ready
     }
 }
 
+/// What a read of a stream would find that is set to not wait. Nothing is taken.
+pub(crate) fn peek_ready<S: OpenStream>(stream: &S) -> Ready
+    ensures { FitsRoom result 1 }
+{
+    let mut room = [0u8; 1];
+    match stream.peek(&mut room) {
+        Ok(0) => Ready::End,
+        Ok(count) => Ready::Bytes(count),
+        Err(error) => not_read(&error),
+    }
+}
+
 /// What a refused read means.
 fn not_read(error: &io::Error) -> Ready
     ensures { FitsRoom result 0 }
@@ -49,6 +62,33 @@ pub(crate) fn write_ready<S: Write>(stream: &mut S, bytes: &[u8]) -> Option<usiz
         Err(error) => match error.kind() {
             ErrorKind::WouldBlock | ErrorKind::Interrupted => Some(0),
             _ => None,
+        },
+    }
+}
+
+/// What a listener gives.
+#[derive(Drop)]
+pub(crate) enum Newcomer<S: Drop> {
+    Came(S, SocketAddr),
+    /// One that broke off before it was accepted.
+    Gone,
+    /// Nobody waits.
+    Nobody,
+    /// The system accepts nobody now, as for want of descriptors.
+    Refused,
+}
+
+/// The next that waits at a listener which is set to not wait.
+pub(crate) fn accept_ready<L: OpenListener>(listener: &L) -> Newcomer<L::Stream>
+where
+    L::Stream: Drop,
+{
+    match listener.accept() {
+        Ok((stream, peer)) => Newcomer::Came(stream, peer),
+        Err(error) => match error.kind() {
+            ErrorKind::ConnectionAborted | ErrorKind::Interrupted => Newcomer::Gone,
+            ErrorKind::WouldBlock => Newcomer::Nobody,
+            _ => Newcomer::Refused,
         },
     }
 }

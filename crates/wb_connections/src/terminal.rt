@@ -1,9 +1,10 @@
-//! The terminal: one connection at a time, and the replies that wait for it. No call here waits.
+//! The terminal: one connection at a time, the replies that wait for it, and those that wait for its place. No call here waits.
 ghost use Rattle.std.specs.Prelude.{◌≡◌, ◌≤◌};
 
-use crate::limits::{DEAF_SECONDS, WAITING_REPLIES};
+use crate::limits::{COMMAND_SECONDS, DEAF_SECONDS, IDLE_SECONDS, WAITING_REPLIES};
 use crate::ready::{Ready, is_past, read_ready, write_ready};
 use crate::report::Report;
+use crate::waiting::{Queue, Waiting};
 use std::alloc::{AllocError, Global};
 use std::io::{Read, Write};
 use std::net::{OpenListener, OpenStream, Shutdown, SocketAddr};
@@ -15,25 +16,31 @@ use wb_sources::{TERMINAL_ROOM, Taken};
 struct Connection<S: Drop> {
     stream: S,
     peer: SocketAddr,
+    /// When a look last found nothing. What is read next came after that.
+    looked: Instant,
+    /// When bytes of it last came, or it got its place.
+    heard: Instant,
     /// When the socket last took a byte of the replies, or the first of those that wait came.
     moved: Instant,
     /// Whether it sends no more.
     has_ended: bool,
 }
 
-/// The listener, and the connection if there is one.
+/// The connection if there is one, and those that wait.
 #[derive(Drop)]
 pub struct Terminal<L: OpenListener + Drop>
 where
     L::Stream: Read + Write + OpenStream,
 {
-    listener: L,
+    queue: Queue<L>,
     connection: Option<Connection<L::Stream>>,
     /// The replies that wait, behind so many bytes that are written already.
     replies: Vec<u8>,
     written: usize,
     /// What came and wasn't handed out yet: so many bytes in the room, and whether the connection ended after them.
     came: Taken,
+    /// When a look found nothing, before they came.
+    came_after: Instant,
     room: [u8; TERMINAL_ROOM],
 }
 
@@ -41,32 +48,45 @@ impl<L: OpenListener + Drop> Terminal<L>
 where
     L::Stream: Read + Write + OpenStream,
 {
-    /// Over a listener that doesn't wait, with the room for replies. Refuses for want of memory alone.
-    pub fn new(alloc: Global, listener: L) -> Result<Self, AllocError> {
+    /// Over a listener that doesn't wait, from this time on, with the room for replies. Refuses for want of memory alone.
+    pub fn new(alloc: Global, listener: L, now: Instant) -> Result<Self, AllocError> {
         Ok(Terminal {
-            listener,
+            queue: Queue::new(alloc, listener, now)?,
             connection: None,
             replies: Vec::with_capacity(alloc, WAITING_REPLIES)?,
             written: 0,
             came: taken(0, false),
+            came_after: now,
             room: [0; TERMINAL_ROOM],
         })
     }
 
     /// A turn of the connection: replies are written, and what came is read, if all was handed out that came before. Where there is
-    /// no connection, it accepts one.
+    /// no connection, the one that waits longest gets its place.
     pub fn step<R: Eprint>(&mut self, now: Instant, report: &Report<'_, R>) {
         self.write(now, report);
+        self.queue.step(now, report);
         if self.came.count == 0 && !self.came.hung_up {
-            self.accept(now, report);
-            self.read(report);
+            self.connect_next(now, report);
+            self.read(now, report);
+            self.make_way(now, report);
         }
     }
 
-    /// Hands out the bytes that came, and whether the connection ended after them.
-    pub fn take(&mut self, room: &mut [u8; TERMINAL_ROOM]) -> Taken
+    /// Hands out the bytes that came, and whether the connection ended after them. Bytes that may have come two seconds before are
+    /// dropped, and the connection is hung up.
+    pub fn take<R: Eprint>(
+        &mut self,
+        now: Instant,
+        report: &Report<'_, R>,
+        room: &mut [u8; TERMINAL_ROOM],
+    ) -> Taken
         ensures { result.count ≤ 256 }
     {
+        if self.came.count > 0 && is_past(self.came_after, COMMAND_SECONDS, now) {
+            self.came = taken(0, false);
+            self.drop_connection(report, "what it sent waited too long");
+        }
         let count = self.came.count.min(TERMINAL_ROOM);
         room[..count].copy_from_slice(&self.room[..count]);
         let hung_up = self.came.hung_up;
@@ -112,7 +132,7 @@ where
     }
 
     /// Reads what came. One that sends no more is closed once the replies are written that wait for it.
-    fn read<R: Eprint>(&mut self, report: &Report<'_, R>) {
+    fn read<R: Eprint>(&mut self, now: Instant, report: &Report<'_, R>) {
         let waits = self.waits();
         let Some(connection) = &mut self.connection else {
             return;
@@ -121,9 +141,18 @@ where
             match read_ready(&mut connection.stream, &mut self.room) {
                 Ready::Bytes(count) => {
                     self.came = taken(count, false);
+                    self.came_after = connection.looked;
+                    connection.heard = now;
+                    // a read that fills less than its room has found all that came
+                    if count < TERMINAL_ROOM {
+                        connection.looked = now;
+                    }
                     return;
                 }
-                Ready::Nothing => return,
+                Ready::Nothing => {
+                    connection.looked = now;
+                    return;
+                }
                 Ready::End => connection.has_ended = true,
                 Ready::Fault => {
                     self.drop_connection(report, "it is broken");
@@ -136,27 +165,46 @@ where
         }
     }
 
-    /// Accepts a connection, if there is none. An error of the system is no connection: a later turn asks again.
-    fn accept<R: Eprint>(&mut self, now: Instant, report: &Report<'_, R>) {
+    /// Gives the place to the one that waits longest, if there is no connection.
+    fn connect_next<R: Eprint>(&mut self, now: Instant, report: &Report<'_, R>) {
         if self.connection.is_some() {
             return;
         }
-        let Ok((stream, peer)) = self.listener.accept() else {
+        let Some(next) = self.queue.next() else {
             return;
         };
-        if stream.set_nonblocking(true).is_err() {
-            report.line(format_args!("terminal {peer}: closed, it is broken"));
-            return;
-        }
+        self.connect(next, now, report);
+    }
+
+    /// Gives the place to one that waited.
+    fn connect<R: Eprint>(
+        &mut self,
+        next: Waiting<L::Stream>,
+        now: Instant,
+        report: &Report<'_, R>,
+    ) {
         // replies are short and each is waited for; a stream that can't send them at once sends them a little later
-        let _ = stream.set_nodelay(true);
-        report.line(format_args!("terminal {peer}: accepted"));
+        let _ = next.stream.set_nodelay(true);
+        report.line(format_args!("terminal {}: accepted", next.peer));
         self.connection = Some(Connection {
-            stream,
-            peer,
+            stream: next.stream,
+            peer: next.peer,
+            looked: next.looked,
+            heard: now,
             moved: now,
             has_ended: false,
         });
+    }
+
+    /// Hangs up one that said nothing for a minute, if another waits.
+    fn make_way<R: Eprint>(&mut self, now: Instant, report: &Report<'_, R>) {
+        let Some(connection) = &self.connection else {
+            return;
+        };
+        let is_idle = self.came.count == 0 && is_past(connection.heard, IDLE_SECONDS, now);
+        if is_idle && !self.queue.is_empty() {
+            self.drop_connection(report, "it said nothing for a minute, and another waits");
+        }
     }
 
     /// Whether replies wait.

@@ -22,12 +22,17 @@ impl<L: OpenListener + Drop> Clients<L>
 where
     L::Stream: Read + Write + OpenStream,
 {
-    /// Over a terminal's listener and an office's, which don't wait. Refuses for want of memory alone.
-    pub(crate) fn new(alloc: Global, terminal: L, office: L) -> Result<Self, AllocError> {
+    /// Over a terminal's listener and an office's, which don't wait, from this time on. Refuses for want of memory alone.
+    pub(crate) fn new(
+        alloc: Global,
+        terminal: L,
+        office: L,
+        now: Instant,
+    ) -> Result<Self, AllocError> {
         Ok(Clients {
             requests: StationRequests::new(alloc)?,
-            terminal: Terminal::new(alloc, terminal)?,
-            office: Office::new(alloc, office)?,
+            terminal: Terminal::new(alloc, terminal, now)?,
+            office: Office::new(alloc, office, now)?,
         })
     }
 

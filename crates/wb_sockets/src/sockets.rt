@@ -84,7 +84,7 @@ where
         let report = Report::new(rt, verbose);
         tell_listener(&report, "terminal", &terminal);
         tell_listener(&report, "office", &office);
-        match Clients::new(rt.alloc(), terminal, office) {
+        match Clients::new(rt.alloc(), terminal, office, now) {
             Ok(clients) => Ok(Sockets {
                 rt,
                 report,
@@ -158,8 +158,9 @@ where
         if !self.is_current() {
             return None;
         }
-        let request = self.clients.office.take()?;
-        self.asked = Some(self.look_at_clock());
+        let now = self.look_at_clock();
+        let request = self.clients.office.take(now)?;
+        self.asked = Some(now);
         Some(request)
     }
 
@@ -193,11 +194,11 @@ where
     fn terminal(&mut self, room: &mut [u8; TERMINAL_ROOM]) -> Taken {
         let now = self.look_at_clock();
         self.clients.terminal.step(now, &self.report);
-        if self.is_current() {
-            self.clients.terminal.take(room)
-        } else {
-            NOTHING_TAKEN
+        if !self.is_current() {
+            return NOTHING_TAKEN;
         }
+        let now = self.look_at_clock();
+        self.clients.terminal.take(now, &self.report, room)
     }
 
     fn reply(&mut self, bytes: &[u8]) {

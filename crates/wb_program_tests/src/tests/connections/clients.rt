@@ -8,6 +8,10 @@ static MANY: [u8; 9_217] = [b'x'; 9_217];
 /// What a client does, or what it must find.
 #[derive(Clone, Copy, Drop)]
 pub(crate) enum Client {
+    /// It hasn't connected yet.
+    StaysAway,
+    /// It connects.
+    Comes,
     /// It sends these bytes; those that it sent before were read.
     Sends(&'static [u8]),
     /// It sends so many bytes, each an x.
@@ -36,6 +40,8 @@ impl Wire<'_> {
     /// Does what a client does. False if it finds anything else than it must.
     pub(crate) fn plays(&self, client: &Client) -> bool {
         match client {
+            Client::StaysAway => self.come(false),
+            Client::Comes => self.come(true),
             Client::Sends(bytes) => self.send(bytes),
             Client::SendsMany(count) => self.send(MANY.get(..*count).unwrap_or(&MANY)),
             Client::SendsPieces(script) => self.send_pieces(script),

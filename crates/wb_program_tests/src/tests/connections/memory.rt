@@ -115,6 +115,8 @@ pub(crate) struct Wire<'a> {
     next: Cell<usize>,
     /// What the client sent, and wasn't read yet.
     sent: Cell<&'static [u8]>,
+    /// Whether the client has connected.
+    has_come: Cell<bool>,
     has_ended: Cell<bool>,
     /// What the next read finds in the place of bytes.
     error: Cell<Option<ErrorKind>>,
@@ -144,6 +146,7 @@ impl<'a> Wire<'a> {
             script: Cell::new(script),
             next: Cell::new(0),
             sent: Cell::new(b""),
+            has_come: Cell::new(true),
             has_ended: Cell::new(false),
             error: Cell::new(None),
             takes: Cell::new(usize::MAX),
@@ -154,6 +157,11 @@ impl<'a> Wire<'a> {
             is_open: Cell::new(true),
             patience: Cell::new(Duration::ZERO),
         }
+    }
+
+    /// The client connects now, or hasn't connected yet.
+    pub(crate) fn come(&self, has_come: bool) {
+        self.has_come.set(has_come);
     }
 
     /// The client sends these bytes now; those that it sent before were read.
@@ -230,6 +238,22 @@ impl<'a> Wire<'a> {
         }
     }
 
+    /// What a look finds: bytes, or none at the end.
+    fn find(&self) -> io::Result<&'static [u8]> {
+        if let Some(error) = self.error.get() {
+            return Err(io::Error::from(error));
+        }
+        self.arrive();
+        if self.sent.get().is_empty() && !self.has_ended.get() {
+            self.wait();
+            self.arrive();
+        }
+        if self.sent.get().is_empty() && !self.has_ended.get() {
+            return Err(io::Error::from(ErrorKind::WouldBlock));
+        }
+        Ok(self.sent.get())
+    }
+
     /// Lets the time pass for which a read waits.
     fn wait(&self) {
         let until = self.bench.now.get().saturating_add(self.patience.get());
@@ -251,20 +275,10 @@ impl Drop for Plug<'_> {
 
 impl Read for Plug<'_> {
     fn read(&mut self, buf: &mut [u8]) -> io::Result<usize> {
-        if let Some(error) = self.0.error.get() {
-            self.0.error.set(None);
-            return Err(io::Error::from(error));
-        }
-        self.0.arrive();
-        if self.0.sent.get().is_empty() && !self.0.has_ended.get() {
-            self.0.wait();
-            self.0.arrive();
-        }
-        let sent = self.0.sent.get();
+        let found = self.0.find();
+        self.0.error.set(None);
+        let sent = found?;
         let count = sent.len().min(buf.len());
-        if count == 0 && !self.0.has_ended.get() {
-            return Err(io::Error::from(ErrorKind::WouldBlock));
-        }
         buf[..count].copy_from_slice(&sent[..count]);
         self.0.sent.set(&sent[count..]);
         Ok(count)
@@ -295,6 +309,13 @@ impl Write for Plug<'_> {
 }
 
 impl OpenStream for Plug<'_> {
+    fn peek(&self, buf: &mut [u8]) -> io::Result<usize> {
+        let sent = self.0.find()?;
+        let count = sent.len().min(buf.len());
+        buf[..count].copy_from_slice(&sent[..count]);
+        Ok(count)
+    }
+
     fn shutdown(&self, _how: Shutdown) -> io::Result<()> {
         self.0.is_shut.set(true);
         Ok(())
@@ -316,14 +337,28 @@ impl OpenStream for Plug<'_> {
 pub(crate) struct Door<'a> {
     wires: &'a [Wire<'a>],
     next: Cell<usize>,
+    /// How many connections the system has descriptors for.
+    descriptors: usize,
 }
 
 impl<'a> Door<'a> {
     pub(crate) fn new(wires: &'a [Wire<'a>]) -> Self {
+        Door::with_descriptors(wires, usize::MAX)
+    }
+
+    /// Where the system has descriptors for so many connections.
+    pub(crate) fn with_descriptors(wires: &'a [Wire<'a>], descriptors: usize) -> Self {
         Door {
             wires,
             next: Cell::new(0),
+            descriptors,
         }
+    }
+
+    /// How many connections were accepted and aren't closed.
+    fn open(&self) -> usize {
+        let accepted = self.wires.get(..self.next.get()).unwrap_or(&[]);
+        accepted.iter().filter(|wire| wire.is_open()).count()
     }
 }
 
@@ -331,8 +366,12 @@ impl<'a> OpenListener for Door<'a> {
     type Stream = Plug<'a>;
 
     fn accept(&self) -> io::Result<(Plug<'a>, SocketAddr)> {
+        // as Linux does, which looks for a descriptor before it looks who waits
+        if self.open() >= self.descriptors {
+            return Err(io::Error::from(ErrorKind::Other));
+        }
         let at = self.next.get();
-        let Some(wire) = self.wires.get(at) else {
+        let Some(wire) = self.wires.get(at).filter(|wire| wire.has_come.get()) else {
             return Err(io::Error::from(ErrorKind::WouldBlock));
         };
         self.next.set(at.saturating_add(1));

@@ -1,7 +1,7 @@
 //! Connections of the office over turns.
-use self::Step::{Answer, Turn, WithoutRequest};
+use self::Step::{Answer, EachSends, Turn, WithoutRequest};
 use super::clients::Client::{
-    Ends, Fails, Got, IsClosed, Refuses, Sends, SendsMany, SendsPieces, Takes,
+    Ends, Fails, Got, IsClosed, IsOpen, Refuses, Sends, SendsMany, SendsPieces, Takes,
 };
 use super::clients::{Client, plays};
 use super::memory::{Bench, Door, Wire, after};
@@ -14,6 +14,8 @@ use wb_connections::{Office, Report};
 use wb_sockets::StationRequests;
 use wb_station::Judged;
 
+const ASKED: &[u8] = b"GET /indication HTTP/1.1\r\n\r\n";
+
 const ANSWER: &[u8] = b"HTTP/1.1 200 OK\r\n\r\nNO LOAD\n";
 
 /// What happens at an office, and what must be seen then.
@@ -21,6 +23,8 @@ const ANSWER: &[u8] = b"HTTP/1.1 200 OK\r\n\r\nNO LOAD\n";
 enum Step {
     /// What one of its clients does or finds.
     Client(usize, Client),
+    /// Each of its clients sends these bytes.
+    EachSends(&'static [u8]),
     /// A turn at so many seconds: how many bytes a request has that is handed out, and how many connections are kept.
     Turn(u64, usize, usize),
     /// The request that was handed out is answered at so many seconds.
@@ -59,14 +63,69 @@ static IN_ORDER: [Step; 11] = [
     Turn(3, 28, 2),
 ];
 
-static SILENT: [Step; 7] = [
+/// Seventeen that say nothing, of which the first gives way.
+static SILENT: [Step; 6] = [
     Turn(0, 0, 16),
+    Step::Client(0, IsClosed),
     Turn(4, 0, 16),
+    Step::Client(1, IsOpen),
     Turn(5, 0, 0),
+    WithoutRequest(16),
+];
+
+/// A whole request behind 39 that say nothing.
+static BEHIND_SILENT: [Step; 4] = [
+    Step::Client(39, Sends(ASKED)),
+    Turn(0, 28, 16),
+    Step::Client(23, IsClosed),
+    Step::Client(24, IsOpen),
+];
+
+/// Sixteen whole requests, and a seventeenth that waits in the listener until one has its answer and is gone.
+static SIXTEEN_WHOLE: [Step; 10] = [
+    EachSends(ASKED),
+    Turn(0, 28, 16),
+    Answer(0),
+    Turn(1, 28, 16),
+    Answer(1),
+    Step::Client(0, Ends),
+    Turn(2, 28, 16),
+    Answer(2),
+    Step::Client(1, Ends),
+    Turn(3, 28, 15),
+];
+
+/// Three whole requests, of which one is answered after four seconds, and the last not within five.
+static LATE: [Step; 9] = [
+    EachSends(ASKED),
+    Turn(0, 28, 3),
+    Answer(0),
+    Turn(4, 28, 3),
+    Answer(4),
+    Turn(5, 0, 2),
     Turn(6, 0, 1),
-    Turn(10, 0, 1),
-    Turn(11, 0, 0),
-    WithoutRequest(17),
+    Step::Client(1, IsOpen),
+    Step::Client(2, IsClosed),
+];
+
+/// The last piece of a request comes after some seconds.
+static IN_TIME: [Step; 5] = [
+    Step::Client(0, Sends(b"GET /indi")),
+    Turn(0, 0, 1),
+    Turn(4, 0, 1),
+    Step::Client(0, Sends(b"cation HTTP/1.1\r\n\r\n")),
+    Turn(8, 28, 1),
+];
+
+/// The system has descriptors for two: one stays free as long as one has no whole request.
+static FEW_DESCRIPTORS: [Step; 7] = [
+    Step::Client(2, Sends(ASKED)),
+    Turn(0, 28, 1),
+    Step::Client(0, IsClosed),
+    Step::Client(1, IsClosed),
+    Answer(0),
+    Step::Client(2, Got(ANSWER, true)),
+    Turn(1, 0, 1),
 ];
 
 static SLOW: [Step; 28] = [
@@ -178,12 +237,18 @@ struct Desk<'a> {
 }
 
 impl<'a> Desk<'a> {
-    fn new(alloc: Global, bench: &'a Bench, wires: &'a [Wire<'a>]) -> Result<Self, Fail> {
+    fn new(
+        alloc: Global,
+        bench: &'a Bench,
+        wires: &'a [Wire<'a>],
+        descriptors: usize,
+    ) -> Result<Self, Fail> {
+        let door = Door::with_descriptors(wires, descriptors);
         Ok(Desk {
             alloc,
             start: Instant::now(bench)?,
             requests: StationRequests::new(alloc)?,
-            office: Office::new(alloc, Door::new(wires))?,
+            office: Office::new(alloc, door, Instant::now(bench)?)?,
             wires,
             report: Report::new(bench, false),
         })
@@ -193,6 +258,12 @@ impl<'a> Desk<'a> {
     fn plays(&mut self, step: &Step) -> bool {
         match step {
             Step::Client(at, client) => plays(self.wires, *at, client),
+            EachSends(bytes) => {
+                for wire in self.wires {
+                    wire.send(bytes);
+                }
+                true
+            }
             Turn(seconds, count, kept) => self.turn(*seconds) == (*count, *kept),
             Answer(seconds) => self.answer(*seconds),
             WithoutRequest(count) => self.office.without_request() == *count,
@@ -204,7 +275,7 @@ impl<'a> Desk<'a> {
         let now = after(self.start, seconds);
         self.office
             .step(self.alloc, &self.requests, now, &self.report);
-        let request = self.office.take();
+        let request = self.office.take(now);
         let count = request.map_or(0, |request| request.bytes().len());
         (count, self.office.len())
     }
@@ -218,12 +289,22 @@ impl<'a> Desk<'a> {
 
 /// Takes steps at an office with so many clients.
 fn play(rt: &(impl AllocGlobal + Abort), clients: usize, steps: &[Step]) -> Result<(), Fail> {
+    play_with(rt, clients, usize::MAX, steps)
+}
+
+/// Takes steps at an office with so many clients, where the system has so many descriptors.
+fn play_with(
+    rt: &(impl AllocGlobal + Abort),
+    clients: usize,
+    descriptors: usize,
+    steps: &[Step],
+) -> Result<(), Fail> {
     let bench = Bench::new(rt.alloc());
     let mut wires = Vec::new(rt.alloc());
     for _ in 0..clients {
         wires.push(Wire::new(&bench))?;
     }
-    play_over(rt, &bench, wires.as_slice(), steps)
+    play_over(rt, &bench, wires.as_slice(), descriptors, steps)
 }
 
 /// Takes steps over these connections.
@@ -231,9 +312,10 @@ fn play_over(
     rt: &(impl AllocGlobal + Abort),
     bench: &Bench,
     wires: &[Wire<'_>],
+    descriptors: usize,
     steps: &[Step],
 ) -> Result<(), Fail> {
-    let mut desk = Desk::new(rt.alloc(), bench, wires)?;
+    let mut desk = Desk::new(rt.alloc(), bench, wires, descriptors)?;
     take_steps(rt, &mut desk, steps);
     Ok(())
 }
@@ -255,7 +337,7 @@ fn judges_in_the_order_in_which_they_became_whole(rt: HostRuntime) -> Result<(),
 }
 
 #[test]
-fn closes_sixteen_silent_ones_for_the_next(rt: HostRuntime) -> Result<(), Fail> {
+fn closes_silent_ones_and_the_oldest_for_another(rt: HostRuntime) -> Result<(), Fail> {
     play(&rt, 17, &SILENT)
 }
 
@@ -282,4 +364,29 @@ fn reads_four_times_a_turn(rt: HostRuntime) -> Result<(), Fail> {
 #[test]
 fn keeps_the_rest_of_a_response(rt: HostRuntime) -> Result<(), Fail> {
     play(&rt, 2, &REST)
+}
+
+#[test]
+fn gives_the_places_to_whole_requests_first(rt: HostRuntime) -> Result<(), Fail> {
+    play(&rt, 40, &BEHIND_SILENT)
+}
+
+#[test]
+fn lets_a_seventeenth_whole_request_wait(rt: HostRuntime) -> Result<(), Fail> {
+    play(&rt, 17, &SIXTEEN_WHOLE)
+}
+
+#[test]
+fn closes_a_request_that_waited_five_seconds(rt: HostRuntime) -> Result<(), Fail> {
+    play(&rt, 3, &LATE)
+}
+
+#[test]
+fn counts_the_age_of_a_request_from_its_last_piece(rt: HostRuntime) -> Result<(), Fail> {
+    play(&rt, 1, &IN_TIME)
+}
+
+#[test]
+fn goes_on_with_few_descriptors(rt: HostRuntime) -> Result<(), Fail> {
+    play_with(&rt, 3, 2, &FEW_DESCRIPTORS)
 }

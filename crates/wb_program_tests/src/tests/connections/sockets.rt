@@ -87,9 +87,10 @@ static LONG_EXCHANGES: Course = Course {
         Step::Client(3, Sends(b"S\r\n")),
         Turn(Load(6), 3, true, 2_500),
         Step::Client(3, Sends(b"SI\r\n")),
-        // the lines that came in the meantime are old
+        // the lines that came in the meantime are old, and so may be what the terminal sent
         Turn(Lost, 0, false, 0),
-        Turn(Lost, 4, true, 0),
+        Turn(Lost, 0, true, 0),
+        Step::Client(3, IsClosed),
         Turn(Load(9), 0, false, 0),
         Told(""),
     ],
@@ -111,7 +112,21 @@ static SLOW_CLIENT: Course = Course {
     ],
 };
 
-/// The process stands still for a while before the terminal and the office are asked, and they have asked meanwhile.
+/// The process stands still for one and a half seconds before the terminal and the office are asked, and they have asked meanwhile.
+static STANDS_STILL_SHORTLY: Course = Course {
+    times: &[0, 100, 200, 1_650],
+    script: b"1\n|2\n|3\n|4\n",
+    clients: 1,
+    is_verbose: false,
+    steps: &[
+        Turn(Load(1), 0, false, 0),
+        Stopped(Load(2), 1_500),
+        Turn(Lost, 4, true, 0),
+        Turn(Load(4), 0, false, 0),
+    ],
+};
+
+/// It stands still for five seconds: what was asked is dropped.
 static STANDS_STILL: Course = Course {
     times: &[0, 100, 200, 5_150],
     script: b"1\n|2\n|3\n|4\n",
@@ -124,8 +139,10 @@ static STANDS_STILL: Course = Course {
         Turn(Lost, 0, false, 0),
         Turn(Lost, 0, false, 0),
         Turn(Lost, 0, false, 0),
-        Turn(Lost, 4, true, 0),
+        Turn(Lost, 0, false, 0),
         Turn(Load(4), 0, false, 0),
+        Step::Client(0, IsClosed),
+        Step::Client(1, IsClosed),
     ],
 };
 
@@ -293,6 +310,11 @@ fn goes_on_with_a_response_while_it_waits_for_a_line(rt: HostRuntime) -> Result<
 
 #[test]
 fn hands_out_nothing_over_an_old_reading(rt: HostRuntime) -> Result<(), Fail> {
+    play(&rt, &STANDS_STILL_SHORTLY)
+}
+
+#[test]
+fn drops_what_came_while_it_stood_still_for_long(rt: HostRuntime) -> Result<(), Fail> {
     play(&rt, &STANDS_STILL)
 }
 

@@ -1,7 +1,7 @@
 //! The terminal's connection over turns.
 use self::Step::{HangsUp, Replies, Reply, Turn};
 use super::clients::Client::{
-    Ends, Fails, Got, IsClosed, IsOpen, Refuses, Sends, SendsMany, Takes,
+    Comes, Ends, Fails, Got, IsClosed, IsOpen, Refuses, Sends, SendsMany, StaysAway, Takes,
 };
 use super::clients::{Client, plays};
 use super::memory::{Bench, Door, Wire, after};
@@ -147,6 +147,88 @@ static REFUSES: [Step; 10] = [
     Step::Client(0, IsClosed),
 ];
 
+/// One sends a command while another is served, and waits for two seconds. One that waits and sends nothing is served.
+static LATE_BEHIND_ANOTHER: [Step; 10] = [
+    Turn(0, 0),
+    Step::Client(1, Sends(b"TA 9000 kg\r\n")),
+    Turn(1, 0),
+    Step::Client(1, IsOpen),
+    Turn(2, 0),
+    Step::Client(1, IsClosed),
+    Step::Client(0, Ends),
+    HangsUp(60),
+    Step::Client(2, Sends(b"SI\r\n")),
+    Turn(61, 4),
+];
+
+static IN_TIME_BEHIND_ANOTHER: [Step; 5] = [
+    Turn(0, 0),
+    Step::Client(1, Sends(b"Z\r\n")),
+    Step::Client(0, Ends),
+    HangsUp(1),
+    Turn(1, 3),
+];
+
+/// A command of the one that is served, over a turn that took a second, and over one that took two.
+static LATE: [Step; 7] = [
+    Turn(0, 0),
+    Step::Client(0, Sends(b"SI\r\n")),
+    Turn(1, 4),
+    Step::Client(0, Sends(b"Z\r\n")),
+    HangsUp(3),
+    Step::Client(0, IsClosed),
+    Turn(3, 0),
+];
+
+/// More than turns take, for two seconds.
+static WITHOUT_END: [Step; 5] = [
+    Step::Client(0, SendsMany(9_216)),
+    Turn(0, 256),
+    Turn(1, 256),
+    HangsUp(2),
+    Step::Client(0, IsClosed),
+];
+
+static FOUR_WAIT: [Step; 14] = [
+    Step::Client(1, StaysAway),
+    Step::Client(6, StaysAway),
+    Turn(0, 0),
+    Step::Client(1, Comes),
+    Turn(0, 0),
+    Step::Client(4, IsOpen),
+    Step::Client(5, IsClosed),
+    Step::Client(1, Ends),
+    Step::Client(2, Fails(ConnectionReset)),
+    Step::Client(6, Comes),
+    Turn(1, 0),
+    Step::Client(1, IsClosed),
+    Step::Client(2, IsClosed),
+    // a place is free for it
+    Step::Client(6, IsOpen),
+];
+
+/// One that says nothing, and another that comes when a minute has passed.
+static IDLE: [Step; 7] = [
+    Step::Client(1, StaysAway),
+    Turn(0, 0),
+    Turn(90, 0),
+    Step::Client(0, IsOpen),
+    Step::Client(1, Comes),
+    HangsUp(91),
+    Turn(91, 0),
+];
+
+/// One that says something within the minute, while another waits.
+static DISPLAY: [Step; 7] = [
+    Turn(0, 0),
+    Turn(58, 0),
+    Step::Client(0, Sends(b"SIR\r\n")),
+    Turn(59, 5),
+    Turn(118, 0),
+    HangsUp(119),
+    Step::Client(0, IsClosed),
+];
+
 /// A terminal, and what its turns take.
 #[derive(Drop)]
 struct Desk<'a> {
@@ -160,7 +242,7 @@ impl<'a> Desk<'a> {
     fn new(alloc: Global, bench: &'a Bench, wires: &'a [Wire<'a>]) -> Result<Self, Fail> {
         Ok(Desk {
             start: Instant::now(bench)?,
-            terminal: Terminal::new(alloc, Door::new(wires))?,
+            terminal: Terminal::new(alloc, Door::new(wires), Instant::now(bench)?)?,
             wires,
             report: Report::new(bench, false),
         })
@@ -183,7 +265,7 @@ impl<'a> Desk<'a> {
         let mut room = [0u8; TERMINAL_ROOM];
         let now = after(self.start, seconds);
         self.terminal.step(now, &self.report);
-        let Taken { count, hung_up } = self.terminal.take(&mut room);
+        let Taken { count, hung_up } = self.terminal.take(now, &self.report, &mut room);
         (count, hung_up)
     }
 
@@ -266,4 +348,39 @@ fn hangs_up_one_that_takes_no_value_for_five_seconds(rt: HostRuntime) -> Result<
 #[test]
 fn hangs_up_one_for_which_too_many_replies_wait(rt: HostRuntime) -> Result<(), Fail> {
     play(&rt, 1, &TOO_MANY)
+}
+
+#[test]
+fn drops_what_waited_two_seconds_behind_another(rt: HostRuntime) -> Result<(), Fail> {
+    play(&rt, 3, &LATE_BEHIND_ANOTHER)
+}
+
+#[test]
+fn hands_in_what_waited_a_second_behind_another(rt: HostRuntime) -> Result<(), Fail> {
+    play(&rt, 2, &IN_TIME_BEHIND_ANOTHER)
+}
+
+#[test]
+fn drops_what_may_have_come_two_seconds_before(rt: HostRuntime) -> Result<(), Fail> {
+    play(&rt, 1, &LATE)
+}
+
+#[test]
+fn hangs_up_one_that_sends_without_end(rt: HostRuntime) -> Result<(), Fail> {
+    play(&rt, 1, &WITHOUT_END)
+}
+
+#[test]
+fn lets_four_wait_that_go_on(rt: HostRuntime) -> Result<(), Fail> {
+    play(&rt, 7, &FOUR_WAIT)
+}
+
+#[test]
+fn hangs_up_an_idle_one_for_another(rt: HostRuntime) -> Result<(), Fail> {
+    play(&rt, 2, &IDLE)
+}
+
+#[test]
+fn keeps_one_that_says_something_each_minute(rt: HostRuntime) -> Result<(), Fail> {
+    play(&rt, 2, &DISPLAY)
 }

@@ -1,0 +1,72 @@
+//! The look at a journal's log before the journal is opened. It reads, and makes and writes nothing.
+use crate::fault::FileFault;
+use os::RangeLock;
+use std::fs;
+use std::fs::File;
+use std::io::ErrorKind;
+use std::os::fd::AsRawFd;
+use wb_log::look;
+use wb_store::StoreFault;
+
+/// What the name of a database's log has behind that of its file.
+pub(crate) const LOG: &str = "-wal";
+
+/// Where the bytes begin that whoever opens a database locks, and how many they are.
+const LOCKED_FROM: u64 = 1 << 30;
+
+const LOCKED: u64 = 512;
+
+/// Refuses as Disk the journal in the file, if a power cut can't have left its log as it is, and tells on standard error which file and what
+/// place are damaged. So is a journal that another program holds. What isn't there is no fault.
+pub(crate) fn look_at_log(rt: &HostRuntime, path: &str) -> Result<(), StoreFault> {
+    match look_locked(rt, path) {
+        Ok(()) => Ok(()),
+        Err(fault) => Err(StoreFault::from(fault)),
+    }
+}
+
+fn look_locked(rt: &HostRuntime, path: &str) -> Result<(), FileFault> {
+    // what belongs to a database lies where a link leads
+    let real = match fs::canonicalize(rt, path) {
+        Ok(real) => real,
+        Err(error) if error.kind() == ErrorKind::NotFound => return look_beside(rt, path, 0),
+        Err(error) => return Err(FileFault::from(error)),
+    };
+    let file = open_locked(rt, real.as_str())?;
+    look_beside(rt, real.as_str(), file.metadata()?.len())
+}
+
+/// Opens the database in the file for reading. A program that has it open, and keeps others from it, is a fault.
+pub(crate) fn open_locked(rt: &HostRuntime, path: &str) -> Result<File, FileFault> {
+    if !fs::metadata(rt, path)?.is_file() {
+        return Err(FileFault::Disk);
+    }
+    let file = fs::open(rt, path)?;
+    if os::try_lock_range(file.as_raw_fd(), RangeLock::Shared, LOCKED_FROM, LOCKED) != 0 {
+        return Err(FileFault::Disk);
+    }
+    Ok(file)
+}
+
+/// Looks at the log beside a file of so many bytes.
+pub(crate) fn look_beside(rt: &HostRuntime, path: &str, length: u64) -> Result<(), FileFault> {
+    let log = format!(in rt.alloc(); "{path}{LOG}")?;
+    let found = match fs::metadata(rt, log.as_str()) {
+        Ok(found) => found,
+        Err(error) if error.kind() == ErrorKind::NotFound => return Ok(()),
+        Err(error) => return Err(FileFault::from(error)),
+    };
+    if !found.is_file() {
+        return Err(FileFault::Disk);
+    }
+    let bytes = fs::read(rt, log.as_str())?;
+    match look(length, bytes.as_slice()) {
+        Ok(()) => Ok(()),
+        Err(refusal) => {
+            let _ = eprintln!(rt;
+                "{log}: {refusal}; nothing was opened or changed, keep both files: see operating.md, A log that is refused"
+            );
+            Err(FileFault::Disk)
+        }
+    }
+}
