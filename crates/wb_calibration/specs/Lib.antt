@@ -2,6 +2,8 @@
 pub mod Turned
 pub mod Calibration
 pub mod Fault
+pub mod Readings
+pub mod Filter
 pub mod Line
 pub mod Laws
 pub mod helpers

@@ -10,9 +10,13 @@
 
 mod calibration;
 mod fault;
+mod filter;
 mod point;
+mod readings;
 mod segment;
 
 pub use calibration::Calibration;
 pub use fault::CalibrationFault;
+pub use filter::Filter;
 pub use point::Point;
+pub use readings::Readings;

@@ -1,2 +1,5 @@
+pub mod Filters
 pub mod Means
+pub mod Places
 pub mod Theorems
+pub mod Tenths

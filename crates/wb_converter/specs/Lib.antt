@@ -4,6 +4,9 @@ pub mod Cut
 pub mod Answer
 pub mod Outbox
 pub mod Sample
+pub mod Filter
 pub mod Sensitivity
+pub mod Weights
 pub mod Taken
 pub mod Laws
+pub mod FilterLaws

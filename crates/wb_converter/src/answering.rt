@@ -18,7 +18,17 @@ pub fn answer(calibration: &Calibration, line: &[u8]) -> ArrayString<12>
         → ((tenths : ℤ) → ¬ IsLoadOf calibration.now counts tenths) → result.bytes ≡ lost_line }
     ensures no_counts { counts_of line.now ≡ None → result.bytes ≡ lost_line }
 {
-    match counts_line(line) {
+    answer_to(calibration, counts_line(line))
+}
+
+/// The line that is handed on for counts, or for a reading that has none.
+pub fn answer_to(calibration: &Calibration, counts: Option<i32>) -> ArrayString<12>
+    ensures load { (n tenths : ℤ) → counts ≡ Some n → IsLoadOf calibration.now n tenths → result.bytes ≡ line_of tenths }
+    ensures no_load { (n : ℤ) → counts ≡ Some n → ((tenths : ℤ) → ¬ IsLoadOf calibration.now n tenths)
+        → result.bytes ≡ lost_line }
+    ensures no_counts { counts ≡ None → result.bytes ≡ lost_line }
+{
+    match counts {
         Some(counts) => match calibration.load(counts) {
             Some(tenths) => load_line(tenths),
             None => lost(),

@@ -1,13 +1,17 @@
 //! The load of each line of counts, handed on as it comes.
-use crate::answering::answer;
+use crate::answering::{answer, answer_to};
 use crate::client::{Clients, is_waiting};
+use crate::counts::counts_line;
 use crate::cut_lines::Lines;
+use crate::filtering::Filtering;
+use crate::outbox::LINE_ROOM;
+use arrayvec::ArrayString;
 use std::io::{Read, Write};
 use std::net::{OpenListener, OpenStream};
 use std::thread;
 use std::time::{Clock, Duration, Instant};
 use thiserror::Error;
-use wb_calibration::Calibration;
+use wb_calibration::{Calibration, Filter};
 use wb_connections::Report;
 
 /// How many bytes of lines are read at once.
@@ -45,19 +49,23 @@ impl RunEnd {
 #[derive(Drop)]
 struct Input {
     lines: Lines,
+    /// The last readings, if a filter makes one value of them.
+    filtering: Option<Filtering>,
     /// How many lines came.
     count: u64,
     /// When a read last found nothing. What is read later came after that.
     looked: Instant,
 }
 
-/// Hands the load of each line of an input, which is set to not wait, to the client that is connected, until the input ends.
+/// Hands the load of each line of an input, which is set to not wait, or of what the filter makes of the last lines, to the client
+/// that is connected, until the input ends.
 ///
 /// A client that is slow is handed the newest line, and none that may have come a second before. It never holds the input up.
 pub fn run<R: Clock + Eprint, I: Read, L: OpenListener + Drop>(
     rt: &R,
     input: &mut I,
     calibration: &Calibration,
+    filter: Option<Filter>,
     clients: &mut Clients<L>,
     report: &Report<'_, R>,
 ) -> RunEnd
@@ -69,6 +77,10 @@ where
     };
     let mut state = Input {
         lines: Lines::new(),
+        filtering: match filter {
+            Some(filter) => Some(Filtering::new(filter)),
+            None => None,
+        },
         count: 0,
         looked: now,
     };
@@ -130,7 +142,7 @@ impl Input {
             };
             left = after;
             self.count = self.count.saturating_add(1);
-            clients.offer(&answer(calibration, self.lines.line()), self.looked);
+            clients.offer(&self.answer(calibration), self.looked);
             self.lines.begin();
             let Ok(now) = Instant::now(rt) else {
                 return Some(RunEnd::Clock);
@@ -138,5 +150,14 @@ impl Input {
             clients.step(now, report);
         }
         None
+    }
+
+    /// What is handed on for the line that ended.
+    fn answer(&mut self, calibration: &Calibration) -> ArrayString<LINE_ROOM> {
+        let line = self.lines.line();
+        match &mut self.filtering {
+            Some(filtering) => answer_to(calibration, filtering.take(counts_line(line))),
+            None => answer(calibration, line),
+        }
     }
 }

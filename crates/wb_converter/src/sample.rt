@@ -54,7 +54,7 @@ fn least(counts: &[i32]) -> i32
 }
 
 /// A sum divided by a number, rounded to a whole number, an exact half up.
-fn nearest(sum: i64, number: i64) -> i64
+pub(crate) fn nearest(sum: i64, number: i64) -> i64
     requires sum { unsigned_abs sum ≤ 2 ^ 60 }
     requires positive { pos 0 <ℤ number }
     requires number { number ≤ℤ pos (2 ^ 60) }

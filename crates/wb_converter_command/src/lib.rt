@@ -5,8 +5,9 @@
 #![tactic(auto)]
 
 mod arguments;
+mod filter_words;
 mod making_words;
 mod words;
 
-pub use making_words::Sampling;
-pub use words::{Asked, REFUSED, read_words};
+pub use making_words::{Load, Sampling};
+pub use words::{Asked, REFUSED, Running, read_words};

@@ -1,10 +1,16 @@
 //! The words of making a calibration.
 use crate::arguments::over_calibration;
+use crate::filter_words::filter_argument;
 use clap::{Arg, ArgAction, ArgMatches, Command, value_parser};
 use std::alloc::{AllocError, Global};
 
 /// The greatest load that a point can have, in tenths of the verification scale interval.
 const GREATEST_LOAD: i64 = 2_000_000;
+
+/// The greatest load in kilograms, that of the greatest interval, and this interval.
+const GREATEST_KILOGRAMS: i64 = 10_000_000;
+
+const GREATEST_INTERVAL: i64 = 50;
 
 /// The most lines of which a mean is taken.
 const MOST_LINES: i64 = 10_000;
@@ -12,19 +18,31 @@ const MOST_LINES: i64 = 10_000;
 /// The greatest spread that can be allowed, in counts.
 const GREATEST_SPREAD: i64 = 4_294_967_295;
 
-const POINT_EXAMPLE: &str = "Example, with 400 intervals of test weights on the bridge:
-  modbus --tcp 192.168.1.10 .. | weighbridge-converter point --calibration calibration --load 4000 --spread 20
-takes 50 lines of counts, prints their mean and spread, and keeps the mean as a point, unless they spread over more than 20 counts.";
+const POINT_EXAMPLE: &str =
+    "Example, with 8000 kg of test weights on a bridge whose interval is 20 kg:
+  modbus --tcp 192.168.1.10 .. | weighbridge-converter point --calibration calibration --load-kg 8000 --interval 20 --spread 20
+prints that these are 4000 tenths, takes 50 lines of counts, prints their mean and spread, and keeps the mean as a point, unless they
+spread over more than 20 counts. --load 4000 is the same load.";
 
 const FINISH_EXAMPLE: &str = "Example:
-  weighbridge-converter finish --calibration calibration
-puts a calibration of the points that were taken behind those in the file, and prints its number and its digest.";
+  weighbridge-converter finish --calibration calibration --filter median 5
+puts a calibration of the points that were taken, with this filter, behind those in the file, and prints its number and its digest. If no
+points were taken, the new calibration has those of the newest, with this filter in place of its own; mean 1 filters nothing.";
+
+/// The load on the bridge while a point is taken.
+#[derive(Clone, Copy)]
+pub enum Load {
+    /// In tenths of the verification scale interval.
+    Tenths(i32),
+    /// In kilograms, and the verification scale interval in kilograms.
+    Kilograms(u32, u32),
+}
 
 /// How a point is taken.
 #[derive(Clone, Copy)]
 pub struct Sampling {
-    /// The load in tenths of the verification scale interval.
-    pub tenths: i32,
+    /// The load.
+    pub load: Load,
     /// Of how many lines the mean is taken.
     pub lines: u32,
     /// The greatest spread that is accepted.
@@ -50,7 +68,23 @@ fn number_argument<'a>(
 
 fn load_argument<'a>(alloc: Global) -> Arg<'a> {
     let help = "load on the bridge in tenths of the verification scale interval: 0 to 2000000";
-    number_argument(alloc, "load", "TENTHS", 0, GREATEST_LOAD, help).required(true)
+    number_argument(alloc, "load", "TENTHS", 0, GREATEST_LOAD, help)
+}
+
+/// The load in kilograms, in place of the one in tenths.
+fn kilograms_argument<'a>(alloc: Global) -> Result<Arg<'a>, AllocError> {
+    let help =
+        "load on the bridge in kg, in place of --load: a whole number of tenths of --interval";
+    let load = number_argument(alloc, "load-kg", "KG", 0, GREATEST_KILOGRAMS, help);
+    load.required_unless_present("load")?
+        .conflicts_with("load")?
+        .requires_arg("interval")
+}
+
+fn interval_argument<'a>(alloc: Global) -> Result<Arg<'a>, AllocError> {
+    let help = "with --load-kg: verification scale interval e in kg: 1 to 50";
+    let interval = number_argument(alloc, "interval", "KG", 1, GREATEST_INTERVAL, help);
+    interval.requires_arg("load-kg")?.conflicts_with("load")
 }
 
 fn spread_argument<'a>(alloc: Global) -> Arg<'a> {
@@ -68,6 +102,8 @@ pub(crate) fn point_command<'a>(alloc: Global) -> Result<Command<'a>, AllocError
     let about = "takes a point of a calibration from lines of counts on standard input";
     let point = over_calibration(alloc, "point", about, POINT_EXAMPLE)?;
     let point = point.arg(load_argument(alloc))?;
+    let point = point.arg(kilograms_argument(alloc)?)?;
+    let point = point.arg(interval_argument(alloc)?)?;
     let point = point.arg(spread_argument(alloc))?;
     point.arg(lines_argument(alloc))
 }
@@ -75,14 +111,27 @@ pub(crate) fn point_command<'a>(alloc: Global) -> Result<Command<'a>, AllocError
 /// The subcommand `finish`.
 pub(crate) fn finish_command<'a>(alloc: Global) -> Result<Command<'a>, AllocError> {
     let about = "makes a calibration of the points that were taken";
-    over_calibration(alloc, "finish", about, FINISH_EXAMPLE)
+    let finish = over_calibration(alloc, "finish", about, FINISH_EXAMPLE)?;
+    let help =
+        "what is made of the last 1 to 32 readings: median or mean, and of how many; nothing if it isn't given";
+    finish.arg(filter_argument(alloc, help))
 }
 
 /// How the words have a point taken. None if a word is missing, which `clap` doesn't let through.
 pub(crate) fn sampling_of(words: &ArgMatches<'_>) -> Option<Sampling> {
     Some(Sampling {
-        tenths: i32::try_from(words.get_one::<u32>("load")?).ok()?,
+        load: load_of(words)?,
         lines: words.get_one::<u32>("lines")?,
         spread: words.get_one::<u32>("spread")?,
     })
+}
+
+fn load_of(words: &ArgMatches<'_>) -> Option<Load> {
+    match words.get_one::<u32>("load") {
+        Some(tenths) => Some(Load::Tenths(i32::try_from(tenths).ok()?)),
+        None => Some(Load::Kilograms(
+            words.get_one::<u32>("load-kg")?,
+            words.get_one::<u32>("interval")?,
+        )),
+    }
 }

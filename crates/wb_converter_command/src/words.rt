@@ -1,8 +1,11 @@
 //! The words of the command line.
 use crate::arguments::{Text, flag, over_calibration, text_argument, text_of};
+use crate::filter_words::{FILTER_FORM, FilterWords, filter_argument, filter_of};
 use crate::making_words::{Sampling, finish_command, point_command, sampling_of};
+use clap::error::ErrorKind;
 use clap::{ArgMatches, Command};
 use std::alloc::{AllocError, Global};
+use wb_calibration::Filter;
 
 /// The status of words that are refused.
 pub const REFUSED: u8 = 2;
@@ -25,15 +28,28 @@ static LISTEN: Text = Text(
     "address on which a client connects: an IPv4 address of 127.0.0.0/8, a colon and a port",
 );
 
+/// How lines are handed on.
+#[derive(Drop)]
+pub struct Running {
+    /// The file of the calibrations.
+    pub calibration: String,
+    /// The address at which a client connects.
+    pub address: String,
+    /// The filter that the calibration has to have, if one is given.
+    pub filter: Option<Filter>,
+    /// Whether what happens is reported on standard error.
+    pub is_verbose: bool,
+}
+
 /// What the words of the command line ask for. The first text is the file of the calibrations.
 #[derive(Drop)]
 pub enum Asked {
-    /// Lines are to be handed on at this address; and whether what happens is reported on standard error.
-    Run(String, String, bool),
+    /// Lines are to be handed on, by a calibration with this filter if one is given.
+    Run(Running),
     /// A point is to be taken.
     Point(String, Sampling),
-    /// A calibration is to be made of the points that were taken.
-    Finish(String),
+    /// A calibration is to be made of the points that were taken, with this filter or none.
+    Finish(String, Option<Filter>),
     /// The newest calibration is to be shown.
     Show(String),
     /// What gnuplot draws of the newest calibration is to be printed.
@@ -64,17 +80,45 @@ fn asked_of(alloc: Global, name: &str, words: &ArgMatches<'_>) -> Result<Asked, 
     match name {
         "run" => run_of(alloc, calibration, words),
         "point" => Ok(point_of(calibration, words)),
-        "finish" => Ok(Asked::Finish(calibration)),
+        "finish" => finish_of(alloc, calibration, words),
         "show" => Ok(show_of(calibration, words)),
         _ => Ok(Asked::Nothing),
     }
 }
 
 fn run_of(alloc: Global, calibration: String, words: &ArgMatches<'_>) -> Result<Asked, AllocError> {
-    match text_of(alloc, words, "listen")? {
-        Some(address) => Ok(Asked::Run(calibration, address, words.get_flag("verbose"))),
-        None => Ok(Asked::Nothing),
+    let Some(address) = text_of(alloc, words, "listen")? else {
+        return Ok(Asked::Nothing);
+    };
+    let filter = match filter_of(words) {
+        FilterWords::Nothing => None,
+        FilterWords::Wanted(filter) => Some(filter),
+        FilterWords::Other => return refused(alloc),
+    };
+    Ok(Asked::Run(Running {
+        calibration,
+        address,
+        filter,
+        is_verbose: words.get_flag("verbose"),
+    }))
+}
+
+fn finish_of(
+    alloc: Global,
+    calibration: String,
+    words: &ArgMatches<'_>,
+) -> Result<Asked, AllocError> {
+    match filter_of(words) {
+        FilterWords::Nothing => Ok(Asked::Finish(calibration, None)),
+        FilterWords::Wanted(filter) => Ok(Asked::Finish(calibration, Some(filter))),
+        FilterWords::Other => refused(alloc),
     }
+}
+
+/// Words that are none of a filter are refused.
+fn refused(alloc: Global) -> Result<Asked, AllocError> {
+    let error = command(alloc)?.error(ErrorKind::ValueValidation, FILTER_FORM)?;
+    Ok(Asked::WordsRefused(error))
 }
 
 fn point_of(calibration: String, words: &ArgMatches<'_>) -> Asked {
@@ -98,6 +142,9 @@ fn run_command<'a>(alloc: Global) -> Result<Command<'a>, AllocError> {
         "hands the load of each line of counts on standard input to the client that is connected";
     let run = over_calibration(alloc, "run", about, RUN_EXAMPLE)?;
     let run = run.arg(text_argument(alloc, &LISTEN))?;
+    let help =
+        "what the calibration has to make of the last readings, as given to finish; any other is refused";
+    let run = run.arg(filter_argument(alloc, help))?;
     let help = "report connections and faults on standard error";
     run.arg(flag(alloc, "verbose", help))
 }

@@ -41,6 +41,18 @@ pub(crate) enum Fault {
     /// The points are none of a calibration.
     #[error("refused: {0}")]
     Calibration(CalibrationFault),
+    /// So many kilograms are no whole number of tenths of this interval in kilograms, or more than a point can have.
+    #[error("refused: {0} kg are no whole number of tenths of {1} kg from 0 to 2000000: give --load in tenths")]
+    Weights(u32, u32),
+    /// The newest calibration has no filter, and one was given.
+    #[error("refused: the newest calibration has no filter: leave --filter out, or give it to finish for a new calibration")]
+    NoFilter,
+    /// The newest calibration has the median of so many readings, and another filter was given.
+    #[error("refused: the newest calibration has the filter median {0}: give that, or give another to finish for a new calibration")]
+    Median(u8),
+    /// It has the mean of so many readings, and another filter was given.
+    #[error("refused: the newest calibration has the filter mean {0}: give that, or give another to finish for a new calibration")]
+    Mean(u8),
     /// An address isn't one of this machine alone, or can't be bound.
     #[error("address fault")]
     Address,

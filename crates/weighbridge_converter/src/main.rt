@@ -10,16 +10,17 @@ mod sources;
 
 use crate::fault::Fault;
 use crate::files::{bytes_of, newest_of};
-use crate::making::{Found, finish, keep_point, sample};
+use crate::making::{Found, finish, keep_point, sample, tenths_of};
 use crate::serving::serve;
 use crate::showing::{plot, show};
 use crate::sources::{KIT, SOURCES};
 use clap::error::ErrorKind;
 use std::io;
 use std::process::ExitCode;
+use wb_calibration::Filter;
 use wb_calibration_file::Made;
 use wb_converter::{RunEnd, text_of};
-use wb_converter_command::{Asked, REFUSED, Sampling, read_words};
+use wb_converter_command::{Asked, Load, REFUSED, Sampling, read_words};
 
 /// The status of any fault but refused words.
 const FAULT: u8 = 1;
@@ -30,12 +31,12 @@ fn main(rt: HostRuntime) -> io::Result<ExitCode> {
         words.push(word)?;
     }
     match read_words(rt.alloc(), words.as_slice())? {
-        Asked::Run(path, address, is_verbose) => {
-            let end = serve(&rt, path.as_str(), address.as_str(), is_verbose);
+        Asked::Run(running) => {
+            let end = serve(&rt, &running);
             end_run(&rt, end)
         }
         Asked::Point(path, sampling) => run_point(&rt, path.as_str(), sampling),
-        Asked::Finish(path) => run_finish(&rt, path.as_str()),
+        Asked::Finish(path, filter) => run_finish(&rt, path.as_str(), filter),
         Asked::Show(path) => run_show(&rt, path.as_str(), Print::Text),
         Asked::Plot(path) => run_show(&rt, path.as_str(), Print::Plot),
         Asked::WordsRefused(error) => tell(&rt, &error),
@@ -72,27 +73,58 @@ fn end_run(rt: &HostRuntime, end: Result<RunEnd, Fault>) -> io::Result<ExitCode>
     }
 }
 
-/// Takes a point: prints mean and spread, and then all points that are kept.
+/// Takes a point: prints what weights come to, mean and spread, and then all points that are kept.
 fn run_point(rt: &HostRuntime, path: &str, sampling: Sampling) -> io::Result<ExitCode> {
-    match sample(rt, path, sampling) {
-        Ok(found) => {
-            print_sample(rt, sampling, found)?;
-            keep(rt, path, sampling, found)
+    match tenths_of(sampling.load) {
+        Ok(tenths) => {
+            print_load(rt, sampling.load, tenths)?;
+            take_point(rt, path, sampling, tenths)
         }
         Err(fault) => tell_fault(rt, fault),
     }
 }
 
-fn print_sample(rt: &HostRuntime, sampling: Sampling, found: Found) -> io::Result<()> {
+/// Prints what a load in kilograms comes to.
+fn print_load(rt: &HostRuntime, load: Load, tenths: i32) -> io::Result<()> {
+    match load {
+        Load::Kilograms(kilograms, interval) => println!(rt;
+            "{kilograms} kg are {tenths} tenths of e, which is {interval} kg"
+        ),
+        Load::Tenths(_) => Ok(()),
+    }
+}
+
+fn take_point(
+    rt: &HostRuntime,
+    path: &str,
+    sampling: Sampling,
+    tenths: i32,
+) -> io::Result<ExitCode> {
+    match sample(rt, path, sampling) {
+        Ok(found) => {
+            print_sample(rt, sampling, tenths, found)?;
+            keep(rt, path, sampling, tenths, found)
+        }
+        Err(fault) => tell_fault(rt, fault),
+    }
+}
+
+fn print_sample(rt: &HostRuntime, sampling: Sampling, tenths: i32, found: Found) -> io::Result<()> {
     let Found { mean, spread } = found;
     println!(rt;
-        "load {} mean {mean} spread {spread} lines {}",
-        sampling.tenths, sampling.lines
+        "load {tenths} mean {mean} spread {spread} lines {}",
+        sampling.lines
     )
 }
 
-fn keep(rt: &HostRuntime, path: &str, sampling: Sampling, found: Found) -> io::Result<ExitCode> {
-    match keep_point(rt, path, sampling, found) {
+fn keep(
+    rt: &HostRuntime,
+    path: &str,
+    sampling: Sampling,
+    tenths: i32,
+    found: Found,
+) -> io::Result<ExitCode> {
+    match keep_point(rt, path, sampling, tenths, found) {
         Ok(points) => {
             print!(rt; "{}", text_of(&points).as_str())?;
             Ok(ExitCode::SUCCESS)
@@ -102,9 +134,18 @@ fn keep(rt: &HostRuntime, path: &str, sampling: Sampling, found: Found) -> io::R
 }
 
 /// Makes a calibration of the points that are kept, and prints it.
-fn run_finish(rt: &HostRuntime, path: &str) -> io::Result<ExitCode> {
-    match finish(rt, path) {
-        Ok(made) => print_made(rt, &made, Print::Text),
+fn run_finish(rt: &HostRuntime, path: &str, filter: Option<Filter>) -> io::Result<ExitCode> {
+    match finish(rt, path, filter) {
+        Ok(finished) => {
+            let status = print_made(rt, &finished.made, Print::Text)?;
+            if finished.leaves_points {
+                eprintln!(rt;
+                    "{path}.points can't be removed: the calibration stands; remove that file, or finish again with the same words"
+                )?;
+                return Ok(ExitCode::from(FAULT));
+            }
+            Ok(status)
+        }
         Err(fault) => tell_fault(rt, fault),
     }
 }

@@ -4,10 +4,12 @@ use crate::files::{bytes_of, newest_of, points_path, taken, write_anew};
 use arrayvec::ArrayVec;
 use std::fs;
 use std::time::{SystemTime, UNIX_EPOCH};
-use wb_calibration::{Calibration, Point};
+use wb_calibration::{Calibration, Filter, Point};
 use wb_calibration_file::{Made, addition, last_of};
-use wb_converter::{MOST_POINTS, mean, read_counts, spread, text_of, with_point};
-use wb_converter_command::Sampling;
+use wb_converter::{
+    MOST_POINTS, mean, read_counts, spread, tenths_of_weights, text_of, with_point,
+};
+use wb_converter_command::{Load, Sampling};
 use wb_journal::Moment;
 
 /// The points that a calibration has at most.
@@ -18,6 +20,17 @@ const MOST_OF_ONE: usize = 8;
 pub(crate) struct Found {
     pub(crate) mean: i32,
     pub(crate) spread: i64,
+}
+
+/// The load of a point in tenths of the verification scale interval.
+pub(crate) fn tenths_of(load: Load) -> Result<i32, Fault> {
+    match load {
+        Load::Tenths(tenths) => Ok(tenths),
+        Load::Kilograms(kilograms, interval) => match tenths_of_weights(kilograms, interval) {
+            Some(tenths) => Ok(tenths),
+            None => Err(Fault::Weights(kilograms, interval)),
+        },
+    }
 }
 
 /// Reads the counts of a point from standard input, once it is known that a point can be kept.
@@ -40,6 +53,7 @@ pub(crate) fn keep_point(
     rt: &HostRuntime,
     path: &str,
     sampling: Sampling,
+    tenths: i32,
     found: Found,
 ) -> Result<ArrayVec<Point, MOST_POINTS>, Fault> {
     if found.spread > i64::from(sampling.spread) {
@@ -51,7 +65,7 @@ pub(crate) fn keep_point(
     }
     let point = Point {
         counts: found.mean,
-        tenths: sampling.tenths,
+        tenths,
     };
     let points = with_point(kept.as_slice(), point);
     if points.len() > MOST_OF_ONE {
@@ -63,31 +77,74 @@ pub(crate) fn keep_point(
     Ok(points)
 }
 
-/// Puts a calibration of the points that are kept behind those in the file, and answers it as it stands there then.
-pub(crate) fn finish(rt: &HostRuntime, path: &str) -> Result<Made, Fault> {
+/// A calibration as it stands in the file, and whether the points that it was made of couldn't be removed.
+#[derive(Drop)]
+pub(crate) struct Finished {
+    pub(crate) made: Made,
+    pub(crate) leaves_points: bool,
+}
+
+/// Puts a calibration of the points that are kept, with this filter, behind those in the file, and removes the points. Of no points
+/// it is the newest with another filter. One that is as the newest isn't made again.
+pub(crate) fn finish(
+    rt: &HostRuntime,
+    path: &str,
+    filter: Option<Filter>,
+) -> Result<Finished, Fault> {
     let points = kept_points(rt, path)?;
     if points.is_empty() {
-        return Err(Fault::NoPoints);
+        return exchange_filter(rt, path, filter);
     }
     let calibration = Calibration::new(points.as_slice())?;
-    add(rt, path, &calibration)?;
+    let made = add(rt, path, filter, &calibration)?;
     let points = points_path(rt, path)?;
-    if fs::remove_file(rt, points.as_str()).is_err() {
-        return Err(Fault::Write);
+    Ok(Finished {
+        made,
+        leaves_points: fs::remove_file(rt, points.as_str()).is_err(),
+    })
+}
+
+/// Puts the newest calibration behind those in the file once more, with this filter.
+fn exchange_filter(
+    rt: &HostRuntime,
+    path: &str,
+    filter: Option<Filter>,
+) -> Result<Finished, Fault> {
+    if filter.is_none() {
+        return Err(Fault::NoPoints);
     }
+    let made = newest_of(bytes_of(rt, path)?.as_slice())?;
+    let made = add(rt, path, filter, &made.calibration)?;
+    Ok(Finished {
+        made,
+        leaves_points: false,
+    })
+}
+
+/// Puts a calibration behind those in the file, unless the newest is the same. Answers it as it stands there.
+fn add(
+    rt: &HostRuntime,
+    path: &str,
+    filter: Option<Filter>,
+    calibration: &Calibration,
+) -> Result<Made, Fault> {
+    let file = bytes_of(rt, path)?;
+    let mut number = 1;
+    if let Some(made) = last_of(file.as_slice())? {
+        number = made.number.saturating_add(1);
+        if is_same(&made, &filter, calibration) {
+            return Ok(made);
+        }
+    }
+    let moment = now(rt)?;
+    let lines = addition(file.as_slice(), number, &moment, filter, calibration);
+    write_anew(rt, path, file.as_slice(), lines.as_str().as_bytes())?;
     newest_of(bytes_of(rt, path)?.as_slice())
 }
 
-/// Puts a calibration behind those in the file.
-fn add(rt: &HostRuntime, path: &str, calibration: &Calibration) -> Result<(), Fault> {
-    let file = bytes_of(rt, path)?;
-    let number = match last_of(file.as_slice())? {
-        Some(made) => made.number.saturating_add(1),
-        None => 1,
-    };
-    let moment = now(rt)?;
-    let lines = addition(file.as_slice(), number, &moment, calibration);
-    write_anew(rt, path, file.as_slice(), lines.as_str().as_bytes())
+/// Whether a calibration has this filter and these points.
+fn is_same(made: &Made, filter: &Option<Filter>, calibration: &Calibration) -> bool {
+    made.filter == *filter && made.calibration.points() == calibration.points()
 }
 
 /// The points that are kept of a calibration which isn't finished.

@@ -1,6 +1,6 @@
 //! What is printed of a calibration.
 use std::io;
-use wb_calibration::Point;
+use wb_calibration::{Filter, Point};
 use wb_calibration_file::Made;
 use wb_converter::sensitivity;
 use wb_journal::text_of_moment;
@@ -9,9 +9,10 @@ use wb_journal::text_of_moment;
 /// count.
 const LEAST_SENSITIVITY: u64 = 100;
 
-/// Prints a calibration: its number, moment, points and digest, and how many counts stand for an interval.
+/// Prints a calibration: its number, moment, filter, points and digest, and how many counts stand for an interval.
 pub(crate) fn show(rt: &HostRuntime, made: &Made) -> io::Result<()> {
     show_head(rt, made)?;
+    show_filter(rt, made.filter)?;
     for point in made.calibration.points() {
         show_point(rt, *point)?;
     }
@@ -24,6 +25,21 @@ fn show_head(rt: &HostRuntime, made: &Made) -> io::Result<()> {
     match text_of_moment(made.moment) {
         Ok(text) => println!(rt; "at {} UTC", text.as_str()),
         Err(_) => Ok(()),
+    }
+}
+
+fn show_filter(rt: &HostRuntime, filter: Option<Filter>) -> io::Result<()> {
+    match filter {
+        Some(filter) => println!(rt; "filter {} {}", kind_of(filter), filter.readings()),
+        None => Ok(()),
+    }
+}
+
+/// What a filter makes of the last readings.
+pub(crate) fn kind_of(filter: Filter) -> &'static str {
+    match filter {
+        Filter::Median(_) => "median",
+        Filter::Mean(_) => "mean",
     }
 }
 

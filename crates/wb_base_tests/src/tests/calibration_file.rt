@@ -4,7 +4,7 @@ use std::alloc::Global;
 use std::fmt::Write;
 use std::process::Abort;
 use std::test::Fail;
-use wb_calibration::{Calibration, Point};
+use wb_calibration::{Calibration, Filter, Point, Readings};
 use wb_calibration_file::{Made, addition, last_of};
 use wb_journal::Moment;
 
@@ -13,6 +13,19 @@ const FIRST: &str =
 
 const SECOND: &str =
     "calibration 2\nmoment 1795651200\npoint 500000 0\npoint 100000 20000\ndigest 7ea1187578effe32284dccbfd7a31b479c4ad8fc405e9a650cee8553d4aa201b\n";
+
+/// The second calibration with a filter.
+const FILTERED: &str =
+    "calibration 2\nmoment 1795651200\nfilter median 5\npoint 500000 0\npoint 100000 20000\ndigest 0075a1d26eb1ca22d33e0d078b78c8384338ada6825dae490e1c708cd6565d86\n";
+
+/// Words that are none of a filter, with a digest that fits them.
+static OTHER_FILTERS: [&str; 5] = [
+    "calibration 1\nmoment 1795651200\nfilter mean 0\npoint 500000 0\npoint 100000 20000\ndigest b4d2d86225b9f8d5b5a4d848e0d5c1868928a4901f18806c968d9734531de94e\n",
+    "calibration 1\nmoment 1795651200\nfilter mean 33\npoint 500000 0\npoint 100000 20000\ndigest ad4990f6682c29b5f0938c7d89ccd5e56b5375527d4cb154b8a004a66824dd2f\n",
+    "calibration 1\nmoment 1795651200\nfilter mean 08\npoint 500000 0\npoint 100000 20000\ndigest 2bff15b6175c3c299d6926f1675b2843bf28884e065f9afff7338619c44afc07\n",
+    "calibration 1\nmoment 1795651200\nfilter mode 5\npoint 500000 0\npoint 100000 20000\ndigest 6e49a43b05d4a217431892d1b8de7ab9e63fa6d65c95d626bf122ea5a6e24370\n",
+    "calibration 1\nmoment 1795651200\nfilter median 5\nfilter median 5\npoint 500000 0\npoint 100000 20000\ndigest 9c0b0ea16817cea502ce70d6d31eb307094ab588fba07a10ff1cf55d400982b5\n",
+];
 
 const FIRST_POINTS: [Point; 3] = [
     Point {
@@ -51,19 +64,35 @@ fn note_last(file: &[u8], answer: &mut String) -> Result<(), Fail> {
 
 fn note_made(made: &Made, answer: &mut String) -> Result<(), Fail> {
     let points = made.calibration.points().len();
-    Ok(write!(
+    write!(
         answer,
-        "{} at {}, {points} points, {}",
+        "{} at {}, {points} points, ",
         made.number,
-        made.moment.seconds(),
-        made.digest.as_str()
-    )?)
+        made.moment.seconds()
+    )?;
+    note_filter(&made.filter, answer)?;
+    Ok(answer.push_str(made.digest.as_str())?)
+}
+
+fn note_filter(filter: &Option<Filter>, answer: &mut String) -> Result<(), Fail> {
+    match filter {
+        Some(filter) => Ok(write!(answer, "{} {}, ", kind_of(filter), filter.readings())?),
+        None => Ok(()),
+    }
+}
+
+/// What a filter makes of readings.
+pub(super) fn kind_of(filter: &Filter) -> &'static str {
+    match filter {
+        Filter::Median(_) => "median",
+        Filter::Mean(_) => "mean",
+    }
 }
 
 /// What a row shows, two parts of a file, and what is said of it.
 struct Row(&'static str, &'static str, &'static str, &'static str);
 
-static FILES: [Row; 9] = [
+static FILES: [Row; 11] = [
     Row("an empty file", "", "", "none"),
     Row(
         "one calibration",
@@ -76,6 +105,18 @@ static FILES: [Row; 9] = [
         FIRST,
         SECOND,
         "2 at 1795651200, 2 points, 7ea1187578effe32284dccbfd7a31b479c4ad8fc405e9a650cee8553d4aa201b",
+    ),
+    Row(
+        "one with a filter behind one without",
+        FIRST,
+        FILTERED,
+        "2 at 1795651200, 2 points, median 5, 0075a1d26eb1ca22d33e0d078b78c8384338ada6825dae490e1c708cd6565d86",
+    ),
+    Row(
+        "a mean of 32",
+        "calibration 1\nmoment 1795651200\nfilter mean 32\npoint 500000 0\npoint 100000 20000\ndigest 6d0a32510f3cd93b372a2df5b29246f8d32acd709999fe1a6d522cdc7d43df04\n",
+        "",
+        "1 at 1795651200, 2 points, mean 32, 6d0a32510f3cd93b372a2df5b29246f8d32acd709999fe1a6d522cdc7d43df04",
     ),
     Row(
         "the second alone",
@@ -139,24 +180,43 @@ fn added(
     file: &str,
     number: usize,
     seconds: u64,
+    filter: Option<Filter>,
     points: &[Point],
     answer: &mut String,
 ) -> Result<(), Fail> {
     let (Some(moment), Ok(calibration)) = (Moment::new(seconds), Calibration::new(points)) else {
         return Ok(answer.push_str("refused")?);
     };
-    Ok(answer.push_str(addition(file.as_bytes(), number, &moment, &calibration).as_str())?)
+    Ok(answer.push_str(addition(file.as_bytes(), number, &moment, filter, &calibration).as_str())?)
 }
 
 #[test]
 fn writes_what_is_added_to_a_file(rt: HostRuntime) -> Result<(), Fail> {
     let mut first = String::new(rt.alloc());
-    added("", 1, 1_764_115_200, &FIRST_POINTS, &mut first)?;
+    added("", 1, 1_764_115_200, None, &FIRST_POINTS, &mut first)?;
     assert_text(&rt, "the first", first.as_str(), FIRST);
     let mut second = String::new(rt.alloc());
-    added(FIRST, 2, 1_795_651_200, &SECOND_POINTS, &mut second)?;
+    added(FIRST, 2, 1_795_651_200, None, &SECOND_POINTS, &mut second)?;
     assert_text(&rt, "the second", second.as_str(), SECOND);
+    let mut filtered = String::new(rt.alloc());
+    let median = Readings::new(5).map(Filter::Median);
+    added(
+        FIRST,
+        2,
+        1_795_651_200,
+        median,
+        &SECOND_POINTS,
+        &mut filtered,
+    )?;
+    assert_text(&rt, "with a filter", filtered.as_str(), FILTERED);
     Ok(())
+}
+
+#[test]
+fn refuses_words_that_are_no_filter(rt: HostRuntime) {
+    for file in OTHER_FILTERS.as_slice() {
+        assert!(rt; last_of(file.as_bytes()).is_err(), "{file}");
+    }
 }
 
 /// Whether a file of two calibrations is refused once the byte at a place is another one: at the first, or at the second.

@@ -4,10 +4,10 @@ use std::alloc::Global;
 use std::fmt::Write;
 use std::process::Abort;
 use std::test::Fail;
-use wb_calibration::{Calibration, Point};
+use wb_calibration::{Calibration, Filter, Point, Readings};
 use wb_converter::{
-    Lines, Outbox, SampleFault, answer, mean, points_of, read_counts, sensitivity, spread, text_of,
-    with_point,
+    Filtering, Lines, Outbox, SampleFault, answer, counts_line, mean, points_of, read_counts,
+    sensitivity, spread, tenths_of_weights, text_of, with_point,
 };
 
 /// Two counts a tenth, and 20 an interval.
@@ -93,6 +93,75 @@ fn tells_mean_and_spread(rt: HostRuntime) {
     assert!(rt; mean(&[i32::MAX]) == i32::MAX);
     assert!(rt; spread(&[5, -5, 0]) == 10);
     assert!(rt; spread(&[i32::MIN, i32::MAX]) == 4_294_967_295);
+}
+
+/// A filter, lines of counts, and what it shows after each; `-` stands for none. Medians and means were worked out by hand.
+struct Filtered(&'static str, &'static str, &'static str);
+
+static FILTERED: [Filtered; 12] = [
+    Filtered("median 3", "5 1 9 2", "- - 5 2"),
+    Filtered("median 3", "7 7 100 7", "- - 7 7"),
+    Filtered("median 2", "1 2 5", "- 2 4"),
+    Filtered("median 4", "1 2 3 10 2", "- - - 3 3"),
+    Filtered("median 4", "-1 -2 -3 -10", "- - - -2"),
+    Filtered("median 5", "5 4 3 2 1 0", "- - - - 3 2"),
+    Filtered("mean 3", "1 2 4 5", "- - 2 4"),
+    Filtered("mean 2", "-1 -2 -2", "- -1 -2"),
+    Filtered("mean 1", "7 lost 8", "7 - 8"),
+    Filtered("mean 2", "4 4 lost 6 6 8", "- 4 - - 6 7"),
+    Filtered("median 3", "1 1 lost 2 2 2", "- - - - - 2"),
+    Filtered(
+        "mean 2",
+        "2147483647 2147483647 -2147483648 -2147483648",
+        "- 2147483647 0 -2147483648",
+    ),
+];
+
+fn filter_of(words: &str) -> Option<Filter> {
+    let (kind, readings) = words.split_once(' ')?;
+    let readings = Readings::new(readings.parse::<u64>().ok()?)?;
+    match kind {
+        "median" => Some(Filter::Median(readings)),
+        "mean" => Some(Filter::Mean(readings)),
+        _ => None,
+    }
+}
+
+fn note_filtered(filter: Filter, lines: &str, text: &mut String) -> Result<(), Fail> {
+    let mut filtering = Filtering::new(filter);
+    for line in lines.split(' ') {
+        match filtering.take(counts_line(line.as_bytes())) {
+            Some(counts) => write!(text, " {counts}")?,
+            None => text.push_str(" -")?,
+        }
+    }
+    Ok(())
+}
+
+#[test]
+fn filters_the_last_readings(rt: HostRuntime) -> Result<(), Fail> {
+    for Filtered(words, lines, wanted) in FILTERED.as_slice() {
+        let Some(filter) = filter_of(words) else {
+            return Err(Fail::from("no filter"));
+        };
+        let mut text = String::new(rt.alloc());
+        note_filtered(filter, lines, &mut text)?;
+        assert_text(&rt, words, text.as_str().trim_start(), wanted);
+    }
+    Ok(())
+}
+
+#[test]
+fn tells_the_tenths_of_weights(rt: HostRuntime) {
+    assert!(rt; tenths_of_weights(20_000, 20) == Some(10_000));
+    assert!(rt; tenths_of_weights(0, 50) == Some(0));
+    assert!(rt; tenths_of_weights(20_001, 20).is_none(), "half a tenth");
+    assert!(rt; tenths_of_weights(200_000, 1) == Some(2_000_000));
+    assert!(rt;
+        tenths_of_weights(200_001, 1).is_none(),
+        "past the greatest"
+    );
+    assert!(rt; tenths_of_weights(1, 0).is_none());
 }
 
 #[test]

@@ -1,22 +1,28 @@
 //! The words of the command line of `weighbridge-converter`: defaults, refusals and statuses.
 use super::assert_text;
+use super::calibration_file::kind_of;
 use std::alloc::Global;
 use std::fmt::Write;
 use std::process::Abort;
 use std::test::Fail;
-use wb_converter_command::{Asked, Sampling, read_words};
+use wb_calibration::Filter;
+use wb_converter_command::{Asked, Load, Running, Sampling, read_words};
 
 /// The words of a command line, and how they are understood (or a part of it).
 struct Row(&'static str, &'static str);
 
-static WORDS: [Row; 6] = [
+static WORDS: [Row; 10] = [
     Row(
         "weighbridge-converter run --calibration F --listen 127.0.0.1:4000",
-        "run F 127.0.0.1:4000 false",
+        "run F 127.0.0.1:4000 no filter, false",
     ),
     Row(
         "weighbridge-converter run --calibration F --listen 127.0.0.1:4000 --verbose",
-        "run F 127.0.0.1:4000 true",
+        "run F 127.0.0.1:4000 no filter, true",
+    ),
+    Row(
+        "weighbridge-converter run --calibration F --listen 127.0.0.1:4000 --filter mean 32",
+        "run F 127.0.0.1:4000 mean 32, false",
     ),
     Row(
         "weighbridge-converter point --calibration F --load 2000000 --spread 4",
@@ -26,7 +32,22 @@ static WORDS: [Row; 6] = [
         "weighbridge-converter point --calibration F --load 0 --spread 0 --lines 10000",
         "point F 0 10000 0",
     ),
-    Row("weighbridge-converter finish --calibration F", "finish F"),
+    Row(
+        "weighbridge-converter point --calibration F --load-kg 20000 --interval 20 --spread 1",
+        "point F 20000 kg of 20 50 1",
+    ),
+    Row(
+        "weighbridge-converter finish --calibration F",
+        "finish F no filter",
+    ),
+    Row(
+        "weighbridge-converter finish --calibration F --filter median 1",
+        "finish F median 1",
+    ),
+    Row(
+        "weighbridge-converter finish --filter mean 2 --calibration F",
+        "finish F mean 2",
+    ),
     Row(
         "weighbridge-converter show --calibration F --plot",
         "plot F",
@@ -36,7 +57,7 @@ static WORDS: [Row; 6] = [
 /// The words of a command line that are refused, how that begins with its status, and what it holds.
 struct Refused(&'static str, &'static str, &'static str);
 
-static REFUSED: [Refused; 8] = [
+static REFUSED: [Refused; 16] = [
     Refused(
         "weighbridge-converter run --calibration F",
         "2: ",
@@ -62,6 +83,46 @@ static REFUSED: [Refused; 8] = [
         "2: ",
         "0 is not in",
     ),
+    Refused(
+        "weighbridge-converter point --calibration F --spread 1",
+        "2: ",
+        "--load",
+    ),
+    Refused(
+        "weighbridge-converter point --calibration F --load-kg 1 --spread 1",
+        "2: ",
+        "--interval",
+    ),
+    Refused(
+        "weighbridge-converter point --calibration F --load 1 --interval 20 --spread 1",
+        "2: ",
+        "--interval",
+    ),
+    Refused(
+        "weighbridge-converter point --calibration F --load 1 --load-kg 1 --interval 20 --spread 1",
+        "2: ",
+        "--load-kg",
+    ),
+    Refused(
+        "weighbridge-converter finish --calibration F --filter median 33",
+        "2: ",
+        "from 1 to 32",
+    ),
+    Refused(
+        "weighbridge-converter finish --calibration F --filter mean 0",
+        "2: ",
+        "from 1 to 32",
+    ),
+    Refused(
+        "weighbridge-converter run --calibration F --listen A --filter mode 3",
+        "2: ",
+        "from 1 to 32",
+    ),
+    Refused(
+        "weighbridge-converter run --calibration F --listen A --filter median",
+        "2: ",
+        "2 values",
+    ),
     Refused("weighbridge-converter show", "2: ", "--calibration"),
     Refused("weighbridge-converter", "2: ", "Usage"),
     Refused(
@@ -82,11 +143,12 @@ fn words_of(alloc: Global, line: &str) -> Result<Vec<String>, Fail> {
 
 fn note(asked: &Asked, text: &mut String) -> Result<(), Fail> {
     match asked {
-        Asked::Run(path, address, is_verbose) => {
-            Ok(write!(text, "run {path} {address} {is_verbose}")?)
-        }
+        Asked::Run(running) => note_running(running, text),
         Asked::Point(path, sampling) => note_point(path.as_str(), *sampling, text),
-        Asked::Finish(path) => Ok(write!(text, "finish {path}")?),
+        Asked::Finish(path, filter) => {
+            write!(text, "finish {path} ")?;
+            note_filter(filter, text)
+        }
         Asked::Show(path) => Ok(write!(text, "show {path}")?),
         Asked::Plot(path) => Ok(write!(text, "plot {path}")?),
         Asked::WordsRefused(error) => Ok(write!(text, "{}: {error}", error.exit_code())?),
@@ -94,13 +156,35 @@ fn note(asked: &Asked, text: &mut String) -> Result<(), Fail> {
     }
 }
 
+fn note_running(running: &Running, text: &mut String) -> Result<(), Fail> {
+    write!(text, "run {} {} ", running.calibration, running.address)?;
+    note_filter(&running.filter, text)?;
+    Ok(write!(text, ", {}", running.is_verbose)?)
+}
+
+fn note_filter(filter: &Option<Filter>, text: &mut String) -> Result<(), Fail> {
+    match filter {
+        Some(filter) => Ok(write!(text, "{} {}", kind_of(filter), filter.readings())?),
+        None => Ok(text.push_str("no filter")?),
+    }
+}
+
+fn note_load(load: Load, text: &mut String) -> Result<(), Fail> {
+    match load {
+        Load::Tenths(tenths) => Ok(write!(text, "{tenths}")?),
+        Load::Kilograms(kilograms, interval) => Ok(write!(text, "{kilograms} kg of {interval}")?),
+    }
+}
+
 fn note_point(path: &str, sampling: Sampling, text: &mut String) -> Result<(), Fail> {
     let Sampling {
-        tenths,
+        load,
         lines,
         spread,
     } = sampling;
-    Ok(write!(text, "point {path} {tenths} {lines} {spread}")?)
+    write!(text, "point {path} ")?;
+    note_load(load, text)?;
+    Ok(write!(text, " {lines} {spread}")?)
 }
 
 fn understood(alloc: Global, line: &str) -> Result<String, Fail> {
