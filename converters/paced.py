@@ -45,15 +45,26 @@ def checked(counts, bits):
     return counts
 
 
-def print_readings(name, pace, read):
-    """Prints what `read` gives so many times a second, and `lost` where it raises Lost. What took too long isn't made up for."""
+def from_middle(raw, bits):
+    """Counts that the device gives as offset binary: 0 stands for the least, the middle of its range for none."""
+    if not 0 <= raw < 2**bits:
+        raise Lost(f"{raw} is outside of {bits} bits")
+    return raw - 2 ** (bits - 1)
+
+
+def print_readings(name, given, read):
+    """Prints the counts that `read` gives at the pace, and `lost` where it raises Lost. It gives when it asked for them, too: held up for longer
+    than the time-out, as where this machine stood still, they are old. What took too long isn't made up for."""
     told, due = Told(name), time.monotonic()
     while True:
         try:
-            told.counts(read())
+            counts, asked = read()
+            if time.monotonic() - asked > given.timeout + 0.05:
+                raise Lost("the answer is old: this machine stood still")
+            told.counts(counts)
         except Lost as fault:
             told.lost(fault)
-        due = max(due + 1 / pace, time.monotonic())
+        due = max(due + 1 / given.pace, time.monotonic())
         time.sleep(max(0, due - time.monotonic()))
 
 

@@ -1,5 +1,5 @@
-"""A Modbus server over TCP whose answers are not as they should be: twice, late again, with another question's number, in pieces, with bytes behind
-them. The value of its registers is how many milliseconds it has been there, so that a reading tells how old it is."""
+"""A Modbus server over TCP whose answers are not as they should be: twice, late, with another question's number, in pieces, with bytes behind
+them, among others that nobody asked for. The value of its registers is how many milliseconds it has been there, so that a reading tells how old it is."""
 
 import socket
 import struct
@@ -77,3 +77,35 @@ def in_pieces(_server, stream, number, rest):
 
 def with_more(_server, stream, number, rest):
     stream.sendall(numbered(number, rest) + b"more")
+
+
+def late(_server, stream, number, rest):
+    """In time still."""
+    time.sleep(0.1)
+    stream.sendall(numbered(number, rest))
+
+
+def too_late(_server, stream, number, rest):
+    time.sleep(0.35)
+    stream.sendall(numbered(number, rest))
+
+
+def exchanged(server, stream, number, rest):
+    """The numbers of two questions are exchanged."""
+    stream.sendall(numbered(number + (1 if server.asked % 2 else -1), rest))
+
+
+def keeping_busy(_server, stream, number, rest):
+    """Old answers keep the line busy until the next question comes."""
+    stream.sendall(numbered(number, rest))
+    for _ in range(20):
+        time.sleep(0.004)
+        stream.sendall(numbered(number, rest))
+
+
+def without_end(server, stream, number, rest):
+    """From the fifth question on so many that there is always another."""
+    stream.sendall(numbered(number, rest))
+    until = time.monotonic() + (0.5 if server.asked == 5 else 0)
+    while time.monotonic() < until:
+        stream.sendall(numbered(number, rest) * 100)
