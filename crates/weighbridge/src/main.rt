@@ -1,6 +1,7 @@
 //! The program `weighbridge`: the process's own streams and files around what `wb_program` does, as its command line asks.
 #![tactic(auto)]
 
+mod guard;
 mod migrating;
 mod service;
 mod sources;

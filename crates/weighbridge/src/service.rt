@@ -1,4 +1,5 @@
 //! The service of a bridge, over files and sockets.
+use crate::guard::Guarded;
 use sqlite::{Alter, File, FileStore};
 use std::net::TcpListener;
 use thiserror::Error;
@@ -69,10 +70,18 @@ fn serve_station<D: Alter>(
     station: &mut Station<DequeWindow, D>,
     service: &Service,
 ) -> Result<ServeEnd, ServiceFault> {
-    let mut sources = open_sources(rt, service)?;
+    let mut sources = open_guarded(rt, service)?;
     let end = serve(station, &mut sources, service.turns);
-    sources.finish();
-    Ok(end)
+    sources.sources.finish();
+    sources.end(end)
+}
+
+/// The sources of the service, which look where the journal lies.
+fn open_guarded<'a>(
+    rt: &'a HostRuntime,
+    service: &Service,
+) -> Result<Guarded<'a, Sockets<'a, HostRuntime, TcpListener>>, ServiceFault> {
+    Guarded::new(rt, service.file.as_str(), open_sources(rt, service)?)
 }
 
 /// The sockets and the converter of the service.

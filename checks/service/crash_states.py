@@ -1,0 +1,123 @@
+"""What a power cut leaves of the files of a journal: the writes of a service's run, recorded by strace, and torn in ways that a disk may tear them.
+
+A disk keeps what was synced. Of what was written since, each byte is as before or as written, in runs of one to 4,096 bytes, and a file has any
+length between. It needs strace.
+"""
+
+import os
+import re
+
+CALLS = "pwrite64,fdatasync,fsync,ftruncate"
+LINE = re.compile(r"(pwrite64|fdatasync|fsync|ftruncate)\(\d+<([^>]*)>(?:, (.*))?\)\s+= (\d+)")
+WRITTEN = re.compile(r'"([^"]*)", (\d+), (\d+)')
+RUNS = [1, 1, 8, 512, 4096]
+
+
+def recorder(folder, program):
+    """A program that runs this one, and records its writes in a file of its own in the folder."""
+    path = os.path.join(folder, "recorded")
+    with open(path, "w") as it:
+        it.write(f'#!/bin/sh\nexec strace -D -qq -y -xx -s 2000000 -o "{folder}/trace.$(date +%s%N)" -e trace={CALLS} "{program}" "$@"\n')
+    os.chmod(path, 0o755)
+    return path
+
+
+def bytes_of(text):
+    return bytes.fromhex(text.replace("\\x", ""))
+
+
+def calls_of(folder):
+    """The calls in their order: what was done, to the file or its log, where, and with which bytes."""
+    for name in sorted(it for it in os.listdir(folder) if it.startswith("trace.")):
+        with open(os.path.join(folder, name), errors="replace") as it:
+            for line in it:
+                if (found := LINE.search(line)) and (call := call_of(*found.groups())):
+                    yield call
+
+
+def call_of(what, path, words, result):
+    path = bytes_of(path).decode() if path.startswith("\\x") else path
+    which = "log" if path.endswith("-wal") else "file" if path.endswith(".db") else None
+    if which is None:
+        return None
+    if what == "pwrite64":
+        data, _, at = WRITTEN.match(words).groups()
+        return "write", which, int(at), bytes_of(data)[: int(result)]
+    if what == "ftruncate":
+        return "cut", which, int(words), b""
+    return "sync", which, 0, b""
+
+
+def put(data, at, new):
+    data.extend(bytes(max(0, at + len(new) - len(data))))
+    data[at:at + len(new)] = new
+
+
+def cut(data, length):
+    del data[length:]
+    data.extend(bytes(length - len(data)))
+
+
+class Disk:
+    """Two files: what was synced of each, and what was done since."""
+
+    def __init__(self):
+        self.synced = {"file": b"", "log": b""}
+        self.since = {"file": [], "log": []}
+
+    def take(self, call):
+        what, which, _, _ = call
+        self.since[which].append(call)
+        if what == "sync":
+            whole = bytearray(self.synced[which])
+            for it in self.since[which]:
+                done(whole, it)
+            self.synced[which], self.since[which] = bytes(whole), []
+
+    def whole(self, which):
+        """All that was written."""
+        data = bytearray(self.synced[which])
+        for it in self.since[which]:
+            done(data, it)
+        return bytes(data)
+
+    def torn(self, which, chance):
+        """What a power cut leaves now, in one of many ways."""
+        data = bytearray(self.synced[which])
+        for what, _, at, new in self.since[which]:
+            if what == "cut" and chance.random() < 0.5:
+                cut(data, at)
+            if what == "write":
+                tear(data, at, new, chance)
+        return bytes(data)
+
+
+def done(data, call):
+    what, _, at, new = call
+    if what == "write":
+        put(data, at, new)
+    if what == "cut":
+        cut(data, at)
+
+
+def tear(data, at, new, chance):
+    """Writes all, nothing or a part."""
+    way = chance.random()
+    if way < 0.15:
+        return
+    if way < 0.3:
+        put(data, at, new)
+        return
+    run, lost = chance.choice(RUNS), chance.randrange(256)
+    end = chance.randrange(len(new) + 1) if chance.random() < 0.3 else len(new)
+    old = bytes(data[at:at + end]).ljust(end, b"\0")
+    # for each run a byte by chance, which becomes 255 where the run is written
+    kept = chance.randbytes(-(-end // run)).translate(bytes(lost) + bytes([255]) * (256 - lost))
+    mask = b"".join(bytes([it]) * run for it in kept)[:end] if run > 1 else kept
+    put(data, at, mixed(old, new[:end], mask))
+
+
+def mixed(old, new, mask):
+    """The bytes of the one where the mask is 0, of the other where it is 255."""
+    before, after, which = (int.from_bytes(it, "big") for it in (old, new, mask))
+    return (before ^ ((before ^ after) & which)).to_bytes(len(old), "big")

@@ -1,0 +1,157 @@
+//! A look at where the journal lies while it is served: before a request is handed out, and before a stored entry is answered.
+//!
+//! What is stored in a file that was unlinked, replaced or cut is gone after the next start, and its numbers are given again.
+ghost use Rattle.std.specs.Prelude.{None};
+
+use crate::service::ServiceFault;
+use std::os::unix::fs::MetadataExt;
+use std::{fs, io};
+use wb_journal::Moment;
+use wb_program::{PrintFault, ServeEnd};
+use wb_sources::{Converter, REQUEST_ROOM, TERMINAL_ROOM, Taken};
+use wb_station::{Exchange, Sources};
+use wb_store::StoreFault;
+
+/// A file that is open, by its path, its device and its number there. No other file has these two while it is open.
+#[derive(Drop)]
+struct Place {
+    path: String,
+    dev: u64,
+    ino: u64,
+    size: u64,
+}
+
+impl Place {
+    fn new(rt: &HostRuntime, path: String) -> io::Result<Place> {
+        let found = fs::metadata(rt, path.as_str())?;
+        Ok(Place {
+            path,
+            dev: found.dev(),
+            ino: found.ino(),
+            size: found.size(),
+        })
+    }
+
+    /// Whether the path still leads to that file, by no other name too, and it isn't shorter than it was.
+    fn stands(&self, rt: &HostRuntime) -> bool {
+        match fs::metadata(rt, self.path.as_str()) {
+            Ok(found) => {
+                found.dev() == self.dev
+                    && found.ino() == self.ino
+                    && found.nlink() == 1
+                    && found.size() >= self.size
+            }
+            Err(_) => false,
+        }
+    }
+}
+
+/// The places of a journal's file and of its log.
+#[derive(Drop)]
+struct Places {
+    file: Place,
+    log: Place,
+}
+
+impl Places {
+    /// Of the journal in the file, which is open.
+    fn new(rt: &HostRuntime, path: &str) -> io::Result<Places> {
+        let real = fs::canonicalize(rt, path)?;
+        let path = real.as_str();
+        let log = format!(in rt.alloc(); "{path}-wal")?;
+        Ok(Places {
+            file: Place::new(rt, String::from_str(rt.alloc(), path)?)?,
+            log: Place::new(rt, log)?,
+        })
+    }
+}
+
+/// Sources of a service whose journal is looked at. Once it isn't where it was they end, and no entry is answered any more.
+#[derive(Drop)]
+pub(crate) struct Guarded<'a, S: Sources + Drop> {
+    rt: &'a HostRuntime,
+    places: Places,
+    pub(crate) sources: S,
+    is_lost: bool,
+}
+
+impl<'a, S: Sources + Drop> Guarded<'a, S> {
+    /// Sources over the journal in the file, which is open.
+    pub(crate) fn new(rt: &'a HostRuntime, path: &str, sources: S) -> Result<Self, ServiceFault> {
+        match Places::new(rt, path) {
+            Ok(places) => Ok(Guarded {
+                rt,
+                places,
+                sources,
+                is_lost: false,
+            }),
+            Err(_) => Err(lost()),
+        }
+    }
+
+    /// How the service ended that ended so: by a fault of the disk, if the journal isn't where it was.
+    pub(crate) fn end(&self, end: ServeEnd) -> Result<ServeEnd, ServiceFault> {
+        if self.is_lost { Err(lost()) } else { Ok(end) }
+    }
+
+    /// Whether the journal is where it was. If not, that is told once.
+    fn stands(&mut self) -> bool {
+        if self.is_lost {
+            return false;
+        }
+        let Places { file, log } = &self.places;
+        if file.stands(self.rt) && log.stands(self.rt) {
+            return true;
+        }
+        self.is_lost = true;
+        let _ = eprintln!(self.rt;
+            "{}: while it was served, it or its log was removed, replaced, cut or given a second name; nothing more is stored: see operating.md, The store's faults",
+            file.path
+        );
+        false
+    }
+}
+
+fn lost() -> ServiceFault {
+    ServiceFault::Journal(PrintFault::Store(StoreFault::Disk))
+}
+
+impl<S: Sources + Drop> Sources for Guarded<'_, S> {
+    ghost told = { λ _. None };
+
+    fn converter(&mut self) -> Converter {
+        if self.is_lost {
+            return Converter::Fault;
+        }
+        self.sources.converter()
+    }
+
+    fn terminal(&mut self, room: &mut [u8; TERMINAL_ROOM]) -> Taken {
+        self.sources.terminal(room)
+    }
+
+    fn reply(&mut self, bytes: &[u8]) {
+        self.sources.reply(bytes);
+    }
+
+    fn office(&mut self, room: &mut [u8; REQUEST_ROOM]) -> Option<usize> {
+        self.sources.office(room)
+    }
+
+    fn moment(&mut self) -> Option<Moment> {
+        self.sources.moment()
+    }
+
+    fn exchange(&mut self, room: &mut [u8; REQUEST_ROOM]) -> Option<Exchange> {
+        let exchange = self.sources.exchange(room)?;
+        if self.stands() { Some(exchange) } else { None }
+    }
+
+    fn respond(&mut self, bytes: &[u8]) {
+        if bytes.starts_with(b"HTTP/1.1 201 ") && !self.stands() {
+            self.sources.respond(b"");
+        } else {
+            self.sources.respond(bytes);
+        }
+    }
+}
