@@ -18,20 +18,21 @@ def load(number):
 
 
 class Watch(threading.Thread):
-    """Asks `SI` again and again, and keeps how long each reply took, how old its reading was, and how many there were of each kind."""
+    """Asks `SI` again and again, and keeps how long each reply took, how old its reading was, and how many there were of each kind. Where its connection
+    is closed, since what it asked waited too long, it connects and asks again."""
 
     def __init__(self, service, pause=0.03):
         super().__init__(daemon=True)
         self.service, self.pause = service, pause
-        self.took, self.aged, self.kinds = [], [], {}
+        self.took, self.aged, self.kinds, self.closed = [], [], {}, 0
         self.over = threading.Event()
 
     def run(self):
-        terminal = bridge.Terminal(self.service, 60)
+        self.terminal = bridge.Terminal(self.service, 60)
         sent = self.service.converter.sent
         while not self.over.is_set():
             asked = time.monotonic()
-            reply = terminal.ask("SI")
+            reply = self.reply()
             now = time.monotonic()
             self.took.append(now - asked)
             self.kinds[reply[:3]] = self.kinds.get(reply[:3], 0) + 1
@@ -42,4 +43,13 @@ class Watch(threading.Thread):
                 number = count - 1 - ((count - 1 - shown) % ROUND)
                 self.aged.append(now - sent[number])
             time.sleep(self.pause)
-        terminal.close()
+        self.terminal.close()
+
+    def reply(self):
+        while True:
+            try:
+                return self.terminal.ask("SI")
+            except (EOFError, ConnectionError):
+                self.closed += 1
+                self.terminal.close()
+                self.terminal = bridge.Terminal(self.service, 60)
