@@ -13,26 +13,32 @@ WRITTEN = re.compile(r'"([^"]*)", (\d+), (\d+)')
 RUNS = [1, 1, 8, 512, 4096]
 
 
-def recorder(folder, program):
-    """A program that runs this one, and records its writes in a file of its own in the folder."""
-    path = os.path.join(folder, "recorded")
-    with open(path, "w") as it:
-        it.write(f'#!/bin/sh\nexec strace -D -qq -y -xx -s 2000000 -o "{folder}/trace.$(date +%s%N)" -e trace={CALLS} "{program}" "$@"\n')
-    os.chmod(path, 0o755)
-    return path
+class Recording:
+    """A program that runs this one and records its writes: `program`; and the calls so far in their order: what was done, to the file or its log, where,
+    and with which bytes."""
+
+    def __init__(self, folder, program):
+        self.folder, self.program, self.calls, self.read = folder, os.path.join(folder, "recorded"), [], {}
+        with open(self.program, "w") as it:
+            it.write(f'#!/bin/sh\nexec strace -D -qq -y -xx -s 50000000 -o "{folder}/trace.$(date +%s%N)" -e trace={CALLS} "{program}" "$@"\n')
+        os.chmod(self.program, 0o755)
+
+    def count(self):
+        """How many calls there are by now."""
+        for name in sorted(it for it in os.listdir(self.folder) if it.startswith("trace.")):
+            with open(os.path.join(self.folder, name), "rb") as it:
+                it.seek(self.read.setdefault(name, 0))
+                for line in it:
+                    if not line.endswith(b"\n"):
+                        break
+                    self.read[name] += len(line)
+                    if (found := LINE.search(line.decode(errors="replace"))) and (call := call_of(*found.groups())):
+                        self.calls.append(call)
+        return len(self.calls)
 
 
 def bytes_of(text):
     return bytes.fromhex(text.replace("\\x", ""))
-
-
-def calls_of(folder):
-    """The calls in their order: what was done, to the file or its log, where, and with which bytes."""
-    for name in sorted(it for it in os.listdir(folder) if it.startswith("trace.")):
-        with open(os.path.join(folder, name), errors="replace") as it:
-            for line in it:
-                if (found := LINE.search(line)) and (call := call_of(*found.groups())):
-                    yield call
 
 
 def call_of(what, path, words, result):
@@ -61,8 +67,8 @@ def cut(data, length):
 class Disk:
     """Two files: what was synced of each, and what was done since."""
 
-    def __init__(self):
-        self.synced = {"file": b"", "log": b""}
+    def __init__(self, file=b"", log=b""):
+        self.synced = {"file": file, "log": log}
         self.since = {"file": [], "log": []}
 
     def take(self, call):
