@@ -9,7 +9,7 @@ import subprocess
 import time
 
 import bridge
-from converting import READERS, TOP, first_line, holds, same
+from converting import CONVERTER, READERS, TOP, first_line, holds, same
 from devices import begun
 from register_modbus import RegisterModbus
 
@@ -185,3 +185,15 @@ def refuses_words():
         it = subprocess.run([os.path.join(READERS, reader), *words.split()], capture_output=True, text=True, timeout=20)
         holds(f"{reader} {words}: {it.returncode} {it.stderr[-200:]!r}", it.returncode == 2 and named in it.stderr and not it.stdout)
     print(f"{len(BAD_WORDS)} words that are wrong: ok", flush=True)
+
+
+def unit_ends_as_its_reader(folder):
+    """The package's unit ends with its reader's status, so that words that are wrong don't start it again for good."""
+    with open(os.path.join(TOP, "packaging", "weighbridge-converter.service"), encoding="utf-8") as unit:
+        line = next(it for it in unit if it.startswith("ExecStart=")).removeprefix("ExecStart=").replace("$$", "$")
+    for there, here in (("/usr/lib/weighbridge", READERS), ("/usr/bin/weighbridge-converter", os.path.abspath(CONVERTER)), ("/var/lib/weighbridge/calibration", f"{folder}/calibration")):
+        line = line.replace(there, here)
+    for words in ("modbus --tcp h", "text --tcp h:1", "iio --folder f"):
+        environment = {**os.environ, "WEIGHBRIDGE_READER": words, "WEIGHBRIDGE_LISTEN": f"{bridge.HOST}:{bridge.free_port()}"}
+        it = subprocess.run(shlex.split(line), env=environment, capture_output=True, text=True, timeout=20)
+        same(f"the unit's status with the reader {words}", 2, it.returncode)
