@@ -11,6 +11,7 @@ mod nets;
 mod scale;
 mod terminal;
 mod window;
+mod witness;
 
 use std::fmt::{Debug, Write};
 use std::process::Abort;

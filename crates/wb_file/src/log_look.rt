@@ -1,10 +1,10 @@
 //! The look at a journal's log before the journal is opened. It reads, and makes and writes nothing.
 use crate::fault::FileFault;
 use os::RangeLock;
-use std::fs;
 use std::fs::File;
-use std::io::ErrorKind;
+use std::io::{ErrorKind, Read};
 use std::os::fd::AsRawFd;
+use std::{fs, io};
 use wb_log::look;
 use wb_store::StoreFault;
 
@@ -48,18 +48,24 @@ pub(crate) fn open_locked(rt: &HostRuntime, path: &str) -> Result<File, FileFaul
     Ok(file)
 }
 
+/// Opens for reading what may lie beside a database, if it is there. What is no plain file is a fault.
+pub(crate) fn open_beside(rt: &HostRuntime, path: &str) -> io::Result<Option<File>> {
+    match fs::metadata(rt, path) {
+        Ok(found) if found.is_file() => Ok(Some(fs::open(rt, path)?)),
+        Ok(_) => Err(io::Error::from(ErrorKind::Unsupported)),
+        Err(error) if error.kind() == ErrorKind::NotFound => Ok(None),
+        Err(error) => Err(error),
+    }
+}
+
 /// Looks at the log beside a file of so many bytes.
 pub(crate) fn look_beside(rt: &HostRuntime, path: &str, length: u64) -> Result<(), FileFault> {
     let log = format!(in rt.alloc(); "{path}{LOG}")?;
-    let found = match fs::metadata(rt, log.as_str()) {
-        Ok(found) => found,
-        Err(error) if error.kind() == ErrorKind::NotFound => return Ok(()),
-        Err(error) => return Err(FileFault::from(error)),
+    let Some(mut file) = open_beside(rt, log.as_str())? else {
+        return Ok(());
     };
-    if !found.is_file() {
-        return Err(FileFault::Disk);
-    }
-    let bytes = fs::read(rt, log.as_str())?;
+    let mut bytes = Vec::new(rt.alloc());
+    file.read_to_end(&mut bytes)?;
     match look(length, bytes.as_slice()) {
         Ok(()) => Ok(()),
         Err(refusal) => {

@@ -1,16 +1,20 @@
-//! A look at where the journal lies while it is served: before a request is handed out, and before a stored entry is answered.
+//! A look at where the journal lies while it is served: before a request is handed out, and before a stored entry is answered, which its witness
+//! gets first.
 //!
 //! What is stored in a file that was unlinked, replaced or cut is gone after the next start, and its numbers are given again.
 ghost use Rattle.std.specs.Prelude.{None};
 
 use crate::service::ServiceFault;
+use crate::zero_note::ZeroNote;
 use std::os::unix::fs::MetadataExt;
 use std::{fs, io};
+use wb_file::Witness;
 use wb_journal::Moment;
 use wb_program::{PrintFault, ServeEnd};
 use wb_sources::{Converter, REQUEST_ROOM, TERMINAL_ROOM, Taken};
 use wb_station::{Exchange, Sources};
 use wb_store::StoreFault;
+use wb_witness::{Newest, entry_of};
 
 /// A file that is open, by its path, its device and its number there. No other file has these two while it is open.
 #[derive(Drop)]
@@ -66,26 +70,36 @@ impl Places {
     }
 }
 
-/// Sources of a service whose journal is looked at. Once it isn't where it was they end, and no entry is answered any more.
+/// Sources of a service whose journal is looked at. Once it isn't where it was, or an entry can't be witnessed, they end, and no entry is answered
+/// any more.
 #[derive(Drop)]
 pub(crate) struct Guarded<'a, S: Sources + Drop> {
     rt: &'a HostRuntime,
     places: Places,
+    witness: Witness,
+    zero: ZeroNote<'a>,
     pub(crate) sources: S,
     is_lost: bool,
 }
 
 impl<'a, S: Sources + Drop> Guarded<'a, S> {
-    /// Sources over the journal in the file, which is open.
-    pub(crate) fn new(rt: &'a HostRuntime, path: &str, sources: S) -> Result<Self, ServiceFault> {
-        match Places::new(rt, path) {
-            Ok(places) => Ok(Guarded {
+    /// Sources over the journal in the file, which is open, of a bridge of this interval.
+    pub(crate) fn new(
+        rt: &'a HostRuntime,
+        path: &str,
+        interval_kg: u32,
+        sources: S,
+    ) -> Result<Self, ServiceFault> {
+        match (Places::new(rt, path), Witness::open(rt, path)) {
+            (Ok(places), Ok(witness)) => Ok(Guarded {
                 rt,
                 places,
+                witness,
+                zero: ZeroNote::open(rt, path, interval_kg),
                 sources,
                 is_lost: false,
             }),
-            Err(_) => Err(lost()),
+            (Err(_), _) | (_, Err(_)) => Err(lost()),
         }
     }
 
@@ -110,6 +124,22 @@ impl<'a, S: Sources + Drop> Guarded<'a, S> {
         );
         false
     }
+
+    /// Whether an entry that is stored may be answered: its journal is where it was, and its witness has it.
+    fn may_answer(&mut self, entry: &Newest) -> bool {
+        if !self.stands() {
+            return false;
+        }
+        if self.witness.note(entry) {
+            return true;
+        }
+        self.is_lost = true;
+        let _ = eprintln!(self.rt;
+            "{}-newest: it can't be written; entry {} is stored, and is answered after the next start, if it is asked for again under its key",
+            self.places.file.path, entry.number
+        );
+        false
+    }
 }
 
 fn lost() -> ServiceFault {
@@ -123,7 +153,9 @@ impl<S: Sources + Drop> Sources for Guarded<'_, S> {
         if self.is_lost {
             return Converter::Fault;
         }
-        self.sources.converter()
+        let given = self.sources.converter();
+        self.zero.see(given);
+        given
     }
 
     fn terminal(&mut self, room: &mut [u8; TERMINAL_ROOM]) -> Taken {
@@ -131,6 +163,7 @@ impl<S: Sources + Drop> Sources for Guarded<'_, S> {
     }
 
     fn reply(&mut self, bytes: &[u8]) {
+        self.zero.see_replies(bytes);
         self.sources.reply(bytes);
     }
 
@@ -148,10 +181,9 @@ impl<S: Sources + Drop> Sources for Guarded<'_, S> {
     }
 
     fn respond(&mut self, bytes: &[u8]) {
-        if bytes.starts_with(b"HTTP/1.1 201 ") && !self.stands() {
-            self.sources.respond(b"");
-        } else {
-            self.sources.respond(bytes);
+        match entry_of(bytes) {
+            Some(entry) if !self.may_answer(&entry) => self.sources.respond(b""),
+            _ => self.sources.respond(bytes),
         }
     }
 }

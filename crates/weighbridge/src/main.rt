@@ -5,6 +5,7 @@ mod guard;
 mod migrating;
 mod service;
 mod sources;
+mod zero_note;
 
 use crate::migrating::migrate_file;
 use crate::service::serve_bridge;
@@ -105,7 +106,7 @@ fn run_print(rt: &HostRuntime, path: &str, print: Print) -> io::Result<ExitCode>
 }
 
 fn print_file(rt: &HostRuntime, path: &str, print: Print) -> Result<bool, PrintFault> {
-    match JournalFile::open_kept(rt, path) {
+    match JournalFile::open_copy(rt, path) {
         Ok(mut journal) => print_from(rt, journal.store(), print),
         Err(fault) => Err(PrintFault::Store(fault)),
     }

@@ -59,8 +59,9 @@ pub(crate) fn serve_bridge(
     instrument: Instrument,
     service: &Service,
 ) -> Result<ServeEnd, ServiceFault> {
+    let interval_kg = instrument.interval_kg();
     let mut station = FileStation::open(rt, instrument, service.file.as_str())?;
-    serve_station(rt, &mut station.station, service)
+    serve_station(rt, &mut station.station, interval_kg, service)
 }
 
 /// The same, with the station open. It is generic over the database, since a function that holds one over files is dear to prove, the more so the more
@@ -68,9 +69,10 @@ pub(crate) fn serve_bridge(
 fn serve_station<D: Alter>(
     rt: &HostRuntime,
     station: &mut Station<DequeWindow, D>,
+    interval_kg: u32,
     service: &Service,
 ) -> Result<ServeEnd, ServiceFault> {
-    let mut sources = open_guarded(rt, service)?;
+    let mut sources = open_guarded(rt, interval_kg, service)?;
     let end = serve(station, &mut sources, service.turns);
     sources.sources.finish();
     sources.end(end)
@@ -79,9 +81,15 @@ fn serve_station<D: Alter>(
 /// The sources of the service, which look where the journal lies.
 fn open_guarded<'a>(
     rt: &'a HostRuntime,
+    interval_kg: u32,
     service: &Service,
 ) -> Result<Guarded<'a, Sockets<'a, HostRuntime, TcpListener>>, ServiceFault> {
-    Guarded::new(rt, service.file.as_str(), open_sources(rt, service)?)
+    Guarded::new(
+        rt,
+        service.file.as_str(),
+        interval_kg,
+        open_sources(rt, service)?,
+    )
 }
 
 /// The sockets and the converter of the service.

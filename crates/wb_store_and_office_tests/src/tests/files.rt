@@ -15,7 +15,7 @@ fn opens(rt: &HostRuntime, path: &str) -> bool {
 
 /// What refuses the file, if anything does.
 fn refusal(rt: &HostRuntime, path: &str) -> Option<StoreFault> {
-    JournalFile::open_kept(rt, path).err()
+    JournalFile::open_copy(rt, path).err()
 }
 
 #[test]
