@@ -1,4 +1,6 @@
 //! The words of a setup.
+ghost use Rattle.std.specs.Prelude.{◌≡◌};
+
 use crate::words::REFUSED;
 use clap::{Arg, ArgAction, ArgMatches, Command, value_parser};
 use std::alloc::{AllocError, Global};
@@ -12,7 +14,9 @@ pub struct SetupFault(PartFault);
 
 impl SetupFault {
     /// The exit status that stands for it.
-    pub fn status(self) -> u8 {
+    pub fn status(self) -> u8
+        ensures { result ≡ 2 }
+    {
         REFUSED
     }
 }

@@ -8,5 +8,6 @@ pub mod Filter
 pub mod Sensitivity
 pub mod Weights
 pub mod Taken
+pub mod Statuses
 pub mod Laws
 pub mod FilterLaws

@@ -1,4 +1,7 @@
 //! The load of each line of counts, handed on as it comes.
+ghost use Rattle.std.specs.Prelude.{◌≡◌};
+ghost use Rattle.wb_converter.specs.Statuses.{status_of_run};
+
 use crate::answering::{answer, answer_to};
 use crate::client::{Clients, is_waiting};
 use crate::counts::counts_line;
@@ -37,7 +40,9 @@ pub enum RunEnd {
 
 impl RunEnd {
     /// The exit status that stands for it.
-    pub fn status(self) -> u8 {
+    pub fn status(self) -> u8
+        ensures { result ≡ status_of_run self }
+    {
         match self {
             RunEnd::Lines(_) => 0,
             RunEnd::Input | RunEnd::Clock => 1,

@@ -57,7 +57,7 @@ pub use Rattle.wb_office.specs.CourseOfRequests.{AreBounds, Journal, RequestTurn
 pub use Rattle.wb_office.specs.Exports.{journal_columns, journal_csv, journal_record, record_with, records_text, ticket_columns, ticket_record, tickets_csv}
 pub use Rattle.wb_office.specs.Laws.{AllWeighed, AnsweredAgain, FullAtLastNumber, IsByKey, IsGone, IsKeptEntry, IsNumbered, IsWeighed, KeepsPartners, KeyDecides, NumbersRun, OneEntryPerKey, WithinCapacity, is_taken}
 pub use Rattle.wb_office.specs.LawsOfJournals.{ChangesNothing, ClosingsHavePartners, FirstsClosedOnce, IsTakenOut, KeptForItsTime, RefusalsChangeNothing, StaysSound, TakesOut, TicketGivenAgain}
-pub use Rattle.wb_office.specs.LawsOfMigration.{IsRepeatedAlike, IsTicketAlike, RepeatedOverMigration, TicketOverMigration}
+pub use Rattle.wb_office.specs.LawsOfMigration.{AnsweredAfterChaining, IsRepeatedAlike, IsTicketAlike, RepeatedOverMigration, TicketOverMigration}
 pub use Rattle.wb_events.specs.Content.{content_of, content_or_refusal}
 pub use Rattle.wb_office.specs.Serves.{IsNow, Marks, Serves, fault_of_refusal, is_of_store, is_store_refusal}
 pub use Rattle.wb_office.specs.Situation.{Asking, IsOnLists, Situation}

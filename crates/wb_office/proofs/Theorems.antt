@@ -5,13 +5,13 @@
 -- store stands for the lists that they leave (`judged`). So each request is one turn of a course. One that is answered 15 left the
 -- lists as they were (`kept`), or its disk failed; then, and at any stop, an opening finds the lists before it or those after it
 -- (`leaves`). In a course it was made or it wasn't.
-use Rattle.wb_office.proofs.Common.{Ghosts, AllWeighed, AnsweredAgain, FullAtLastNumber, KeepsPartners, KeyDecides, NumbersRun, OneEntryPerKey, WithinCapacity, ClosingsHavePartners, FirstsClosedOnce, KeptForItsTime, RefusalsChangeNothing, StaysSound, TicketGivenAgain, AnsweredAfterStops, RepeatedOverMigration, TicketOverMigration}
+use Rattle.wb_office.proofs.Common.{Ghosts, AllWeighed, AnsweredAfterChaining, AnsweredAgain, FullAtLastNumber, KeepsPartners, KeyDecides, NumbersRun, OneEntryPerKey, WithinCapacity, ClosingsHavePartners, FirstsClosedOnce, KeptForItsTime, RefusalsChangeNothing, StaysSound, TicketGivenAgain, AnsweredAfterStops, RepeatedOverMigration, TicketOverMigration}
 use Rattle.wb_office.proofs.Verdicts.{key_decides}
 use Rattle.wb_office.proofs.courses.AcceptedEntries.{full_for_closing}
 use Rattle.wb_office.proofs.courses.ClosedWeighings.{closings_have_partners, firsts_closed_once}
 use Rattle.wb_office.proofs.courses.KeptEntries.{kept_for_its_time}
 use Rattle.wb_office.proofs.courses.Numbers.{numbers_run}
-use Rattle.wb_office.proofs.courses.OverMigration.{repeated_over_migration, ticket_over_migration}
+use Rattle.wb_office.proofs.courses.OverMigration.{answered_after_chaining, repeated_over_migration, ticket_over_migration}
 use Rattle.wb_office.proofs.courses.Places.{keeps_partners, within_capacity}
 use Rattle.wb_office.proofs.courses.Refusals.{refusals_change_nothing}
 use Rattle.wb_office.proofs.courses.RepeatedRequests.{answered_again}
@@ -45,6 +45,10 @@ law_of_stops g = answered_after_stops g
 -- before is refused as gone; another is judged anew.
 pub law_of_migration : RepeatedOverMigration
 law_of_migration = repeated_over_migration
+
+-- The same of an entry that was accepted before, whatever else stands in the lists.
+pub law_of_chained_keys : AnsweredAfterChaining
+law_of_chained_keys = answered_after_chaining
 
 -- A ticket that was given by its number before a migration is given after it, with the same text but for digest lines.
 pub law_of_migrated_tickets : TicketOverMigration

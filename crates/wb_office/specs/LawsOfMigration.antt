@@ -25,6 +25,17 @@ pub record IsRepeatedAlike (es : List EntryParts) (e : EntryParts) (a : Asking) 
   pub judged : verdict a ≡ repeated entry
   pub told : (request : Request) (bound : ℕ) → Asks request a → office_answer a.now bound request ≡ Ok (entry_content (chained es) entry entry.kind)
 
+-- what is asked of the chained journal has the key of an entry of version 1, of the kind and plate that are asked for, and the key isn't spent: of whatever
+-- entries, which need not be a store's
+pub record IsAskedAfterChaining (es : List EntryParts) (e : EntryParts) (a : Asking) : Type 0 where
+  pub journal : a.now.entries ≡ chained es
+  pub found : entry_by_key es a.key ≡ Some e
+  pub unspent : is_spent a.now.spent a.key ≡ false
+  pub same : is_other a e ≡ false
+
+abbrev pub AnsweredAfterChaining : Type 0
+AnsweredAfterChaining = (es : List EntryParts) → IsRising es → MayBeChained es → (e : EntryParts) (a : Asking) → IsAskedAfterChaining es e a → IsRepeatedAlike es e a
+
 -- what a weighing or void comes to by its key, asked of the chained journal and the same spent keys
 pub record IsByKeyOverMigration (es : List EntryParts) (ks : List SpentKey) (a : Asking) : Type 0 where
   -- its entry stood in version 1: it is told again, with the same text but for digest lines

@@ -7,5 +7,7 @@ pub mod Served
 -- What a check, the exports and a migration print.
 pub mod CheckAndExports
 pub mod Migrated
+-- The exit status of each end.
+pub mod Statuses
 -- What private functions' contracts need besides.
 pub mod helpers

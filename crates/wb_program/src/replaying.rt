@@ -3,6 +3,7 @@ ghost use Rattle.sqlite.specs.Steps.{over_memory};
 ghost use Rattle.std.specs.Prelude.{◌≡◌, ◌≤◌, ◌+◌, [], IfOk, IfSome, length};
 ghost use Rattle.std.specs.Str.Lines.{lines};
 ghost use Rattle.wb_program.specs.Replayed.{Ends, IsUntouched, ReplaysLines, at_first};
+ghost use Rattle.wb_program.specs.Statuses.{status_of_replay};
 ghost use Rattle.wb_program.specs.helpers.RunEnds.{WasRun};
 ghost use Rattle.wb_station.specs.Stands.{Hears, StationStands};
 ghost use Rattle.wb_store.specs.Journal.{StoreStands};
@@ -46,7 +47,9 @@ pub enum ReplayEnd {
 
 impl ReplayEnd {
     /// The exit status that stands for the end.
-    pub fn status(self) -> u8 {
+    pub fn status(self) -> u8
+        ensures { result ≡ status_of_replay self }
+    {
         match self {
             ReplayEnd::Done => 0,
             ReplayEnd::BadLine(_)

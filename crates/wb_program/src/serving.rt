@@ -1,6 +1,7 @@
 //! The service: turns of a station over its sources.
 ghost use Rattle.std.specs.Prelude.{◌≡◌, ◌∷◌, [], false, map, reverse};
 ghost use Rattle.wb_program.specs.Served.{Handled, Served};
+ghost use Rattle.wb_program.specs.Statuses.{status_of_serve};
 ghost use Rattle.wb_program.specs.Turns.{handed_on};
 ghost use Rattle.wb_program.specs.helpers.TurnParts.{ExchangeServed, StretchServed, end_of, TurnServed};
 ghost use Rattle.wb_events.specs.Happening.{IsTaken, byte as byte_happening, happening, office as office_happening};
@@ -30,7 +31,9 @@ pub enum ServeEnd {
 
 impl ServeEnd {
     /// The exit status that stands for the end.
-    pub fn status(self) -> u8 {
+    pub fn status(self) -> u8
+        ensures { result ≡ status_of_serve self }
+    {
         match self {
             ServeEnd::Turns(_) => 0,
             ServeEnd::ConverterFault | ServeEnd::ClockFault => 1,

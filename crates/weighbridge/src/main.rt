@@ -2,12 +2,10 @@
 #![tactic(auto)]
 
 mod guard;
-mod migrating;
 mod service;
 mod sources;
 mod zero_note;
 
-use crate::migrating::migrate_file;
 use crate::service::serve_bridge;
 use crate::sources::{KIT, SOURCES};
 use clap::error::ErrorKind;
@@ -17,8 +15,10 @@ use std::process::ExitCode;
 use wb_command::{Asked, REFUSED, Service, read_words};
 use wb_file::JournalFile;
 use wb_instrument::Instrument;
-use wb_program::{PrintFault, ReplayEnd, ServeEnd, What, print_check, print_export, replay};
-use wb_store::Store;
+use wb_program::{
+    PrintFault, ReplayEnd, ServeEnd, What, print_check, print_export, print_migrated, replay,
+};
+use wb_store::{Store, StoreFault};
 
 /// The status of a damaged journal, and of any fault but refused words or a refused setup.
 const FAULT: u8 = 1;
@@ -31,10 +31,14 @@ fn main(rt: HostRuntime) -> io::Result<ExitCode> {
     match read_words(rt.alloc(), words.as_slice())? {
         Asked::Replay(instrument) => run_replay(&rt, instrument),
         Asked::Serve(instrument, service) => run_serve(&rt, instrument, &service),
-        Asked::Check(path) => run_print(&rt, path.as_str(), Print::Check),
-        Asked::ExportJournal(path) => run_print(&rt, path.as_str(), Print::Export(What::Journal)),
-        Asked::ExportTickets(path) => run_print(&rt, path.as_str(), Print::Export(What::Tickets)),
-        Asked::Migrate(from, to) => run_migrate(&rt, from.as_str(), to.as_str()),
+        Asked::Check(path) => run_print(&rt, Source::Kept(path), Print::Check),
+        Asked::ExportJournal(path) => {
+            run_print(&rt, Source::Kept(path), Print::Export(What::Journal))
+        }
+        Asked::ExportTickets(path) => {
+            run_print(&rt, Source::Kept(path), Print::Export(What::Tickets))
+        }
+        Asked::Migrate(from, to) => run_print(&rt, Source::Migrated(from, to), Print::Migrated),
         Asked::SetupRefused(fault) => {
             eprintln!(rt; "{fault}")?;
             Ok(ExitCode::from(fault.status()))
@@ -86,16 +90,36 @@ fn end_service(rt: &HostRuntime, end: ServeEnd) -> io::Result<ExitCode> {
     Ok(ExitCode::from(end.status()))
 }
 
+/// Where a journal is that something is printed of.
+#[derive(Drop)]
+enum Source {
+    /// In the file.
+    Kept(String),
+    /// In the second file, once that of version 1 in the first one was brought there.
+    Migrated(String, String),
+}
+
+impl Source {
+    fn open(&self, rt: &HostRuntime) -> Result<JournalFile, StoreFault> {
+        match self {
+            Source::Kept(path) => JournalFile::open_copy(rt, path.as_str()),
+            Source::Migrated(from, to) => JournalFile::migrate(rt, from.as_str(), to.as_str()),
+        }
+    }
+}
+
 /// What is printed of a journal.
 #[derive(Clone, Copy)]
 enum Print {
     Check,
     Export(What),
+    /// How many entries it has.
+    Migrated,
 }
 
-/// Prints this of the journal in the file, or reports the fault that was met.
-fn run_print(rt: &HostRuntime, path: &str, print: Print) -> io::Result<ExitCode> {
-    match print_file(rt, path, print) {
+/// Prints this of the journal, or reports the fault that was met.
+fn run_print(rt: &HostRuntime, source: Source, print: Print) -> io::Result<ExitCode> {
+    match print_journal(rt, &source, print) {
         Ok(true) => Ok(ExitCode::SUCCESS),
         Ok(false) => Ok(ExitCode::from(FAULT)),
         Err(fault) => {
@@ -105,8 +129,8 @@ fn run_print(rt: &HostRuntime, path: &str, print: Print) -> io::Result<ExitCode>
     }
 }
 
-fn print_file(rt: &HostRuntime, path: &str, print: Print) -> Result<bool, PrintFault> {
-    match JournalFile::open_copy(rt, path) {
+fn print_journal(rt: &HostRuntime, source: &Source, print: Print) -> Result<bool, PrintFault> {
+    match source.open(rt) {
         Ok(mut journal) => print_from(rt, journal.store(), print),
         Err(fault) => Err(PrintFault::Store(fault)),
     }
@@ -120,21 +144,9 @@ fn print_from<D: Alter>(
 ) -> Result<bool, PrintFault> {
     let out = &mut io::writer(rt);
     match print {
-        Print::Check => print_check(rt.alloc(), store, out),
-        Print::Export(what) => {
-            print_export(rt.alloc(), store, what, out)?;
-            Ok(true)
-        }
+        Print::Check => return print_check(rt.alloc(), store, out),
+        Print::Export(what) => print_export(rt.alloc(), store, what, out)?,
+        Print::Migrated => print_migrated(store, out)?,
     }
-}
-
-/// Migrates a journal, or reports the fault that was met.
-fn run_migrate(rt: &HostRuntime, from: &str, to: &str) -> io::Result<ExitCode> {
-    match migrate_file(rt, from, to) {
-        Ok(()) => Ok(ExitCode::SUCCESS),
-        Err(fault) => {
-            eprintln!(rt; "{fault}")?;
-            Ok(ExitCode::from(FAULT))
-        }
-    }
+    Ok(true)
 }

@@ -1,6 +1,6 @@
 //! The service of a bridge, over files and sockets.
 use crate::guard::Guarded;
-use sqlite::{Alter, File, FileStore};
+use sqlite::Alter;
 use std::net::TcpListener;
 use thiserror::Error;
 use wb_command::Service;
@@ -59,21 +59,24 @@ pub(crate) fn serve_bridge(
     instrument: Instrument,
     service: &Service,
 ) -> Result<ServeEnd, ServiceFault> {
-    let interval_kg = instrument.interval_kg();
-    let mut station = FileStation::open(rt, instrument, service.file.as_str())?;
-    serve_station(rt, &mut station.station, interval_kg, service)
+    match JournalFile::open(rt, service.file.as_str()) {
+        Ok(journal) => serve_store(rt, instrument, journal.into_store(), service),
+        Err(fault) => Err(ServiceFault::Journal(PrintFault::Store(fault))),
+    }
 }
 
-/// The same, with the station open. It is generic over the database, since a function that holds one over files is dear to prove, the more so the more
+/// The same, with the journal open. It is generic over the database, since a function that holds one over files is dear to prove, the more so the more
 /// it holds beside.
-fn serve_station<D: Alter>(
+fn serve_store<D: Alter + Drop>(
     rt: &HostRuntime,
-    station: &mut Station<DequeWindow, D>,
-    interval_kg: u32,
+    instrument: Instrument,
+    store: Store<D>,
     service: &Service,
 ) -> Result<ServeEnd, ServiceFault> {
+    let interval_kg = instrument.interval_kg();
+    let mut station = station_over(rt, instrument, store)?;
     let mut sources = open_guarded(rt, interval_kg, service)?;
-    let end = serve(station, &mut sources, service.turns);
+    let end = serve(&mut station, &mut sources, service.turns);
     sources.sources.finish();
     sources.end(end)
 }
@@ -102,34 +105,6 @@ fn open_sources<'a>(
     let converter = Converter::open(rt, service.converter.as_str())?;
     let sources = Sockets::new(rt, terminal, office, converter, service.is_verbose)?;
     Ok(sources)
-}
-
-/// A station over the journal in a file. Like the journal's file it lets go by hand what it holds.
-struct FileStation {
-    station: Station<DequeWindow, FileStore<File>>,
-}
-
-impl Drop for FileStation {
-    fn drop(self) {
-        let FileStation { station } = self;
-        drop(station);
-    }
-}
-
-impl FileStation {
-    fn open(
-        rt: &HostRuntime,
-        instrument: Instrument,
-        path: &str,
-    ) -> Result<FileStation, ServiceFault> {
-        match JournalFile::open(rt, path) {
-            Ok(journal) => match station_over(rt, instrument, journal.into_store()) {
-                Ok(station) => Ok(FileStation { station }),
-                Err(fault) => Err(fault),
-            },
-            Err(fault) => Err(ServiceFault::Journal(PrintFault::Store(fault))),
-        }
-    }
 }
 
 /// A station over the store.

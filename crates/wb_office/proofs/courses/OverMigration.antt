@@ -1,6 +1,6 @@
 -- A request whose key was accepted before a migration, asked again after it.
 use Rattle.std.proofs.Common.{◌≡◌, ◌∙◌, sym, ap, ℕ, Bool, true, false, true≢false, inl, inr, not, ◌&&◌, ◌||◌, ◌==◌, if◌then◌else◌, List, [], ◌∷◌, length, map, Option, Some, None, refl}
-use Rattle.wb_office.proofs.Common.{find, is_none, option_map, EntryParts, Among, find-among, finding, Sound, sound-sealed, is_sound_entry, is_second_kind, is_partner, partner_in, with_number, IsRising, entry_by_key, has_key, answer_by_verdict, holds_of, is_damaged_entry, is_other, is_spent, IsRepeatedAlike, IsTicketAlike, RepeatedOverMigration, TicketOverMigration, repeated, verdict}
+use Rattle.wb_office.proofs.Common.{find, is_none, option_map, EntryParts, Among, find-among, finding, Sound, sound-sealed, is_sound_entry, is_second_kind, is_partner, partner_in, with_number, IsRising, entry_by_key, has_key, answer_by_verdict, holds_of, is_damaged_entry, is_other, is_spent, AnsweredAfterChaining, IsRepeatedAlike, IsTicketAlike, RepeatedOverMigration, TicketOverMigration, repeated, verdict}
 use Rattle.std.specs.Prelude.{option_and_then}
 use Rattle.wb_journal.proofs.Theorems.{law_of_fields}
 use Rattle.wb_journal.proofs.offered.Chained.{chained-rising}
@@ -115,9 +115,33 @@ module _ (p : EntryParts → Bool) (blind : (z : EntryParts) → p (but_digests 
       there None none some = absurd (true≢false (sym (ap is_none none) ∙ some))
       there (Some g) one some = ap (holds_of is_sound_entry) one ∙ chained_sound None es g (partner_among (chained es) f g one)
 
+pub answered_after_chaining : AnsweredAfterChaining
+answered_after_chaining es rising may e a asked = repeats (chained_one mine blind es rising e asked.found)
+  where
+    mine : EntryParts → Bool
+    mine = has_key a.key
+
+    blind : (z : EntryParts) → mine (but_digests z) ≡ mine z
+    blind z = refl
+
+    repeats : (f : EntryParts) × (find mine (chained es) ≡ Some f) → IsRepeatedAlike es e a
+    repeats f =
+        let other = ap (is_other a) (alike mine blind es rising e f.0 asked.found f.1) ∙ asked.same in
+        let judged : verdict a ≡ repeated f.0 =
+        by_repetition a f.0 (ap (find mine) asked.journal ∙ f.1) other asked.unspent (ap (λ l. is_damaged_entry l f.0) asked.journal ∙ whole mine blind es rising e f.0 asked.found f.1 may.0) in
+        record {
+          entry = f.0;
+          alike = alike mine blind es rising e f.0 asked.found f.1;
+          partner = partner mine blind es rising e f.0 asked.found f.1;
+          judged = judged;
+          told = λ request bound asks.
+              of_verdict a bound request asks ∙ ap (answer_by_verdict a.now.entries) judged ∙ ap (λ l. answer_by_verdict l (repeated f.0)) asked.journal;
+        }
+
 pub repeated_over_migration : RepeatedOverMigration
 repeated_over_migration es ks lists may a on = record {
-  repeated = λ e found other. repeats e found other (chained_one mine blind es rising e found);
+  repeated = λ e found other. answered_after_chaining es rising may e a
+      (record { journal = on.entries; found = found; unspent = ap (λ l. is_spent l a.key) on.spent ∙ found_unspent es ks a.key e lists.apart found; same = other });
   reused = λ e found other. let f = chained_one mine blind es rising e found in by_other a f.0 (now f.1) (ap (is_other a) (alike mine blind es rising e f.0 found f.1) ∙ other);
   gone = λ spent. by_gone a (ap (λ l. is_spent l a.key) on.spent ∙ spent) (entry_by_key a.now.entries a.key) refl (λ f is. absurd (true≢false (sym spent ∙ of_old f is)));
   anew = λ none free. by_newness a (ap (find mine) on.entries ∙ no_other mine blind es rising none) (ap (λ l. is_spent l a.key) on.spent ∙ free);
@@ -142,21 +166,6 @@ repeated_over_migration es ks lists may a on = record {
         go : (o : Option EntryParts) → entry_by_key es a.key ≡ o → is_spent ks a.key ≡ false
         go (Some e) found = found_unspent es ks a.key e lists.apart found
         go None none = none_some (sym (no_other mine blind es rising none) ∙ sym (ap (find mine) on.entries) ∙ is)
-
-    repeats : (e : EntryParts) → entry_by_key es a.key ≡ Some e → is_other a e ≡ false → (f : EntryParts) × (find mine (chained es) ≡ Some f) → IsRepeatedAlike es e a
-    repeats e found same f =
-        let other = ap (is_other a) (alike mine blind es rising e f.0 found f.1) ∙ same in
-        let unspent = ap (λ l. is_spent l a.key) on.spent ∙ found_unspent es ks a.key e lists.apart found in
-        let judged : verdict a ≡ repeated f.0 =
-        by_repetition a f.0 (now f.1) other unspent (ap (λ l. is_damaged_entry l f.0) on.entries ∙ whole mine blind es rising e f.0 found f.1 may.0) in
-        record {
-          entry = f.0;
-          alike = alike mine blind es rising e f.0 found f.1;
-          partner = partner mine blind es rising e f.0 found f.1;
-          judged = judged;
-          told = λ request bound asks.
-              of_verdict a bound request asks ∙ ap (answer_by_verdict a.now.entries) judged ∙ ap (λ l. answer_by_verdict l (repeated f.0)) on.entries;
-        }
 
 pub ticket_over_migration : TicketOverMigration
 ticket_over_migration es rising may number e found has = go (chained_one mine blind es rising e found)

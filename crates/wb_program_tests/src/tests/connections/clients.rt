@@ -18,6 +18,8 @@ pub(crate) enum Client {
     SendsMany(usize),
     /// It sends pieces that `|` stands between, ten at most, each to be read once.
     SendsPieces(&'static [u8]),
+    /// Reading what it sent takes so many milliseconds.
+    IsReadFor(u64),
     /// The next read of it finds an error.
     Fails(ErrorKind),
     /// It sends nothing more.
@@ -45,6 +47,7 @@ impl Wire<'_> {
             Client::Sends(bytes) => self.send(bytes),
             Client::SendsMany(count) => self.send(MANY.get(..*count).unwrap_or(&MANY)),
             Client::SendsPieces(script) => self.send_pieces(script),
+            Client::IsReadFor(millis) => self.slow_down(*millis),
             Client::Fails(error) => self.fail(*error),
             Client::Ends => self.end(),
             Client::Takes(count) => self.take(*count),

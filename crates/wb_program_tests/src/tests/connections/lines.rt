@@ -29,11 +29,7 @@ static CASES: [Case; 11] = [
         &[Lost, Lost, Lost],
     ),
     Case("19 bytes", &["-000000000000009170\n"], &[Load(-9_170)]),
-    Case(
-        "20 bytes, and 21",
-        &["-0000000000000009170\n-00000000000000009170\r\n"],
-        &[Lost, Lost],
-    ),
+    Case("19 digits", &["0000000000000009170\n"], &[Lost]),
     Case(
         "a long line, and the next",
         &["000000000000000000000000000000009170\n9170\n"],

@@ -102,6 +102,11 @@ pub(crate) fn after(start: Instant, seconds: u64) -> Instant {
         .unwrap_or(start)
 }
 
+/// For how long a stream waits that wasn't set to not wait.
+fn patience() -> Duration {
+    Duration::from_secs(3_600)
+}
+
 /// The times of pieces that are sent at once.
 static NOW: [u64; 10] = [0; 10];
 
@@ -128,8 +133,10 @@ pub(crate) struct Wire<'a> {
     got: RefCell<Vec<u8>>,
     is_shut: Cell<bool>,
     is_open: Cell<bool>,
-    /// For how long a read waits.
+    /// For how long a read or write waits.
     patience: Cell<Duration>,
+    /// How many milliseconds it takes to read what was found.
+    slowness: Cell<u64>,
 }
 
 impl<'a> Wire<'a> {
@@ -155,7 +162,8 @@ impl<'a> Wire<'a> {
             got: RefCell::new(Vec::new(bench.alloc)),
             is_shut: Cell::new(false),
             is_open: Cell::new(true),
-            patience: Cell::new(Duration::ZERO),
+            patience: Cell::new(patience()),
+            slowness: Cell::new(0),
         }
     }
 
@@ -194,6 +202,11 @@ impl<'a> Wire<'a> {
     /// The socket takes so many bytes of one write at most.
     pub(crate) fn take_at_once(&self, count: usize) {
         self.takes_at_once.set(count);
+    }
+
+    /// A read that finds bytes takes so many milliseconds.
+    pub(crate) fn slow_down(&self, millis: u64) {
+        self.slowness.set(millis);
     }
 
     /// The next write finds this error.
@@ -254,7 +267,7 @@ impl<'a> Wire<'a> {
         Ok(self.sent.get())
     }
 
-    /// Lets the time pass for which a read waits.
+    /// Lets the time pass for which a read or write waits.
     fn wait(&self) {
         let until = self.bench.now.get().saturating_add(self.patience.get());
         self.bench
@@ -278,6 +291,7 @@ impl Read for Plug<'_> {
         let found = self.0.find();
         self.0.error.set(None);
         let sent = found?;
+        self.0.bench.pass(self.0.slowness.get());
         let count = sent.len().min(buf.len());
         buf[..count].copy_from_slice(&sent[..count]);
         self.0.sent.set(&sent[count..]);
@@ -294,6 +308,7 @@ impl Write for Plug<'_> {
         let room = self.0.takes.get().min(self.0.takes_at_once.get());
         let count = room.min(buf.len());
         if count == 0 {
+            self.0.wait();
             return Err(io::Error::from(ErrorKind::WouldBlock));
         }
         if let Ok(mut got) = self.0.got.try_borrow_mut() {
@@ -321,13 +336,18 @@ impl OpenStream for Plug<'_> {
         Ok(())
     }
 
-    fn set_nonblocking(&self, _nonblocking: bool) -> io::Result<()> {
-        self.0.patience.set(Duration::ZERO);
+    fn set_nonblocking(&self, nonblocking: bool) -> io::Result<()> {
+        let longest = if nonblocking {
+            Duration::ZERO
+        } else {
+            patience()
+        };
+        self.0.patience.set(longest);
         Ok(())
     }
 
     fn set_read_timeout(&self, dur: Option<Duration>) -> io::Result<()> {
-        self.0.patience.set(dur.unwrap_or(Duration::ZERO));
+        self.0.patience.set(dur.unwrap_or(patience()));
         Ok(())
     }
 }

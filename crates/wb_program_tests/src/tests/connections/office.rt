@@ -317,6 +317,7 @@ fn play_over(
 ) -> Result<(), Fail> {
     let mut desk = Desk::new(rt.alloc(), bench, wires, descriptors)?;
     take_steps(rt, &mut desk, steps);
+    assert_eq!(rt; bench.millis(), 0, "nobody was waited for");
     Ok(())
 }
 

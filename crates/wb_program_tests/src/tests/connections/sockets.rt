@@ -1,6 +1,6 @@
 //! Sources over connections in memory: what comes first after a long exchange or a stop, the end, and what is told.
 use self::Step::{Finish, Loses, Moment, Passes, Reply, Stopped, Told, Turn};
-use super::clients::Client::{Ends, Got, IsClosed, Sends, Takes, TakesAtOnce};
+use super::clients::Client::{Ends, Got, IsClosed, IsReadFor, Sends, Takes, TakesAtOnce};
 use super::clients::{Client, plays};
 use super::memory::{Bench, Door, Plug, Wire};
 use std::process::Abort;
@@ -109,6 +109,21 @@ static SLOW_CLIENT: Course = Course {
         Step::Client(0, Got(b"HT", false)),
         Turn(Load(2), 0, false, 0),
         Step::Client(0, Got(ANSWER, true)),
+    ],
+};
+
+/// A request is read for so long that the reading before it is old once it is whole.
+static READ_SLOWLY: Course = Course {
+    times: &[0, 100],
+    script: b"1\n|2\n",
+    clients: 1,
+    is_verbose: false,
+    steps: &[
+        Turn(Load(1), 0, false, 0),
+        Step::Client(0, Sends(ASKED)),
+        Step::Client(0, IsReadFor(1_100)),
+        Turn(Load(2), 0, false, 0),
+        Turn(Lost, 0, true, 0),
     ],
 };
 
@@ -306,6 +321,11 @@ fn reads_what_came_meanwhile_after_a_long_exchange(rt: HostRuntime) -> Result<()
 #[test]
 fn goes_on_with_a_response_while_it_waits_for_a_line(rt: HostRuntime) -> Result<(), Fail> {
     play(&rt, &SLOW_CLIENT)
+}
+
+#[test]
+fn looks_at_the_reading_once_a_request_is_read(rt: HostRuntime) -> Result<(), Fail> {
+    play(&rt, &READ_SLOWLY)
 }
 
 #[test]

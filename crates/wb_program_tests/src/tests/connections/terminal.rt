@@ -28,7 +28,7 @@ enum Step {
     Replies(u64),
 }
 
-static ALL_BYTES: [Step; 12] = [
+static ALL_BYTES: [Step; 11] = [
     Step::Client(0, SendsMany(300)),
     Step::Client(0, Ends),
     Turn(0, 256),
@@ -41,8 +41,19 @@ static ALL_BYTES: [Step; 12] = [
     Step::Client(1, Sends(b"SI\r\n")),
     // the next one is accepted in a later turn
     Turn(3, 4),
-    // it gets no reply of the one before
-    Step::Client(1, Got(b"", false)),
+];
+
+/// One that is broken while replies wait for it: the next one gets none of them.
+static LEAVES_REPLIES: [Step; 9] = [
+    Step::Client(0, Takes(3)),
+    Turn(0, 0),
+    Reply(0, b"ES\r\nI4 A \"WB01\"\r\n"),
+    Step::Client(0, Fails(ConnectionReset)),
+    HangsUp(1),
+    Turn(2, 0),
+    Reply(2, b"ES\r\n"),
+    Turn(3, 0),
+    Step::Client(1, Got(b"ES\r\n", false)),
 ];
 
 static DEAF: [Step; 10] = [
@@ -59,7 +70,7 @@ static DEAF: [Step; 10] = [
 ];
 
 /// One that reads the repeated value more slowly than it comes.
-static SLOW_DISPLAY: [Step; 11] = [
+static SLOW_DISPLAY: [Step; 14] = [
     Turn(0, 0),
     Step::Client(0, Takes(30)),
     Reply(0, b"S D         20 kg\r\n"),
@@ -77,6 +88,10 @@ static SLOW_DISPLAY: [Step; 11] = [
             false,
         ),
     ),
+    // five seconds after it last took something, not after the first value that it didn't take
+    Turn(8, 0),
+    HangsUp(9),
+    Step::Client(0, IsClosed),
 ];
 
 /// One that reads none of it, though it goes on coming.
@@ -301,6 +316,7 @@ fn play_over(
 ) -> Result<(), Fail> {
     let mut desk = Desk::new(rt.alloc(), bench, wires)?;
     take_steps(rt, &mut desk, steps);
+    assert_eq!(rt; bench.millis(), 0, "nobody was waited for");
     Ok(())
 }
 
@@ -313,6 +329,11 @@ fn take_steps(rt: &impl Abort, desk: &mut Desk<'_>, steps: &[Step]) {
 #[test]
 fn hands_in_all_bytes_before_the_hang_up(rt: HostRuntime) -> Result<(), Fail> {
     play(&rt, 2, &ALL_BYTES)
+}
+
+#[test]
+fn sends_no_reply_of_one_to_the_next(rt: HostRuntime) -> Result<(), Fail> {
+    play(&rt, 2, &LEAVES_REPLIES)
 }
 
 #[test]
