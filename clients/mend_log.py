@@ -4,9 +4,11 @@
   clients/mend_log.py /var/lib/weighbridge/journal.db /srv/mended
 
 Every frame of a log has a checksum of all that stands before it. So in the first frame that isn't whole, or in the log's header, each bit is
-turned over by itself. Where exactly one of these makes the frame whole, and the frame behind it too, that bit is taken for the flipped one. The
-journal's files with it are written into a new folder; the files themselves are only read. What was changed is printed. Show it to the inspector,
-with both copies: a mended journal is evidence like the damaged one.
+turned over by itself. A checksum takes some bits for one another: of several that make the frame whole, and the one behind it, those count with
+which SQLite finds its database whole and verify.py, beside this program, the journal. Where that is exactly one bit, it is taken for the flipped one;
+of several in a page that stands again further on in the log it is the first, since no entry hangs on it.
+The journal's files with it are written into a new folder; the files themselves are only read. What was changed is printed. Show it to the
+inspector, with both copies: a mended journal is evidence like the damaged one.
 
 It needs Python alone, 3.8 or later, and takes some seconds. Stop the service before.
 Status: 0 a mended copy was written, 1 nothing was written, since nothing is damaged or more than one bit is, 2 a file can't be read or written.
@@ -15,13 +17,19 @@ import argparse
 import hashlib
 import os
 import shutil
+import sqlite3
 import struct
+import subprocess
 import sys
+import tempfile
 
 HEADER, FRAME_HEADER = 32, 24
 # How a log begins whose checksums take words with the lowest byte first, and with the highest.
 MARKS = {b"\x37\x7f\x06\x82": "<", b"\x37\x7f\x06\x83": ">"}
 BESIDE = ("", "-wal", "-newest")
+VERIFY = os.path.join(os.path.dirname(os.path.realpath(__file__)), "verify.py")
+# The number of a commit's first frame that counts.
+COUNT = b"\xff\0\0\0"
 
 
 def checksum(order, before, data):
@@ -64,6 +72,24 @@ class Log:
         frame = self.data[at:at + self.length]
         return len(frame) < self.length or frame[8] == 0 or sum(a != b for a, b in zip(frame[8:16], self.salts)) > 1
 
+    def is_counted(self, at):
+        """Whether the commit with the frame at this byte is one that counts nothing, or has what it counted: its zeros, and how far its numbers lie below
+        that of the frame that counts."""
+        begin = at
+        while begin > HEADER and not any(self.data[begin - self.length + 4:begin - self.length + 8]):
+            begin -= self.length
+        if self.data[begin:begin + 4] != COUNT:
+            return True
+        found, it, counted = 0, begin, FRAME_HEADER + 8
+        while True:
+            frame = self.data[it:it + self.length]
+            found += frame[counted:].count(0) + int.from_bytes(COUNT, "big") - int.from_bytes(frame[:4], "big")
+            if any(frame[4:8]) or len(frame) < self.length:
+                break
+            it, counted = it + self.length, FRAME_HEADER
+        found += int.from_bytes(COUNT, "big") - int.from_bytes(frame[4:8], "big")
+        return found == int.from_bytes(self.data[begin + FRAME_HEADER:begin + FRAME_HEADER + 8], "big")
+
     def first_damage(self):
         """The byte from which the first frame isn't whole. None if there is none before the log's end."""
         at = HEADER
@@ -80,8 +106,8 @@ def turned(data, bit):
 
 
 def is_mended_at(log, at):
-    """Whether the frame at this byte is whole, and the next one, unless the log ends there."""
-    return log.is_whole(at) and (log.is_whole(at + log.length) or log.is_end(at + log.length))
+    """Whether the frame at this byte is whole, and the next one, unless the log ends there, and its commit has as many zeros as it counted."""
+    return log.is_whole(at) and (log.is_whole(at + log.length) or log.is_end(at + log.length)) and log.is_counted(at)
 
 
 def mended_header(data):
@@ -103,8 +129,34 @@ def mended_frame(log, at):
             yield 8 * at + bit
 
 
-def flipped_bit(data):
-    """The one bit of the log that is flipped."""
+def is_sound(file, log):
+    """Whether SQLite finds the database whole, and the reader for inspectors the journal."""
+    with tempfile.TemporaryDirectory() as folder:
+        path = os.path.join(folder, "journal.db")
+        write(path, file)
+        write(path + "-wal", log)
+        if subprocess.run([sys.executable, VERIFY, path], stdout=subprocess.DEVNULL, stderr=subprocess.DEVNULL).returncode != 0:
+            return False
+        database = sqlite3.connect(path)
+        try:
+            return database.execute("PRAGMA integrity_check").fetchall() == [("ok",)]
+        finally:
+            database.close()
+
+
+def stands_again(log, at):
+    """Whether a later commit of the log wrote the page anew that the frame at this byte has."""
+    page, it, last = log.data[at:at + 4], at + log.length, 0
+    while log.is_whole(it):
+        last = it if log.data[it:it + 4] == page else last
+        if any(log.data[it + 4:it + 8]) and last:
+            return True
+        it += log.length
+    return False
+
+
+def flipped_bit(file, data):
+    """The one bit of the log that is flipped, and where it is."""
     log = Log(data)
     if len(data) < HEADER:
         sys.exit("nothing was written: the log has no whole header")
@@ -114,9 +166,13 @@ def flipped_bit(data):
     if at is None:
         sys.exit("nothing was written: no frame of the log is damaged")
     bits = list(mended_frame(log, at) if log.is_signed() else mended_header(data))
+    if len(bits) > 1:
+        bits = [bit for bit in bits if is_sound(file, turned(data, bit))]
+    if len(bits) > 1 and at and stands_again(Log(turned(data, bits[0])), at):
+        bits = bits[:1]
     where = f"the frame from byte {at}" if at else "the header"
     if len(bits) != 1:
-        sys.exit(f"nothing was written: in {where} {len(bits)} single bits make the checksums right, and it has to be one; more than a bit is damaged")
+        sys.exit(f"nothing was written: in {where} {len(bits)} single bits could be the flipped one, and it has to be one")
     return bits[0], where
 
 
@@ -137,7 +193,7 @@ def mend(path, folder):
     data = {end: read(path + end) for end in BESIDE if end == "-wal" or os.path.exists(path + end)}
     if not data.get(""):
         sys.exit("nothing was written: the journal's file is missing or empty, and no bit of its log mends that")
-    bit, where = flipped_bit(data["-wal"])
+    bit, where = flipped_bit(data[""], data["-wal"])
     before, data["-wal"] = data["-wal"], turned(data["-wal"], bit)
     os.mkdir(folder, 0o700)
     copy = os.path.join(folder, os.path.basename(path))

@@ -1,7 +1,7 @@
 """What a power cut leaves of the files of a journal: the writes of a service's run, recorded by strace, and torn in ways that a disk may tear them.
 
 A disk keeps what was synced. Of what was written since, each byte is as before or as written, in runs of one to 4,096 bytes, and a file has any
-length between. It needs strace.
+length between. The witness beside a journal is never synced: of all that was written to it a power cut leaves anything. It needs strace.
 """
 
 import os
@@ -13,8 +13,12 @@ WRITTEN = re.compile(r'"([^"]*)", (\d+), (\d+)')
 RUNS = [1, 1, 8, 512, 4096]
 
 
+# The files of a journal, by what their names end with.
+FILES = {"log": "-wal", "witness": "-newest", "file": ".db"}
+
+
 class Recording:
-    """A program that runs this one and records its writes: `program`; and the calls so far in their order: what was done, to the file or its log, where,
+    """A program that runs this one and records its writes: `program`; and the calls so far in their order: what was done, to which of the files, where,
     and with which bytes."""
 
     def __init__(self, folder, program):
@@ -43,7 +47,7 @@ def bytes_of(text):
 
 def call_of(what, path, words, result):
     path = bytes_of(path).decode() if path.startswith("\\x") else path
-    which = "log" if path.endswith("-wal") else "file" if path.endswith(".db") else None
+    which = next((name for name, end in FILES.items() if path.endswith(end)), None)
     if which is None:
         return None
     if what == "pwrite64":
@@ -65,11 +69,11 @@ def cut(data, length):
 
 
 class Disk:
-    """Two files: what was synced of each, and what was done since."""
+    """The files: what was synced of each, and what was done since."""
 
-    def __init__(self, file=b"", log=b""):
-        self.synced = {"file": file, "log": log}
-        self.since = {"file": [], "log": []}
+    def __init__(self, file=b"", log=b"", witness=b""):
+        self.synced = {"file": file, "log": log, "witness": witness}
+        self.since = {"file": [], "log": [], "witness": []}
 
     def take(self, call):
         what, which, _, _ = call
