@@ -1,4 +1,9 @@
 //! A connection of the office, from its first byte to its end. No call here waits.
+ghost use Rattle.std.specs.Prelude.{◌≡◌, ℕ, false};
+ghost use Rattle.wb_connections.specs.Age.{has_passed};
+ghost use Rattle.wb_connections.specs.declared.connection.Stage.TheVariants.{Closed, Waits};
+ghost use Rattle.wb_connections.specs.declared.limits.TheConstants.{REQUEST_SECONDS};
+
 use crate::limits::{
     LEAVING_SECONDS, READS_A_TURN, REQUEST_SECONDS, SILENT_SECONDS, UNTAKEN_SECONDS,
     WHOLE_WITHIN_SECONDS,
@@ -143,7 +148,10 @@ impl<S: Read + Write + OpenStream + Drop, J: Drop> Connection<S, J> {
     }
 
     /// Closes it if its request was judged and may have come too long ago.
-    pub(crate) fn drop_late(&mut self, now: Instant) {
+    pub(crate) fn drop_late(&mut self, now: Instant)
+        ensures late { (place : ℕ) (request : J) → self.new.stage ≡ Waits place request
+            → has_passed REQUEST_SECONDS self.new.looked now ≡ false }
+    {
         if matches!(self.stage, Stage::Waits(_, _)) && is_past(self.looked, REQUEST_SECONDS, now) {
             self.close(Why::Late);
         }
@@ -168,7 +176,9 @@ impl<S: Read + Write + OpenStream + Drop, J: Drop> Connection<S, J> {
     }
 
     /// Lets it be closed before the turn is over.
-    pub(crate) fn close(&mut self, why: Why) {
+    pub(crate) fn close(&mut self, why: Why)
+        ensures { self.new.stage ≡ Closed why }
+    {
         self.stage = Stage::Closed(why);
     }
 

@@ -1,5 +1,6 @@
 //! Reads, writes and accepts that don't wait, and how long ago something was.
-ghost use Rattle.std.specs.Prelude.{◌≤◌, IfSome, length};
+ghost use Rattle.std.specs.Prelude.{◌≡◌, ◌≤◌, IfSome, length};
+ghost use Rattle.wb_connections.specs.Age.{has_passed};
 ghost use Rattle.wb_connections.specs.Ready.{FitsRoom};
 
 use std::io;
@@ -94,6 +95,8 @@ where
 }
 
 /// Whether so many seconds have passed since then.
-pub fn is_past(then: Instant, seconds: u64, now: Instant) -> bool {
+pub fn is_past(then: Instant, seconds: u64, now: Instant) -> bool
+    ensures { result ≡ has_passed seconds then now }
+{
     now.duration_since(then) >= Duration::from_secs(seconds)
 }

@@ -1,5 +1,7 @@
 //! The terminal: one connection at a time, the replies that wait for it, and those that wait for its place. No call here waits.
-ghost use Rattle.std.specs.Prelude.{◌≡◌, ◌≤◌};
+ghost use Rattle.std.specs.Prelude.{◌≡◌, ◌≤◌, IsTrue};
+ghost use Rattle.wb_connections.specs.Age.{has_passed};
+ghost use Rattle.wb_connections.specs.declared.limits.TheConstants.{COMMAND_SECONDS};
 
 use crate::limits::{COMMAND_SECONDS, DEAF_SECONDS, IDLE_SECONDS, WAITING_REPLIES};
 use crate::ready::{Ready, is_past, read_ready, write_ready};
@@ -81,7 +83,8 @@ where
         report: &Report<'_, R>,
         room: &mut [u8; TERMINAL_ROOM],
     ) -> Taken
-        ensures { result.count ≤ 256 }
+        ensures fits { result.count ≤ 256 }
+        ensures late { IsTrue (has_passed COMMAND_SECONDS self.old.came_after now) → result.count ≡ 0 }
     {
         if self.came.count > 0 && is_past(self.came_after, COMMAND_SECONDS, now) {
             self.came = taken(0, false);
@@ -251,13 +254,17 @@ where
     }
 
     /// Closes the connection, which is handed out after the bytes that came.
-    fn drop_connection<R: Eprint>(&mut self, report: &Report<'_, R>, why: &str) {
+    fn drop_connection<R: Eprint>(&mut self, report: &Report<'_, R>, why: &str)
+        ensures { self.new.came.count ≡ self.old.came.count }
+    {
         self.hang_up(report, why);
         self.came.hung_up = true;
     }
 
     /// Closes the connection, if there is one, and forgets the replies that wait for it.
-    pub fn hang_up<R: Eprint>(&mut self, report: &Report<'_, R>, why: &str) {
+    pub fn hang_up<R: Eprint>(&mut self, report: &Report<'_, R>, why: &str)
+        ensures { self.new.came ≡ self.old.came }
+    {
         if let Some(connection) = &self.connection {
             report.line(format_args!("terminal {}: hung up, {why}", connection.peer));
         }

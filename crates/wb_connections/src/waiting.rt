@@ -1,4 +1,10 @@
 //! The terminals that wait while one is served. No call here waits.
+ghost use Rattle.std.specs.Prelude.{◌≡◌, ◌∷◌, ℕ, IsSome, IsTrue, List};
+ghost use Rattle.std.specs.declared.time.Instant.{Instant as Moment};
+ghost use Rattle.wb_connections.specs.Age.{Look, came_after, has_passed};
+ghost use Rattle.wb_connections.specs.declared.limits.TheConstants.{COMMAND_SECONDS};
+ghost use Rattle.wb_connections.specs.declared.ready.Ready.TheVariants.{Bytes};
+
 use crate::limits::{ACCEPTS_A_TURN, COMMAND_SECONDS, WAITING_TERMINALS};
 use crate::ready::{Newcomer, Ready, accept_ready, is_past, peek_ready};
 use crate::report::Report;
@@ -20,7 +26,18 @@ pub(crate) struct Waiting<S: Drop> {
 impl<S: OpenStream + Drop> Waiting<S> {
     /// Looks whether it sent something, which stays where it is.
     fn look(&mut self, now: Instant) {
-        self.why = match peek_ready(&self.stream) {
+        let found = peek_ready(&self.stream);
+        self.note(found, now);
+    }
+
+    /// Notes what a look found. Bytes that may have come two seconds before are why it is closed.
+    fn note(&mut self, found: Ready, now: Instant)
+        ensures age { (start : Moment) (looks : List Look) → self.old.looked ≡ came_after start looks
+            → self.new.looked ≡ came_after start (record { found = found; at = now } ∷ looks) }
+        ensures late { (count : ℕ) → found ≡ Bytes count
+            → IsTrue (has_passed COMMAND_SECONDS self.old.looked now) → IsSome self.new.why }
+    {
+        self.why = match found {
             Ready::Nothing => {
                 self.looked = now;
                 None
