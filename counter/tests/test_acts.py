@@ -54,6 +54,7 @@ class Bridge:
         self.acts.on_text.append(self.texts.append)
         self.played.connect()
         self.played.reading(3)
+        self.played.fanout.settle()
 
     async def pause(self, seconds):
         self.played.pass_time(seconds)

@@ -22,9 +22,15 @@ REPLIES = {
 
 def up(period=0.1, **how):
     played = PlayedTerminal(period, **how)
+    reconnect(played)
+    return played
+
+
+def reconnect(played):
+    """A new connection, of which nothing has to be found out."""
     played.connect()
     played.reading(3)
-    return played
+    played.fanout.settle()
 
 
 class Values(unittest.TestCase):
@@ -55,10 +61,25 @@ class Sending(unittest.TestCase):
         played.connect()
         self.assertEqual(["SIR"], played.sent)
         asker = Asker(played.fanout, "TAC")
-        played.pass_time(0.5)
+        played.pass_time(0.3)
         self.assertEqual(["SIR"], played.sent)
         played.reading(3)
+        self.assertEqual(["SIR"], played.sent)
+        played.fanout.settle()
+        played.reading(1)
         self.assertEqual("answered", asker.outcome)
+
+    def test_who_settles_a_new_connection_asks_before_the_others(self):
+        played = PlayedTerminal()
+        played.connect()
+        till = Asker(played.fanout, "TA 5000 kg", patience=0.5)
+        looks, said = [], []
+        played.fanout.take_turn(looks.append, 5.0, first=True, may_settle=True)
+        played.reading(8)
+        self.assertEqual((["SIR"], "not_sent", [True]), (played.sent, till.outcome, looks))
+        played.fanout.ask(played.fanout.holder, "TA", lambda outcome, lines: said.extend(lines))
+        played.reading(2)
+        self.assertEqual(["TA A          0 kg"], said)
 
     def test_a_command_goes_out_right_behind_a_value_alone(self):
         played = up()
@@ -235,7 +256,7 @@ class ManyAtOnce(unittest.TestCase):
                 played.reading()
                 if played.fanout.link == "down":
                     played.fanout.ended()
-                    played.connect()
+                    reconnect(played)
             played.pass_time(5.0)
             answered = [it for it in asked if it.outcome == "answered"]
             self.assertGreater(len(answered), 100)
@@ -260,7 +281,7 @@ class ManyAtOnce(unittest.TestCase):
                 seen.add(played.tare)
             if played.fanout.link == "down":
                 played.fanout.ended()
-                played.connect()
+                reconnect(played)
             self.assertEqual([], [kg for kg in refused if kg in seen])
         self.assertGreater(len(seen), 500)
 

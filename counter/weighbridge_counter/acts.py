@@ -104,7 +104,7 @@ class Acts:
 
     async def _weigh_with_tare(self, target: str, body: bytes, tare: str, told: "asyncio.Future[Told]") -> None:
         """`TA`, the weighing, `TAC`. The file tells a next start that a tare may be left; who asked is told before it is cleared."""
-        async with self.terminal.turn(BEGIN_WITHIN) as turn:
+        async with self.terminal.turn(BEGIN_WITHIN, may_settle=True) as turn:
             try:
                 refusal = await self._set_tare(turn, tare)
             except Unanswered:
@@ -154,15 +154,15 @@ class Acts:
         """Asks a new connection for what isn't known, and clears a tare that an act or a command that was called back left."""
         while self.terminal.fanout.link == "up":
             try:
-                async with self.terminal.turn(LOOK_WITHIN, first=True) as turn:
+                async with self.terminal.turn(LOOK_WITHIN, first=True, may_settle=True) as turn:
                     said = (await self.terminal.ask(turn, "I4"))[0]
                     self.terminal.serial = said.split('"')[1] if said.count('"') == 2 else None
                     await self.terminal.ask(turn, "TA")
                     if self._is_left_behind():
                         await self.terminal.ask(turn, "TAC")
                         self.counts["tares_cleared"] += 1
-                    self.terminal.fanout.doubtful_tare = None
                     self._is_over()
+                    self.terminal.fanout.settle()
                     return
             except (NotSent, Unanswered):
                 await self.pause(TRY_AGAIN_AFTER)

@@ -68,10 +68,14 @@ class Question:
 
 @dataclass(eq=False)
 class Turn:
-    """A place in the queue. Whoever has its turn asks one question after the other until it is given back."""
+    """A place in the queue. Whoever has its turn asks one question after the other until it is given back.
+
+    `may_settle`: it may ask a new connection before that is settled, since it finds out what isn't known, or clears what it set itself.
+    """
 
     granted: Callable[[bool], None]
     until: float
+    may_settle: bool = False
 
 
 class Fanout:
@@ -86,6 +90,7 @@ class Fanout:
         self.period = 0.1
         self.tare: int | None = None  # in kg; None where it isn't known
         self.doubtful_tare: int | None = None  # the tare before a command that was called back, until it is known again
+        self.is_settled = False  # whether a new connection was asked for what isn't known of it, and cleared of what was left
         self.holder: Turn | None = None
         self.queue: deque[Turn] = deque()
         self.question: Question | None = None
@@ -155,8 +160,8 @@ class Fanout:
 
     # ---- what is asked
 
-    def take_turn(self, granted: Callable[[bool], None], patience: float = PATIENCE, first: bool = False) -> Turn:
-        turn = Turn(granted, self.clock() + patience)
+    def take_turn(self, granted: Callable[[bool], None], patience: float = PATIENCE, first: bool = False, may_settle: bool = False) -> Turn:
+        turn = Turn(granted, self.clock() + patience, may_settle)
         if self.holder is None:
             self.holder = turn
             granted(True)
@@ -200,6 +205,11 @@ class Fanout:
             question.ended_after = READINGS_TO_ANSWER
             self._end_waiting(question)
 
+    def settle(self) -> None:
+        """The connection is known, and everybody may ask."""
+        self.is_settled, self.doubtful_tare = self.link == "up", None
+        self._try_to_send()
+
     def reset(self) -> None:
         """Ends the connection so that the service reads nothing of what it has not read yet."""
         self._forget()
@@ -208,7 +218,7 @@ class Fanout:
     # ---- within
 
     def _forget(self) -> None:
-        self.link, self.tare, self.swallow = "down", None, 0
+        self.link, self.tare, self.swallow, self.is_settled = "down", None, 0, False
 
     def _say(self, line: str) -> None:
         self.said_at = self.clock()
@@ -246,6 +256,8 @@ class Fanout:
 
     def _try_to_send(self) -> None:
         question, now = self.question, self.clock()
+        if not (self.is_settled or (self.holder is not None and self.holder.may_settle)):
+            return
         if question is None or question.sent_at is not None or now > question.until or self.swallow:
             return
         if self.is_fresh(max(0.06, 1.5 * min(self.period, SILENT_PERIOD))):

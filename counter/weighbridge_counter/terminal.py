@@ -173,7 +173,7 @@ class Terminal:
     # ---- commands
 
     @asynccontextmanager
-    async def turn(self, patience: float = PATIENCE, first: bool = False) -> AsyncIterator[Turn]:
+    async def turn(self, patience: float = PATIENCE, first: bool = False, may_settle: bool = False) -> AsyncIterator[Turn]:
         """The terminal for an act of one command or more. Raises NotSent if others keep it for too long."""
         granted: asyncio.Future[bool] = asyncio.get_running_loop().create_future()
 
@@ -181,7 +181,7 @@ class Terminal:
             if not granted.done():
                 granted.set_result(is_granted)
 
-        turn = self.fanout.take_turn(grant, patience, first)
+        turn = self.fanout.take_turn(grant, patience, first, may_settle)
         try:
             if not await granted:
                 raise NotSent("others wait before it")
