@@ -86,12 +86,6 @@ class Browser:
         self.tool("Emulation.setDeviceMetricsOverride", width=width, height=height, deviceScaleFactor=1, mobile=False)
         self.tool("Emulation.setEmulatedMedia", features=[{"name": "prefers-color-scheme", "value": "dark" if is_dark else "light"}])
 
-    def network(self, is_there=True, delay=0, kilobytes=-1):
-        """Takes the network away, or makes it slow: milliseconds, and kilobytes a second."""
-        self.tool("Network.enable")
-        speed = kilobytes * 1000 if kilobytes > 0 else -1
-        self.tool("Network.emulateNetworkConditions", offline=not is_there, latency=delay, downloadThroughput=speed, uploadThroughput=speed)
-
     def keys(self, text):
         """Types where the focus is. Keys with a name are of WebDriver's private letters."""
         actions = [action for it in text for action in ({"type": "keyDown", "value": it}, {"type": "keyUp", "value": it})]

@@ -9,7 +9,8 @@ import time
 
 from bridge import HOST, free_port
 from browser import Browser
-from countering import TOP, Bridge, Meanwhile, becomes, holds, kg_of, same
+from countering import TOP, Bridge, becomes, holds, kg_of, same
+from network import Network
 
 ENTER, ESCAPE, TAB, SPACE, F4, F8, F9 = "\ue007", "\ue00c", "\ue004", " ", "\ue034", "\ue038", "\ue039"
 LOOKS = [(1280, 800, False, "en"), (1280, 800, True, "de"), (360, 740, False, "de"), (360, 740, True, "en")]
@@ -83,8 +84,8 @@ class Clerk:
         self.browser.close()
 
 
-def at_of(bridge):
-    return f"http://{HOST}:{bridge.http}"
+def at_of(port):
+    return f"http://{HOST}:{port}"
 
 
 def a_pair_by_keyboard(bridge, clerk):
@@ -199,7 +200,7 @@ def refusals(bridge, clerk):
 def no_request_twice(bridge, clerk):
     """Whatever is cut between the press and the answer, the request is sent again under its key, and stored once."""
     hook = """const real = window.realFetch ??= window.fetch; const plan = arguments[0].slice(); window.sent = [];
-        window.fetch = async (target, how) => { if (!['/weighings', '/voids'].includes(target)) return real(target, how);
+        window.fetch = async (target, how) => { if (!/[/](weighings|voids)$/.test(target)) return real(target, how);
         window.sent.push(String(how.body)); const step = plan.shift(); if (step === 'cut') { await real(target, how); throw new TypeError('cut'); }
         if (step === 'lost') throw new TypeError('lost'); if (step === 'page') return new Response('<html>', { status: 502 });
         if (step === 'store') return new Response('refused 15 store\\n', { status: 503 });
@@ -208,7 +209,7 @@ def no_request_twice(bridge, clerk):
         bridge.next_vehicle(9170)
         before = len(bridge.entries())
         clerk.browser.run(hook, plan)
-        clerk.keys(f"CUT-{number}")
+        clerk.keys("CUT-" + "ABCDEF"[number] * 4)
         clerk.sees("Ready.", what=f"ready, and then {plan}")
         clerk.keys(ENTER)
         clerk.sees("No answer yet.", 4, f"{plan}: the clerk sees that no answer came")
@@ -230,7 +231,7 @@ def kept_over_a_load(bridge, clerk):
     bridge.next_vehicle(9170)
     clerk.keys("KEPT-1")
     clerk.sees("Ready.")
-    clerk.browser.run("window.fetch = (target, how) => target === '/weighings' ? Promise.reject(new TypeError('cut')) : window.realFetch(target, how)")
+    clerk.browser.run("window.fetch = (target, how) => target.endsWith('/weighings') ? Promise.reject(new TypeError('cut')) : window.realFetch(target, how)")
     clerk.keys(ENTER)
     clerk.sees("No answer yet.")
     clerk.load()
@@ -296,14 +297,14 @@ def gone_after(clerk, stop, go_on):
     return took, words
 
 
-def weight_within_a_second(bridge, clerk):
+def weight_within_a_second(bridge, clerk, network):
     bridge.put(9170)
     becomes("a weight is shown", lambda: clerk.kg() == 18340)
     for what, stop, go_on in (
         ("the counter stands still", lambda: bridge.counter.send_signal(19), lambda: bridge.counter.send_signal(18)),
         ("the service stands still", lambda: bridge.service.send_signal(19), lambda: bridge.service.send_signal(18)),
         ("the counter is killed", bridge.kill_counter, bridge.start_counter),
-        ("the network is gone", lambda: clerk.browser.network(False), lambda: clerk.browser.network(True)),
+        ("the network is gone", network.is_there.clear, network.is_there.set),
     ):
         took, words = gone_after(clerk, stop, go_on)
         holds(f"{what}: the weight is gone within a second", took < 1.25, f"{took:.2f} s; {words}")
@@ -313,7 +314,7 @@ def weight_within_a_second(bridge, clerk):
     becomes("it comes back", lambda: clerk.kg() == 18340)
 
 
-def never_old(bridge, clerk, what, seconds=6):
+def never_old(bridge, clerk, what, seconds=6, may_show_none=False):
     """While loads change, each weight that is seen was on the bridge within the last second, and what it takes to look."""
     late, seen, delays, shown = [], 0, [], None
     until, at = time.monotonic() + seconds, 0
@@ -335,17 +336,21 @@ def never_old(bridge, clerk, what, seconds=6):
         if kg not in fresh:
             late.append(kg)
     delays.sort()
-    holds(f"{what}: no weight is more than a second old", not late and seen > 5, f"{seen} looks; {len(late)} old{'; a change is shown after %.0f ms median' % (1000 * delays[len(delays) // 2]) if delays else ''}")
+    holds(f"{what}: no weight is more than a second old", not late and (may_show_none or seen > 5), f"{seen} looks; {len(late)} old{'; a change is shown after %.0f ms median' % (1000 * delays[len(delays) // 2]) if delays else ''}")
     return delays
 
 
-def a_change_at_the_page(bridge, clerk):
+def a_change_at_the_page(bridge, clerk, network):
     """From the converter's line to the page, as the page itself sees it: of its own clock."""
     delays = never_old(bridge, clerk, "on a good network")
     holds("a change of load is at the page in at most 120 ms, median", delays and delays[len(delays) // 2] <= 0.12, f"{1000 * delays[len(delays) // 2]:.0f} ms with the look itself" if delays else "none")
-    clerk.browser.network(True, delay=300, kilobytes=8)
+    network.delay, network.speed = 0.3, 8000
+    time.sleep(2)
     never_old(bridge, clerk, "on a slow network of 300 ms and 8 kB a second")
-    clerk.browser.network(True)
+    network.delay, network.speed = 0.0, 400
+    never_old(bridge, clerk, "on one of 400 bytes a second", may_show_none=True)
+    network.speed = 1e9
+    time.sleep(3)
     bridge.put(9170)
     becomes("a weight is shown", lambda: clerk.kg() == 18340)
     group = os.getpgid(clerk.browser.driver.pid)
@@ -370,7 +375,7 @@ def looks(bridge):
     bridge.weigh("look-x", "first", "LOOK-ALIKE-2", port=bridge.office)
     for width, height, is_dark, lang in LOOKS:
         name = f"{width} px, {lang}, {'dark' if is_dark else 'light'}"
-        clerk = Clerk(at_of(bridge), None, width, height, is_dark, lang)
+        clerk = Clerk(at_of(bridge.http), None, width, height, is_dark, lang)
         try:
             found = []
 
@@ -493,7 +498,7 @@ def behind_nginx(bridge):
         clerk.keys(ENTER)
         clerk.sees("Slip", what="and a vehicle is weighed behind nginx")
         never_old(bridge, clerk, "behind nginx", 4)
-        clerk.browser.run("return fetch('/tares/NGINX-1', { method: 'PUT', body: JSON.stringify({ kg: 5000 }) }).then(it => it.status)")
+        clerk.browser.run("return fetch(location.origin + '/tares/NGINX-1', { method: 'PUT', body: JSON.stringify({ kg: 5000 }) }).then(it => it.status)")
         kept = open(f"{bridge.folder}/state/tares.json").read()
         holds("who kept a tare is known by the password", '"by": "clerk"' in kept, kept)
         bridge.put(9170)
@@ -518,7 +523,8 @@ def behind_nginx(bridge):
 def show(program):
     print("---- the clerk's page", flush=True)
     bridge = Bridge(program, 10).start_counter()
-    clerk = Clerk(at_of(bridge))
+    network = Network(bridge.http)
+    clerk = Clerk(at_of(network.port))
     try:
         a_pair_by_keyboard(bridge, clerk)
         a_tare_by_keyboard(bridge, clerk)
@@ -527,12 +533,11 @@ def show(program):
         no_request_twice(bridge, clerk)
         kept_over_a_load(bridge, clerk)
         killed_within_a_press(bridge, clerk)
-        weight_within_a_second(bridge, clerk)
-        a_change_at_the_page(bridge, clerk)
+        weight_within_a_second(bridge, clerk, network)
+        a_change_at_the_page(bridge, clerk, network)
     finally:
         clerk.close()
     try:
-        Meanwhile(lambda: None)
         looks(bridge)
         behind_nginx(bridge)
     finally:

@@ -30,7 +30,7 @@ export class Feed {
   // A page that isn't seen has no stream: so a browser may have many tabs of it.
   open() {
     this.close();
-    const source = this.source = new EventSource('/events');
+    const source = this.source = new EventSource(`${location.origin}/events`);
     for (const name of ['hello', 'state', 'weight', 'lists', 'tares', 'entry', 'alive']) {
       source.addEventListener(name, event => this.take(name, JSON.parse(event.data)));
     }
@@ -64,7 +64,7 @@ export class Feed {
     this.comparedAt = now();
     for (let it = 0; it < ROUND_TRIPS; it++) {
       const from = now();
-      const answer = await fetch('/time', { cache: 'no-store' }).then(got => got.json()).catch(() => null);
+      const answer = await fetch(`${location.origin}/time`, { cache: 'no-store' }).then(got => got.json()).catch(() => null);
       const took = now() - from;
       if (answer && took < this.trip) {
         this.trip = took;

@@ -379,12 +379,13 @@ function keyed(event) {
 }
 
 async function change(to, isChosen = false) {
-  if (!await speak(to, isChosen)) return;
+  if (!await speak(to, isChosen)) return false;
   part('language').value = to;
   for (const it of document.querySelectorAll('[data-word]')) it.textContent = t(it.dataset.word);
   for (const it of document.querySelectorAll('[data-label]')) { it.title = t(it.dataset.label); it.setAttribute('aria-label', t(it.dataset.label)); }
   showLists();
   show();
+  return true;
 }
 
 function turnTheme() {
@@ -423,7 +424,7 @@ async function main() {
   try { if (localStorage.getItem(THEME)) document.documentElement.dataset.theme = localStorage.getItem(THEME); } catch { /* the system's */ }
   part('language').replaceChildren(...Object.entries(LANGUAGES).map(([value, textContent]) => make('option', { value, textContent })));
   listenToHands();
-  await change(wantedLanguage('en'));
+  while (!await change(wantedLanguage('en'))) await new Promise(done => setTimeout(done, 1000));
   feed.begin();
   setInterval(showMoments, 250);
   const kept = keptRequest();

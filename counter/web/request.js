@@ -7,9 +7,10 @@ const AGAIN_FOR = 30000;             // after that another vehicle may stand on 
 
 const pause = time => new Promise(done => setTimeout(done, time));
 
+// The address is made whole, since a page whose own address has a password in it may ask for no relative one.
 export async function ask(method, target, body, within = ANSWER_WITHIN) {
   try {
-    const answer = await fetch(target, { method, body, cache: 'no-store', redirect: 'error', signal: AbortSignal.timeout(within) });
+    const answer = await fetch(location.origin + target, { method, body, cache: 'no-store', redirect: 'error', signal: AbortSignal.timeout(within) });
     return { status: answer.status, text: await answer.text(), isSent: answer.headers.get('X-Counter') !== 'not_sent' };
   } catch {
     return null;

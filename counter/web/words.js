@@ -33,7 +33,7 @@ function remembered() {
 }
 
 export async function speak(name, isChosen = false) {
-  const answer = await fetch(`/web/lang/${name}.json`).catch(() => null);
+  const answer = await fetch(`${location.origin}/web/lang/${name}.json`).catch(() => null);
   if (!answer?.ok) return false;
   words = await answer.json();
   language = name;
