@@ -1,6 +1,7 @@
 """The clerk's page in a real browser, for checks/counter: by keyboard alone, in two sizes, languages and lights, with what is cut, held, slow or killed."""
 
 import os
+import random
 import re
 import signal
 import subprocess
@@ -340,6 +341,27 @@ def never_old(bridge, clerk, what, seconds=6, may_show_none=False):
     return delays
 
 
+def press_to_ticket(bridge, clerk, count=9):
+    """Milliseconds from the Enter key to the answer on the page, by the page's own clock."""
+    watch = """window.took = 0; window.pressed = 0;
+        document.addEventListener('keydown', event => { if (event.key === 'Enter') window.pressed ||= performance.now(); }, { capture: true });
+        new MutationObserver(() => { if (window.pressed && !window.took && document.getElementById('guide').dataset.look === 'ok') window.took = performance.now() - window.pressed; })
+          .observe(document.getElementById('guide'), { attributes: true });"""
+    times = []
+    for number in range(count):
+        bridge.next_vehicle(9170)
+        clerk.keys("PRESS-" + "ABCDEFGHJ"[number] * 4)
+        clerk.sees("Ready.", what=None if number == 0 else f"ready, the {number + 1}th time")
+        clerk.browser.run(watch)
+        time.sleep(random.random() / bridge.pace)
+        clerk.keys(ENTER)
+        becomes("and weighed", lambda: clerk.browser.run("return window.took"))
+        times.append(clerk.browser.run("return window.took"))
+        clerk.keys(ESCAPE)
+    times.sort()
+    holds(f"from the press to the answer on the page, at {bridge.pace} readings a second", times[count // 2] <= 200, f"median {times[count // 2]:.0f} ms, worst {times[-1]:.0f} ms of {count}")
+
+
 def a_change_at_the_page(bridge, clerk, network):
     """From the converter's line to the page, as the page itself sees it: of its own clock."""
     delays = never_old(bridge, clerk, "on a good network")
@@ -533,6 +555,7 @@ def show(program):
         no_request_twice(bridge, clerk)
         kept_over_a_load(bridge, clerk)
         killed_within_a_press(bridge, clerk)
+        press_to_ticket(bridge, clerk)
         weight_within_a_second(bridge, clerk, network)
         a_change_at_the_page(bridge, clerk, network)
     finally:

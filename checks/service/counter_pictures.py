@@ -11,6 +11,7 @@ SETTINGS = 'address = ["Hafenstraße 12", "28217 Bremen"]\n'
 def write(program, folder):
     bridge = Bridge(program, 10, settings=SETTINGS).start_counter()
     clerk = Clerk(at_of(bridge.http), None, 1000, 640)
+    clerk.browser.tool("Emulation.setDeviceMetricsOverride", width=1000, height=640, deviceScaleFactor=0.7, mobile=False)
 
     def weigh(plate, load):
         bridge.next_vehicle(load)

@@ -45,6 +45,12 @@ export function netOf(choice, gross) {
   return choice.tare ? gross - choice.tare : null;
 }
 
+// Who it is that is weighed, also if the page was loaded since.
+function driveOff(newest) {
+  if (!newest) return { word: 'drive_off_any' };
+  return { word: 'drive_off', values: { plate: newest.plate, paper: newest.paper, number: newest.number } };
+}
+
 export function step(now) {
   const { link, weight, state, plate, result, told } = now;
   if (now.waiting) return now.waiting;
@@ -56,7 +62,7 @@ export function step(now) {
   if (result && !plate) return result;
   if (weight.tare && !state.busy) return { look: 'wait', word: 'foreign_tare', values: { tare: weight.tare }, choices: ['clear_tare'] };
   if (isLight) return { look: 'calm', word: 'empty' };
-  if (state.bridge === 'weighed') return { look: 'wait', word: 'drive_off' };
+  if (state.bridge === 'weighed') return { look: 'wait', ...driveOff(now.newest) };
   if (state.bridge === 'restarted') return { look: 'wait', word: 'drive_off_restarted' };
   if (weight.state === 'D') return { look: 'wait', word: 'moving' };
   if (!plate) return { look: 'do', word: 'type_plate' };

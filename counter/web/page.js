@@ -9,7 +9,7 @@ import { LANGUAGES, clockOf, dayOf, has, isToday, kg, language, number, speak, t
 
 const MIN_INTERVALS = 20;
 const RESULT_AFTER_LEAVING = 2500;   // milliseconds that a result stays once the vehicle has left
-const TOLD_FOR = 6000;
+const TOLD_FOR = { ok: 2500, wait: 6000, bad: 6000 };
 const MOST_ROWS = 200;
 const THEME = 'weighbridge.theme';
 const SIGNS = { ok: '✔', wait: '◔', bad: '⚠', calm: '▷', do: '➜' };
@@ -64,8 +64,13 @@ function nowKnown() {
   return {
     link, weight: link === 'up' ? feed.weight : null, state: known.state, plate: plate(), onSite: known.onSite, tares: known.tares,
     min: MIN_INTERVALS * known.hello.interval, oneTare: clerk.oneTare, isFirstInstead: clerk.isFirstInstead,
-    waiting: clerk.waiting, result: clerk.result, told: clerk.told,
+    waiting: clerk.waiting, result: clerk.result, told: clerk.told, newest: newestWeighing(),
   };
+}
+
+function newestWeighing() {
+  const newest = known.today.find(it => it.kind !== 'void');
+  return newest && { plate: newest.plate, number: newest.number, paper: paperOf(newest) };
 }
 
 // ---- showing
@@ -135,7 +140,7 @@ const showForm = onlyChanged(form => {
 function hintsOf({ plate, choice, kept, like }) {
   if (choice.first) return [make('b', { textContent: t('on_site_since', { time: whenOf(choice.first.at), kg: kg(choice.first.gross) }) })];
   if (like.length) return [make('b', { textContent: t('one_of_these') }), ...like.map(it => button(it, () => take(it), { className: 'like' }))];
-  if (kept) return [make('b', { textContent: t(kept.is_over ? 'tare_is_over' : 'tare_is_kept', { kg: kg(kept.kg), day: dayOf(kept.until), by: kept.by }) })];
+  if (kept) return [make('b', { textContent: t(kept.is_over ? 'tare_is_over' : kept.by ? 'tare_is_kept_by' : 'tare_is_kept', { kg: kg(kept.kg), day: dayOf(kept.until), by: kept.by }) })];
   return plate ? [make('span', { textContent: t('not_on_site') })] : [];
 }
 
@@ -213,7 +218,7 @@ function wait(look, word, values, choices) {
 function tell(look, word, more) {
   const told = clerk.told = { look, word, more };
   show();
-  setTimeout(() => { if (clerk.told === told) { clerk.told = null; show(); } }, TOLD_FOR);
+  setTimeout(() => { if (clerk.told === told) { clerk.told = null; show(); } }, TOLD_FOR[look]);
 }
 
 function begin(target, form) {
