@@ -16,7 +16,7 @@ class Browser:
     """One window. Parts of a page are named by CSS selectors."""
 
     def __init__(self, port, folder, width, height):
-        self.at = f"http://127.0.0.1:{port}"
+        self.at, self.folder = f"http://127.0.0.1:{port}", folder
         self.driver = subprocess.Popen(
             ["chromedriver", f"--port={port}", f"--log-path={os.path.join(folder, 'chromedriver.log')}"],
             stdin=subprocess.DEVNULL, stdout=subprocess.DEVNULL, stderr=subprocess.DEVNULL, start_new_session=True,
@@ -73,9 +73,23 @@ class Browser:
         self.call("POST", "/alert/accept", {})
         return text
 
+    def tool(self, command, **parameters):
+        """A command of the browser's tools for developers."""
+        return self.call("POST", "/goog/cdp/execute", {"cmd": command, "params": parameters})
+
     def shown_as(self, medium):
         """Shows the page as on this medium, `print` or `screen`."""
-        self.call("POST", "/goog/cdp/execute", {"cmd": "Emulation.setEmulatedMedia", "params": {"media": medium}})
+        self.tool("Emulation.setEmulatedMedia", media=medium)
+
+    def look(self, width, height, is_dark=False):
+        """Shows the page in this size, light or dark."""
+        self.tool("Emulation.setDeviceMetricsOverride", width=width, height=height, deviceScaleFactor=1, mobile=False)
+        self.tool("Emulation.setEmulatedMedia", features=[{"name": "prefers-color-scheme", "value": "dark" if is_dark else "light"}])
+
+    def keys(self, text):
+        """Types where the focus is. Keys with a name are of WebDriver's private letters."""
+        actions = [action for it in text for action in ({"type": "keyDown", "value": it}, {"type": "keyUp", "value": it})]
+        self.call("POST", "/actions", {"actions": [{"type": "key", "id": "keyboard", "actions": actions}]})
 
     def picture(self):
         return base64.b64decode(self.call("GET", "/screenshot"))

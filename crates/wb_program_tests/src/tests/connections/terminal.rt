@@ -77,21 +77,24 @@ static SLOW_DISPLAY: [Step; 14] = [
     Reply(1, b"S D         40 kg\r\n"),
     Reply(2, b"S D         60 kg\r\n"),
     Step::Client(0, Got(b"S D         20 kg\r\nS D        ", false)),
-    Step::Client(0, Takes(30)),
+    Step::Client(0, Takes(10)),
     Turn(3, 0),
-    Reply(4, b"S D         80 kg\r\n"),
+    Step::Client(
+        0,
+        Got(b"S D         20 kg\r\nS D         40 kg\r\nS ", false),
+    ),
+    // six seconds after its socket was full, and four after it last took something
+    Turn(7, 0),
     Step::Client(0, IsOpen),
+    Step::Client(0, Takes(100)),
+    Turn(7, 0),
     Step::Client(
         0,
         Got(
-            b"S D         20 kg\r\nS D         40 kg\r\nS D         60 kg\r\nS D",
+            b"S D         20 kg\r\nS D         40 kg\r\nS D         60 kg\r\n",
             false,
         ),
     ),
-    // five seconds after it last took something, not after the first value that it didn't take
-    Turn(8, 0),
-    HangsUp(9),
-    Step::Client(0, IsClosed),
 ];
 
 /// One that reads none of it, though it goes on coming.

@@ -1,0 +1,251 @@
+"""Lists, texts again, keys, who may ask, the description of the routes and the languages, for checks/counter."""
+
+import json
+import os
+import re
+import sqlite3
+import time
+
+from countering import TOP, Bridge, becomes, holds, same
+
+OPENAPI_SCHEMA = "/usr/share/openapi-specification/schemas/v3.0/schema.json"
+
+
+def one_text(bridge):
+    """A 201 passes byte for byte, and one key has one entry over all resendings."""
+    bridge.next_vehicle(9170)
+    status, text = bridge.weigh("text-1", "first", "HERE")
+    same("a First passes", 201, status)
+    same("sent again it is the office's text, byte for byte", (201, text), bridge.weigh("text-1", "first", "HERE", port=bridge.office))
+    same("and once more through the counter", (201, text), bridge.weigh("text-1", "first", "HERE"))
+    same("and it is stored once", 1, sum(it[1] == "text-1" for it in bridge.entries()))
+    body = "kind=first&more=%41+b&plate=%48ERE&key=text-1"
+    same("a form passes as it was written", (201, text), bridge.ask("POST", "/weighings", body=body)[:2])
+    for target, form in (("/weighings", {"key": "x", "kind": "fourth", "plate": "A"}), ("/weighings", {"key": "x", "kind": "first", "plate": "a b"}), ("/voids", {"key": "x", "plate": "NONE"})):
+        same(f"a refusal passes: {form}", bridge.ask("POST", target, form, port=bridge.office)[:2], bridge.ask("POST", target, form)[:2])
+    for target in ("/indication", "/tickets/1", "/tickets/x", "/tickets/4294967296"):
+        same(f"{target} passes", bridge.ask("GET", target, port=bridge.office)[:2], bridge.ask("GET", target)[:2])
+    same("whether a key is in the journal", [True, False], [bridge.json("GET", f"/keys/{it}")["found"] for it in ("text-1", "text-2")])
+
+
+def on_lists(bridge, plate):
+    return [it for it in bridge.json("GET", f"/search?q={plate}")["hits"] if it["plate"] == plate]
+
+
+def what_did_not_pass(bridge):
+    """An entry that another one made at the office itself is missed, found, and its slip made again."""
+    bridge.next_vehicle(9170)
+    slip = bridge.weigh("past-1", "first", "PAST", port=bridge.office)[1]
+    bridge.next_vehicle(9170)
+    bridge.weigh("past-2", "first", "NEXT")
+    same("an entry between is missed", False, bridge.health()["state"]["lists_whole"])
+    bridge.put(0)
+    becomes("once the bridge was empty for some seconds it is on the lists", lambda: on_lists(bridge, "PAST"))
+    number = on_lists(bridge, "PAST")[0]["number"]
+    same("its slip again is made of the export, letter for letter", {"text": slip, "from": "export"}, bridge.json("GET", f"/entries/{number}"))
+    again = bridge.json("GET", f"/entries/{number + 1}")
+    same("that of the next is the one that passed", ("passed", bridge.weigh("past-2", "first", "NEXT")[1]), (again["from"], again["text"]))
+    bridge.next_vehicle(4070)
+    bridge.weigh("past-3", "second", "PAST", port=bridge.office)
+    same("its Second, made at the office, isn't known yet", 1, len(on_lists(bridge, "PAST")))
+    same("weighed out again it is refused by the office", (409, "refused 13 no_open\n"), weighed_out_again(bridge))
+    bridge.put(0)
+    becomes("and the lists are read anew", lambda: len(on_lists(bridge, "PAST")) == 2)
+    ticket = on_lists(bridge, "PAST")[0]
+    same("a ticket again is the office's", {"text": bridge.ask("GET", f"/tickets/{ticket['number']}", port=bridge.office)[1], "from": "office"}, bridge.json("GET", f"/entries/{ticket['number']}"))
+    same("its net", 10200, ticket["net"])
+    same("there is none of a number that nobody has", 404, bridge.ask("GET", "/entries/4000000000")[0])
+
+
+def weighed_out_again(bridge):
+    bridge.next_vehicle(4070)
+    return bridge.weigh("past-4", "second", "PAST")
+
+
+def a_changed_row(bridge):
+    """A slip of a row that another hand changed isn't shown."""
+    bridge.next_vehicle(9170)
+    bridge.weigh("change-1", "first", "CHANGED")
+    bridge.put(0)
+    bridge.kill_counter()
+    bridge.kill_service()
+    with sqlite3.connect(f"{bridge.folder}/journal.db") as journal:
+        journal.execute("UPDATE journal SET gross_kg = gross_kg + 20 WHERE plate = 'CHANGED'")
+    journal.close()
+    bridge.start_service()
+    bridge.start_counter()
+    becomes("the lists are there after a start", lambda: on_lists(bridge, "CHANGED"))
+    number = on_lists(bridge, "CHANGED")[0]["number"]
+    same("a changed row gives no slip", (409, '{"why": "refused 17 damaged"}'), bridge.ask("GET", f"/entries/{number}")[:2])
+
+
+def who_may_ask(bridge):
+    for fields, status in (
+        ({}, 200),
+        ({"Sec_Fetch_Site": "same-origin"}, 200),
+        ({"Sec_Fetch_Site": "cross-site"}, 403),
+        ({"Sec_Fetch_Site": "same-site"}, 403),
+        ({"Origin": "https://elsewhere.example"}, 403),
+        ({"Origin": f"http://127.0.0.1:{bridge.http}"}, 200),
+        ({"Host": "elsewhere.example"}, 421),
+        ({"Host": f"localhost:{bridge.http}"}, 200),
+        ({"Host": ""}, 421),
+    ):
+        same(f"asked with {fields}", status, bridge.ask("GET", "/time", **fields)[0])
+    same("a weighing from elsewhere", 403, bridge.ask("POST", "/weighings", {"key": "x"}, Sec_Fetch_Site="cross-site")[0])
+    same("what is no route, a wrong method, too long a body", [404, 405, 413], [bridge.ask("GET", "/none")[0], bridge.ask("GET", "/zero")[0], bridge.ask("POST", "/weighings", body="x" * 3000)[0]])
+    same("no file of the folder above", [404, 404], [bridge.ask("GET", "/web/../openapi.json")[0], bridge.ask("GET", "/web/lang/../../openapi.json")[0]])
+    policy = bridge.ask("GET", "/")[2]["content-security-policy"]
+    holds("the page's content policy allows nothing from elsewhere and nothing within the page", "default-src 'none'" in policy and "unsafe" not in policy and "http" not in policy, policy)
+
+
+def kept_tares(bridge):
+    same("a tare is kept", (200, "{}"), bridge.ask("PUT", "/tares/AB-12", body='{"kg": 5000}', X_Remote_User="anna")[:2])
+    for target, body in (("/tares/ab", '{"kg": 5000}'), ("/tares/AB-12", '{"kg": 0}'), ("/tares/AB-12", '{"kg": "5"}'), ("/tares/AB-12", "5"), ("/tares/AB-12", "")):
+        same(f"what is none is refused: {target} {body}", 422, bridge.ask("PUT", target, body=body)[0])
+    bridge.kill_counter()
+    bridge.start_counter()
+    kept = next(it for name, it in events_of(bridge, 1.0) if name == "lists")["tares"]
+    same("it is there after a start, with who kept it", (5000, "anna", False), (kept["AB-12"]["kg"], kept["AB-12"]["by"], kept["AB-12"]["is_over"]))
+    same("and gone once it is dropped", (200, "{}"), bridge.ask("DELETE", "/tares/AB-12")[:2])
+
+
+def events_of(bridge, seconds):
+    """The events of a stream in so many seconds."""
+    import socket
+
+    found = b""
+    with socket.create_connection(("127.0.0.1", bridge.http), 5) as stream:
+        stream.sendall(f"GET /events HTTP/1.1\r\nHost: 127.0.0.1:{bridge.http}\r\n\r\n".encode())
+        until = time.monotonic() + seconds
+        stream.settimeout(0.2)
+        while time.monotonic() < until:
+            try:
+                found += stream.recv(65536)
+            except TimeoutError:
+                pass
+    return [(name, json.loads(text)) for name, text in re.findall(r"event: (\w+)\ndata: (.*)\n\n", found.decode())]
+
+
+def resolved(schema, document):
+    """A schema of OpenAPI as jsonschema understands it: nullable is a type of its own there."""
+    if isinstance(schema, list):
+        return [resolved(it, document) for it in schema]
+    if not isinstance(schema, dict):
+        return schema
+    if "$ref" in schema:
+        return resolved(document["components"]["schemas"][schema["$ref"].rsplit("/", 1)[1]], document)
+    made = {name: resolved(it, document) for name, it in schema.items() if name != "nullable"}
+    return {"anyOf": [made, {"type": "null"}]} if schema.get("nullable") else made
+
+
+def the_description(bridge):
+    """counter/openapi.json is valid, has every route of both, and each answer is as it says."""
+    try:
+        import jsonschema
+    except ImportError:
+        print("the description of the routes: left out, since python3-jsonschema is not installed")
+        return
+    with open(os.path.join(TOP, "counter", "openapi.json")) as file:
+        document = json.load(file)
+    if os.path.exists(OPENAPI_SCHEMA):
+        with open(OPENAPI_SCHEMA) as file:
+            same("openapi.json is valid", [], [it.message for it in jsonschema.Draft4Validator(json.load(file)).iter_errors(document)][:3])
+    else:
+        print(f"whether openapi.json is valid: left out, since {OPENAPI_SCHEMA} is not there (openapi-specification)")
+    wrong = []
+
+    def answered(target, method, port, path=None, **how):
+        status, text, fields = bridge.ask(method, path or target, port=port, **how)
+        response = document["paths"][target][method.lower()]["responses"].get(str(status))
+        if response is None:
+            wrong.append((target, method, status))
+            return
+        kind = fields.get("content-type", "").partition(";")[0]
+        schema = response.get("content", {}).get(kind, {}).get("schema")
+        if response.get("content") and schema is None:
+            wrong.append((target, status, kind))
+        elif schema is not None:
+            what = json.loads(text) if kind == "application/json" else text
+            wrong.extend((target, status, it.message[:200]) for it in jsonschema.Draft202012Validator(resolved(schema, document)).iter_errors(what))
+
+    bridge.next_vehicle(9170)
+    form = {"key": "describe-1", "kind": "first", "plate": "ROUTES"}
+    for port in (bridge.office, bridge.http):
+        for given in (form, form | {"key": "describe-2"}, form | {"plate": "no plate"}, form | {"kind": "second"}):
+            answered("/weighings", "POST", port, form=given)
+        answered("/voids", "POST", port, form={"key": "describe-3", "plate": "ROUTES"})
+        answered("/voids", "POST", port, form={"key": "describe-4", "plate": "NOBODY"})
+        answered("/indication", "GET", port)
+        for number in ("1", "999999"):
+            answered("/tickets/{number}", "GET", port, f"/tickets/{number}")
+    for target in ("/journal.csv", "/tickets.csv", "/check"):
+        answered(target, "GET", bridge.office)
+    answered("/purge", "POST", bridge.office, body="")
+    for target in ("/", "/openapi.json", "/time", "/health", "/metrics"):
+        answered(target, "GET", bridge.http)
+    answered("/zero", "POST", bridge.http)
+    answered("/tare/clear", "POST", bridge.http)
+    answered("/lists/refresh", "POST", bridge.http)
+    answered("/search", "GET", bridge.http, "/search?q=A")
+    answered("/keys/{key}", "GET", bridge.http, "/keys/describe-1")
+    answered("/web/{name}", "GET", bridge.http, "/web/page.js")
+    answered("/web/{name}", "GET", bridge.http, "/web/none.js")
+    for number in ("1", "999999"):
+        answered("/entries/{number}", "GET", bridge.http, f"/entries/{number}")
+    answered("/tares/{plate}", "PUT", bridge.http, "/tares/AB-12", body='{"kg": 5000}')
+    answered("/tares/{plate}", "PUT", bridge.http, "/tares/AB-12", body="{}")
+    answered("/tares/{plate}", "DELETE", bridge.http, "/tares/AB-12")
+    bridge.put(0)
+    for name, what in events_of(bridge, 1.0):
+        schema = document["components"]["schemas"][name]
+        wrong.extend((name, it.message[:200]) for it in jsonschema.Draft202012Validator(resolved(schema, document)).iter_errors(what))
+    same("each answer of both, and each event, is as openapi.json says", [], wrong[:5])
+    same("each route of the counter's program is there, and no other", routes_of_the_program(), {it for it, what in document["paths"].items() if what.get("servers", [{}])[0].get("description") != "the office"} - {"/web/{name}"})
+
+
+def routes_of_the_program():
+    with open(os.path.join(TOP, "counter", "weighbridge_counter", "routes.py")) as file:
+        found = re.findall(r'web\.(?:get|post|put|delete)\(r?"([^"]*)"', file.read())
+    names = {"/entries/": "/entries/{number}"}
+    plain = {re.sub(r"\{(\w+):.*\}", r"{\1}", names.get(it, it)) for it in found}
+    return {it for it in plain if not it.startswith("/web/")}
+
+
+def the_languages():
+    """Every word of a language is in each, with the same values, and the page asks for no other."""
+    folder = os.path.join(TOP, "counter", "web")
+    words = {}
+    for name in sorted(os.listdir(f"{folder}/lang")):
+        with open(f"{folder}/lang/{name}", encoding="utf-8") as file:
+            words[name] = json.load(file)
+    first = words["en.json"]
+    for name, them in words.items():
+        same(f"{name} has the words of en.json", (set(), set()), (set(first) - set(them), set(them) - set(first)))
+        values = [key for key in first if set(re.findall(r"\{\w+\}", first[key])) != set(re.findall(r"\{\w+\}", them.get(key, "")))]
+        same(f"{name} has their values, and no empty one", ([], []), (values, [key for key in them if not them[key].strip()]))
+    text = "".join(open(f"{folder}/{name}", encoding="utf-8").read() for name in sorted(os.listdir(folder)) if name.endswith((".js", ".html")))
+    asked = set(re.findall(r"\bt\('(\w+)'", text)) | set(re.findall(r'data-(?:word|label)="(\w+)"', text)) | set(re.findall(r"word: '(\w+)'", text))
+    same("the page asks for no other word", set(), asked - set(first))
+    with open(os.path.join(TOP, "clients", "refusals.txt")) as file:
+        refusals = {int(it.split()[0]) for it in file if it[0].isdigit() and int(it.split()[0]) < 400}
+    same("there are words for each refusal", set(), {f"refused_{it}" for it in refusals} - set(first))
+    with open(os.path.join(TOP, "counter", "weighbridge_counter", "acts.py")) as file:
+        names = set(re.findall(r'not_sent\(\d+, f?"(\w+)', file.read()))
+    same("and for each of the counter's own", set(), {f"counter_{it}" for it in names} - set(first))
+    same("nothing of the page is fetched from elsewhere", [], re.findall(r"https?://(?!www\.w3\.org)\S+", text + open(f"{folder}/style.css").read()))
+
+
+def show(program):
+    print("---- lists, texts and routes", flush=True)
+    the_languages()
+    bridge = Bridge(program, 20).start_counter()
+    try:
+        one_text(bridge)
+        what_did_not_pass(bridge)
+        kept_tares(bridge)
+        who_may_ask(bridge)
+        the_description(bridge)
+        a_changed_row(bridge)
+    finally:
+        bridge.close()

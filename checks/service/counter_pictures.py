@@ -1,0 +1,54 @@
+"""The pictures of docs/counter.md, for checks/counter --pictures: taken in a browser over a real service."""
+
+import time
+
+from counter_page import ENTER, F9, Clerk, at_of
+from countering import Bridge
+
+SETTINGS = 'address = ["Hafenstraße 12", "28217 Bremen"]\n'
+
+
+def write(program, folder):
+    bridge = Bridge(program, 10, settings=SETTINGS).start_counter()
+    clerk = Clerk(at_of(bridge.http), None, 1000, 640)
+    clerk.browser.tool("Emulation.setDeviceMetricsOverride", width=1000, height=640, deviceScaleFactor=0.7, mobile=False)
+
+    def weigh(plate, load):
+        bridge.next_vehicle(load)
+        clerk.sees("Type the plate.")
+        clerk.keys(plate)
+        clerk.sees("Ready.")
+        clerk.keys(ENTER)
+        clerk.sees(plate.rpartition("-")[2] and "kg")
+        time.sleep(0.3)
+
+    def picture(name):
+        time.sleep(0.4)
+        with open(f"{folder}/counter_{name}.png", "wb") as file:
+            file.write(clerk.browser.picture())
+
+    try:
+        bridge.put(0)
+        clerk.sees("The bridge is empty")
+        clerk.keys(F9)
+        clerk.sees("Zero is set.")
+        for plate, load in (("BRA-LM-2210", 12040), ("VER-X-901", 17330), ("HB-KW-77", 9170), ("BRA-LM-2210", 5010)):
+            weigh(plate, load)
+        bridge.next_vehicle(4070)
+        clerk.sees("Type the plate.")
+        clerk.keys("HB-KW-77")
+        clerk.sees("Ready.")
+        picture("ready")
+        clerk.browser.click("#clear")
+        clerk.keys("HB-KW-71")
+        clerk.sees("HB-KW-77 is on site")
+        picture("alike")
+        clerk.browser.click("#clear")
+        bridge.kill_service()
+        bridge.start_service()
+        bridge.wait_until_up()
+        clerk.sees("drive off, and on again")
+        picture("restarted")
+    finally:
+        clerk.close()
+        bridge.close()

@@ -1,0 +1,291 @@
+"""What the parts of checks/counter share: a bridge with a service and a counter that can be killed, held and started again on the same ports, and clients."""
+
+import json
+import os
+import signal
+import socket
+import subprocess
+import sys
+import tempfile
+import threading
+import time
+import urllib.parse
+from collections import deque
+
+import bridge
+from bridge import HOST, free_port
+
+TOP = os.path.dirname(os.path.dirname(os.path.dirname(os.path.abspath(__file__))))
+COUNTER = os.path.join(TOP, "counter", "weighbridge-counter")
+INTERVAL = 20  # kg; a load is in tenths of it
+failures = []
+
+
+def holds(what, is_so, more=""):
+    """A line for each thing that is shown."""
+    if not is_so:
+        failures.append(what)
+    print(f"{what}: {'ok' if is_so else 'FAILED'}{f' ({more})' if more else ''}", flush=True)
+
+
+def same(what, wanted, found):
+    holds(what, wanted == found, "" if wanted == found else f"wanted {wanted!r}, found {found!r}")
+
+
+def becomes(what, look, seconds=15):
+    """Looks again and again until it holds."""
+    until = time.monotonic() + seconds
+    while not (found := look()) and time.monotonic() < until:
+        time.sleep(0.02)
+    holds(what, bool(found), "" if found else f"not within {seconds} s")
+    return found
+
+
+def kg_of(load):
+    return (load + 5) // 10 * INTERVAL
+
+
+class Converter(threading.Thread):
+    """Sends the load that is on the bridge, to whoever connects. It remembers what it sent, and when."""
+
+    def __init__(self, pace):
+        super().__init__(daemon=True)
+        self.pace, self.load, self.is_silent, self.is_over = pace, 0, False, False
+        self.listener = socket.create_server((HOST, 0))
+        self.port = self.listener.getsockname()[1]
+        self.sent = deque(maxlen=200_000)
+        self.start()
+
+    def run(self):
+        while not self.is_over:
+            try:
+                stream, _ = self.listener.accept()
+                stream.setsockopt(socket.IPPROTO_TCP, socket.TCP_NODELAY, 1)
+                self.feed(stream)
+            except OSError:
+                pass
+
+    def feed(self, stream):
+        due = time.monotonic()
+        while not self.is_over:
+            if not self.is_silent:
+                self.sent.append((time.monotonic(), self.load))
+                stream.sendall(b"%d\n" % self.load)
+            due = max(due + 1 / self.pace, time.monotonic() - 1)
+            time.sleep(max(0, due - time.monotonic()))
+
+
+class Bridge:
+    """A service and a counter over a converter. `patch` is called with the folder of a copy of the counter, whose program is run then."""
+
+    def __init__(self, program, pace=10, ports=("till", "other", "display"), settings="", options=(), patch=None):
+        self.program, self.pace, self.options = program, pace, options
+        self.folder = tempfile.mkdtemp(prefix="counter-")
+        self.converter = Converter(pace)
+        self.terminal, self.office, self.http = free_port(), free_port(), free_port()
+        self.ports = {name: free_port() for name in ports}
+        self.service = self.counter = None
+        self.executable = patch(self.folder) if patch else COUNTER
+        self.setup = os.path.join(self.folder, "counter.toml")
+        with open(self.setup, "w") as file:
+            file.write(f'state = "{self.folder}/state"\nlisten = "{HOST}:{self.http}"\nterminal = "{HOST}:{self.terminal}"\noffice = "{HOST}:{self.office}"\n')
+            file.write('zone = "Europe/Berlin"\ncompany = "Kieswerk Wellum"\n' + settings)
+            for name, port in self.ports.items():
+                file.write(f'[[port]]\nname = "{name}"\nlisten = "{HOST}:{port}"\nmay = "{"read" if name == "display" else "change"}"\n')
+        self.start_service()
+
+    # ---- the service
+
+    def start_service(self):
+        words = [self.program, "serve", "--file", f"{self.folder}/journal.db", "--terminal", f"{HOST}:{self.terminal}", "--office", f"{HOST}:{self.office}"]
+        words += ["--converter", f"tcp:{HOST}:{self.converter.port}", "--pace", str(self.pace), "--turns", "1000000000", "--capacity", "100000", *self.options]
+        with open(f"{self.folder}/service.log", "ab") as log:
+            self.service = subprocess.Popen(words, stdin=subprocess.DEVNULL, stdout=log, stderr=log)
+        self._wait_for(self.office, self.service)
+
+    def _wait_for(self, port, process):
+        until = time.monotonic() + 20
+        while time.monotonic() < until:
+            try:
+                socket.create_connection((HOST, port), 1).close()
+                return
+            except OSError:
+                if process.poll() is not None:
+                    raise SystemExit(f"counter: {process.args[0]} ended: see {self.folder}") from None
+                time.sleep(0.01)
+        raise SystemExit(f"counter: nobody listens on {port}")
+
+    def kill_service(self):
+        self.service.kill()
+        self.service.wait()
+
+    # ---- the counter
+
+    def start_counter(self, is_waited_for=True):
+        with open(f"{self.folder}/counter.log", "ab") as log:
+            self.counter = subprocess.Popen([self.executable, self.setup], stdin=subprocess.DEVNULL, stdout=log, stderr=log)
+        self._wait_for(self.http, self.counter)
+        if is_waited_for:
+            self.wait_until_up()
+        return self
+
+    def wait_until_up(self):
+        until = time.monotonic() + 15
+        while time.monotonic() < until:
+            state = self.health()["state"]
+            if state["link"] == "up" and state["tare"] is not None and not state["tare_left"]:
+                return
+            time.sleep(0.02)
+        raise SystemExit(f"counter: it doesn't come up: {self.health()}")
+
+    def kill_counter(self):
+        self.counter.kill()
+        self.counter.wait()
+
+    def hold(self, process, seconds):
+        process.send_signal(signal.SIGSTOP)
+        time.sleep(seconds)
+        process.send_signal(signal.SIGCONT)
+
+    def close(self):
+        for it in (self.counter, self.service):
+            if it is not None and it.poll() is None:
+                it.send_signal(signal.SIGCONT)
+                it.kill()
+                it.wait()
+        self.converter.is_over = True
+
+    # ---- asking
+
+    def ask(self, method, target, form=None, port=None, within=20, body=None, **fields):
+        """The status, the body and the fields of an answer; a status of 0 where there was none."""
+        if body is None and form is not None:
+            body = urllib.parse.urlencode(form)
+        length = f"Content-Length: {len(body.encode())}\r\n" if body is not None else "Content-Length: 0\r\n" if method == "POST" else ""
+        head = "".join(f"{name.replace('_', '-')}: {value}\r\n" for name, value in {"Host": f"{HOST}:{self.http}", **fields}.items())
+        try:
+            data = bridge.exchange_bytes(port or self.http, f"{method} {target} HTTP/1.1\r\n{head}Connection: close\r\n{length}\r\n{body or ''}".encode(), within)
+        except OSError:
+            return 0, "", {}
+        top, parted, text = data.decode("utf-8", "replace").partition("\r\n\r\n")
+        if not parted:
+            return 0, "", {}
+        lines = top.split("\r\n")
+        found = {name.lower(): value for name, _, value in (it.partition(": ") for it in lines[1:])}
+        if "content-length" in found and len(text.encode()) < int(found["content-length"]):
+            return 0, "", {}
+        return int(lines[0].split()[1]), text, found
+
+    def json(self, method, target, **how):
+        return json.loads(self.ask(method, target, **how)[1])
+
+    def health(self):
+        return self.json("GET", "/health")
+
+    def weigh(self, key, kind, plate, tare=None, port=None, within=20):
+        form = {"key": key, "kind": kind, "plate": plate} | ({"tare": tare} if tare else {})
+        return self.ask("POST", "/weighings", form, port, within)[:2]
+
+    def entries(self):
+        """The rows of the journal, as lists of fields."""
+        text = self.ask("GET", "/journal.csv", port=self.office)[1]
+        return [it.split(",") for it in text.strip().split("\n")[1:]]
+
+    def has_key(self, key):
+        return any(it[1] == key for it in self.entries())
+
+    def put(self, load, seconds=10):
+        """Puts a load on the bridge, and waits until it is indicated as stable."""
+        self.converter.load = load
+        wanted = f"STABLE G {kg_of(load):10} kg"
+        until = time.monotonic() + seconds
+        while time.monotonic() < until:
+            if self.ask("GET", "/indication", port=self.office)[1].startswith(wanted):
+                return
+            time.sleep(0.3 / self.pace)
+        raise SystemExit(f"counter: not indicated: {wanted}")
+
+    def next_vehicle(self, load):
+        self.put(0)
+        self.put(load)
+
+    def tare(self):
+        return self.terminal_says("till", "TA")
+
+    def terminal_says(self, port, *lines):
+        with Client(self.ports[port]) as client:
+            found = [client.ask(it) for it in lines]
+        return found[0] if len(found) == 1 else found
+
+
+class Client:
+    """A till or a display."""
+
+    def __init__(self, port, timeout=6):
+        self.stream = socket.create_connection((HOST, port), timeout)
+        self.stream.setsockopt(socket.IPPROTO_TCP, socket.TCP_NODELAY, 1)
+        self.rest = b""
+
+    def send(self, line):
+        self.stream.sendall(line.encode() + b"\r\n")
+
+    def line(self):
+        while b"\r\n" not in self.rest:
+            more = self.stream.recv(4096)
+            if not more:
+                raise EOFError
+            self.rest += more
+        line, _, self.rest = self.rest.partition(b"\r\n")
+        return line.decode()
+
+    def ask(self, line):
+        """The last line of the reply; None where the connection ended or nothing came."""
+        try:
+            self.send(line)
+            while (found := self.line()).startswith("I0 B"):
+                pass
+            return found
+        except (OSError, EOFError):
+            return None
+
+    def close(self):
+        self.stream.close()
+
+    def __enter__(self):
+        return self
+
+    def __exit__(self, *fault):
+        self.close()
+
+
+class Meanwhile(threading.Thread):
+    """Does something beside, and keeps what it gave."""
+
+    def __init__(self, act, *words, **more):
+        super().__init__(daemon=True)
+        self.act, self.words, self.more, self.result = act, words, more, None
+        self.start()
+
+    def run(self):
+        self.result = self.act(*self.words, **self.more)
+
+    def get(self, seconds=60):
+        self.join(seconds)
+        return self.result
+
+
+def without_reset(folder):
+    """A copy of the counter that ends its connections by an ordinary close, in place of a reset: what comes of it has to be seen by the tests."""
+    import shutil
+
+    shutil.copytree(os.path.join(TOP, "counter"), os.path.join(folder, "copy"), ignore=shutil.ignore_patterns("__pycache__", "tests"))
+    path = os.path.join(folder, "copy", "weighbridge_counter", "terminal.py")
+    with open(path) as file:
+        text = file.read()
+    for old, new in (('struct.pack("ii", 1, 0)', 'struct.pack("ii", 0, 0)'), ("self.transport.abort()", "self.transport.close()")):
+        if text.count(old) != 1:
+            sys.exit(f"counter: terminal.py has no longer: {old}")
+        text = text.replace(old, new)
+    with open(path, "w") as file:
+        file.write(text)
+    return os.path.join(folder, "copy", "weighbridge-counter")

@@ -1,0 +1,67 @@
+"""A network between a browser and a program of this machine, that can be slow, or gone. It needs python3 alone."""
+
+import queue
+import socket
+import threading
+import time
+
+HOST = "127.0.0.1"
+
+
+class Network(threading.Thread):
+    """Hands on what comes to its port, `delay` seconds later in each direction, and no faster than `speed` bytes a second. While it isn't there,
+    each connection stands still as on a pulled cable, and a new one gets no byte."""
+
+    def __init__(self, to):
+        super().__init__(daemon=True)
+        self.to, self.delay, self.speed = to, 0.0, 1e9
+        self.is_there = threading.Event()
+        self.is_there.set()
+        self.listener = socket.create_server((HOST, 0))
+        self.port = self.listener.getsockname()[1]
+        self.start()
+
+    def run(self):
+        while True:
+            client, _ = self.listener.accept()
+            threading.Thread(target=self.connect, args=(client,), daemon=True).start()
+
+    def connect(self, client):
+        self.is_there.wait()
+        try:
+            server = socket.create_connection((HOST, self.to), 10)
+        except OSError:
+            client.close()
+            return
+        server.settimeout(None)
+        for here, there in ((client, server), (server, client)):
+            way = queue.Queue()
+            threading.Thread(target=self.take, args=(here, way), daemon=True).start()
+            threading.Thread(target=self.give, args=(there, way, here), daemon=True).start()
+
+    def take(self, stream, way):
+        free_at = 0.0
+        try:
+            while data := stream.recv(2048):
+                free_at = max(free_at, time.monotonic()) + len(data) / self.speed
+                way.put((free_at + self.delay, data))
+        except OSError:
+            pass
+        way.put((time.monotonic() + self.delay, b""))
+
+    def give(self, stream, way, other):
+        try:
+            while True:
+                due, data = way.get()
+                time.sleep(max(0.0, due - time.monotonic()))
+                self.is_there.wait()
+                if not data:
+                    break
+                stream.sendall(data)
+        except OSError:
+            pass
+        for it in (stream, other):
+            try:
+                it.shutdown(socket.SHUT_RDWR)
+            except OSError:
+                pass

@@ -1,0 +1,200 @@
+"""A tare belongs to one weighing: acts over a terminal and an office that are played, on a clock of their own."""
+
+import asyncio
+import tempfile
+import unittest
+from collections import Counter
+from pathlib import Path
+
+from weighbridge_counter.acts import ACT_FILE, Acts
+from weighbridge_counter.files import Files
+from weighbridge_counter.office import Answer, NoAnswer
+from weighbridge_counter.terminal import Terminal
+
+from .played import PlayedTerminal
+
+TICKET = """WEIGHING TICKET 7
+PLATE AB-12
+SINGLE NO 7
+AT 2025-03-10 08:00:00
+G      18340 kg
+PT       5000 kg
+E 20 kg MAX 60000 kg SERIAL WB01
+DIGEST 1cabf2920d3f2cb68d9c21efffa641b493539d7d18d6f67f249f4e51ec86c1b5
+N      13340 kg
+"""
+BODY = b"key=K1&kind=single&plate=AB%2D12&tare=5000"
+
+
+class PlayedOffice:
+    """Answers each request with the next of its answers, and keeps what the tare was."""
+
+    def __init__(self, played, *answers):
+        self.played, self.answers, self.bodies, self.tares = played, list(answers), [], []
+
+    async def ask(self, method, target, body=None, within=15.0):
+        self.bodies.append(body)
+        self.tares.append(self.played.tare)
+        answer = self.answers.pop(0)
+        if answer is None:
+            raise NoAnswer("cut")
+        return Answer(answer[0], "text/plain", answer[1].encode())
+
+
+class Bridge:
+    def __init__(self, folder, *answers):
+        self.played = PlayedTerminal()
+        self.terminal = Terminal(("127.0.0.1", 1), 20, self.played.clock)
+        self.terminal.fanout = self.played.fanout
+        self.files = Files(Path(folder))
+        self.office = PlayedOffice(self.played, *answers)
+        self.acts = Acts(self.terminal, self.office, self.files, 20, Counter())
+        self.acts.pause = self.pause
+        self.texts = []
+        self.acts.on_text.append(self.texts.append)
+        self.played.connect()
+        self.played.reading(3)
+        self.played.fanout.settle()
+
+    async def pause(self, seconds):
+        self.played.pass_time(seconds)
+
+    async def until(self, work, at_reading=lambda number: None, most=200):
+        """Lets readings pass until the work is done, and all that it began."""
+        task = asyncio.ensure_future(work)
+        for number in range(most):
+            for _ in range(5):
+                await asyncio.sleep(0)
+            if task.done() and not self.acts.tasks:
+                return task.result()
+            at_reading(number)
+            self.played.reading()
+        raise AssertionError("it doesn't come to its end")
+
+
+class WithABridge(unittest.IsolatedAsyncioTestCase):
+    def bridge(self, *answers):
+        folder = tempfile.TemporaryDirectory()
+        self.addCleanup(folder.cleanup)
+        self.folder = folder.name
+        return Bridge(folder.name, *answers)
+
+    async def weigh(self, bridge, body=BODY, **how):
+        return await bridge.until(bridge.acts.carry_out("/weighings", body), **how)
+
+
+class Passing(WithABridge):
+    async def test_a_request_and_its_text_pass_byte_for_byte(self):
+        bridge = self.bridge((201, TICKET))
+        told = await self.weigh(bridge, b"kind=first&plate=AB%2D12&key=K1&more=%41")
+        self.assertEqual((201, TICKET.encode(), True), (told.status, told.body, told.is_sent))
+        self.assertEqual([b"kind=first&plate=AB%2D12&key=K1&more=%41"], bridge.office.bodies)
+        self.assertEqual([TICKET], bridge.texts)
+        self.assertEqual(["SIR"], bridge.played.sent)
+
+    async def test_no_answer_is_told_as_none_and_as_sent(self):
+        told = await self.weigh(self.bridge(None), b"key=K1&kind=first&plate=AB-12")
+        self.assertEqual((502, True), (told.status, told.is_sent))
+
+    async def test_a_refusal_is_no_text(self):
+        bridge = self.bridge((409, "refused 11 not_cleared\n"))
+        told = await self.weigh(bridge, b"key=K1&kind=first&plate=AB-12")
+        self.assertEqual((409, b"refused 11 not_cleared\n", []), (told.status, told.body, bridge.texts))
+
+
+class WithATare(WithABridge):
+    async def test_it_is_set_weighed_and_cleared(self):
+        bridge = self.bridge((201, TICKET))
+        told = await self.weigh(bridge)
+        self.assertEqual((201, TICKET.encode()), (told.status, told.body))
+        self.assertEqual(([b"key=K1&kind=single&plate=AB%2D12"], [5000]), (bridge.office.bodies, bridge.office.tares))
+        self.assertEqual((["TA 5000 kg", "TAC"], 0), (bridge.played.done, bridge.played.tare))
+        self.assertFalse(bridge.files.has(ACT_FILE))
+
+    async def test_none_is_left_whatever_the_office_says(self):
+        for answer in ((409, "refused 7 unstable\n"), (503, "refused 15 store\n"), None):
+            bridge = self.bridge(answer)
+            await self.weigh(bridge)
+            self.assertEqual((0, False), (bridge.played.tare, bridge.files.has(ACT_FILE)))
+
+    async def test_one_that_somebody_set_is_refused_by_name_and_stays(self):
+        bridge = self.bridge()
+        bridge.played.tare = 3000
+        told = await self.weigh(bridge)
+        self.assertEqual((409, b"counter tare_set\n", False), (told.status, told.body, told.is_sent))
+        self.assertEqual((3000, []), (bridge.played.tare, bridge.office.bodies))
+
+    async def test_one_that_the_scale_refuses_is_told_so(self):
+        bridge = self.bridge()
+        bridge.played.reply = lambda line: "TA L" if line.startswith("TA ") else PlayedTerminal.reply(bridge.played, line)
+        told = await self.weigh(bridge)
+        self.assertEqual((409, b"counter tare_refused\n", False), (told.status, told.body, told.is_sent))
+        self.assertFalse(bridge.files.has(ACT_FILE))
+
+    async def test_what_is_no_tare_of_a_single_never_goes_out(self):
+        for body in (b"kind=single&tare=0", b"kind=single&tare=-5", b"kind=single&tare=5&tare=6", b"kind=first&tare=5", b"kind=single&tare=12345678"):
+            bridge = self.bridge()
+            told = await self.weigh(bridge, body)
+            self.assertEqual((422, b"counter bad_tare\n", ["SIR"]), (told.status, told.body, bridge.played.sent))
+
+    async def test_without_values_nothing_is_sent(self):
+        bridge = self.bridge()
+        bridge.played.pass_time(0.5)
+        task = asyncio.ensure_future(bridge.acts.carry_out("/weighings", BODY))
+        for _ in range(5):
+            await asyncio.sleep(0)
+        bridge.played.pass_time(1.5)
+        told = await task
+        self.assertEqual((503, b"counter no_terminal\n", False), (told.status, told.body, told.is_sent))
+        self.assertEqual(([], False), (bridge.played.done, bridge.files.has(ACT_FILE)))
+
+    async def test_the_office_is_asked_for_the_next_only_once_it_is_cleared(self):
+        bridge = self.bridge((201, TICKET), (409, "refused 11 not_cleared\n"))
+        first = asyncio.ensure_future(bridge.acts.carry_out("/weighings", BODY))
+        await bridge.until(bridge.acts.carry_out("/weighings", b"key=K2&kind=first&plate=EF-56"))
+        self.assertEqual(201, (await first).status)
+        self.assertEqual([5000, 0], bridge.office.tares)
+
+    async def test_a_connection_that_ends_within_the_act_leaves_none(self):
+        for cut_at in range(1, 5):
+            bridge = self.bridge((201, TICKET))
+
+            def cut(number, bridge=bridge, cut_at=cut_at):
+                if number == cut_at:
+                    bridge.played.fanout.ended()
+                    bridge.played.connect()
+
+            await self.weigh(bridge, at_reading=cut)
+            bridge.played.reading(2)
+            await bridge.until(bridge.acts.look())
+            self.assertEqual((0, False), (bridge.played.tare, bridge.files.has(ACT_FILE)), cut_at)
+
+
+class AtTheNextStart(WithABridge):
+    async def test_a_tare_that_an_act_left_is_cleared_first(self):
+        bridge = self.bridge()
+        bridge.files.write(ACT_FILE, {"kg": 5005})
+        bridge.played.tare = 5000
+        bridge.acts = Acts(bridge.terminal, bridge.office, bridge.files, 20, Counter())
+        self.assertTrue(bridge.acts.may_be_left)
+        await bridge.until(bridge.acts.look())
+        self.assertEqual((0, False, False), (bridge.played.tare, bridge.acts.may_be_left, bridge.files.has(ACT_FILE)))
+        self.assertEqual("WB01", bridge.terminal.serial)
+
+    async def test_one_that_somebody_else_set_is_left_alone(self):
+        bridge = self.bridge()
+        bridge.files.write(ACT_FILE, {"kg": 5000})
+        bridge.played.tare = 3000
+        await bridge.until(bridge.acts.look())
+        self.assertEqual((3000, 3000, False), (bridge.played.tare, bridge.played.fanout.tare, bridge.files.has(ACT_FILE)))
+
+    async def test_one_that_acted_though_it_was_called_back_is_cleared(self):
+        bridge = self.bridge()
+        bridge.played.fanout.doubtful_tare = 0
+        bridge.played.tare = 5000
+        await bridge.until(bridge.acts.look())
+        self.assertEqual((0, None), (bridge.played.tare, bridge.played.fanout.doubtful_tare))
+
+
+if __name__ == "__main__":
+    unittest.main()

@@ -1,0 +1,219 @@
+"""The lists, texts made again, stored tares, the zero since a start, and the setup's mistakes."""
+
+import datetime
+import tempfile
+import unittest
+import zoneinfo
+from pathlib import Path
+
+from weighbridge_counter.files import Files
+from weighbridge_counter.lists import Lists
+from weighbridge_counter.service import Service
+from weighbridge_counter.setup import SetupFault, read_setup
+from weighbridge_counter.slips import HEADER, NoText, entry_of_text, slip_of_row
+from weighbridge_counter.tares import BadTare, Tares
+from weighbridge_counter.zero import Zero
+
+BERLIN = zoneinfo.ZoneInfo("Europe/Berlin")
+ZEROS = "0" * 64
+DIGEST = "a982a0aaef75f8622de6a96ef3a1d8ddd9de4bd18d9cda420eeb00dfbfcfa68c"
+ROW = f"1,K1,first,AB-12,2025-03-10 08:00:00,18340,,20,60000,WB01,{DIGEST},{ZEROS}"
+SLIP = f"WEIGHING SLIP 1\nPLATE AB-12\nFIRST NO 1\nAT 2025-03-10 08:00:00\nG      18340 kg\nE 20 kg MAX 60000 kg SERIAL WB01\nDIGEST {DIGEST}\n"
+WEB = Path(__file__).resolve().parent.parent / "web"
+
+
+def row(number, kind, plate, gross, preset="", at="2025-03-10 09:00:00"):
+    return f"{number},K{number},{kind},{plate},{at},{gross},{preset},20,60000,WB01,{ZEROS},{ZEROS}"
+
+
+def export(*rows):
+    return "\n".join((HEADER, *rows, ""))
+
+
+def slip(number, kind, plate, gross="18340", more=""):
+    g = f"G {gross:>10} kg\n" if gross else ""
+    return f"WEIGHING {'TICKET' if more else 'SLIP'} {number}\nPLATE {plate}\n{more}{kind} NO {number}\nAT 2025-03-10 08:00:00\n{g}E 20 kg MAX 60000 kg SERIAL WB01\nDIGEST {ZEROS}\n"
+
+
+class Texts(unittest.TestCase):
+    def test_a_slip_is_made_again_letter_for_letter(self):
+        self.assertEqual(SLIP, slip_of_row(ROW))
+
+    def test_a_changed_row_gives_none(self):
+        for old, new in (
+            ("18340", "18360"),
+            ("AB-12", "AB-13"),
+            ("K1", "K2"),
+            ("08:00:00", "08:00:01"),
+            ("WB01", "WB02"),
+            ("60000", "50000"),
+            (ZEROS, "1" * 64),
+            ("first", "void"),
+        ):
+            self.assertIsNone(slip_of_row(ROW.replace(old, new)), old)
+
+    def test_what_is_no_slip_is_refused(self):
+        for text in ("", "refused 7 unstable\n", "WEIGHING SLIP 1\n", "WEIGHING SLIP 1\nPLATE A\n"):
+            with self.assertRaises(NoText):
+                entry_of_text(text)
+
+
+class TheLists(unittest.TestCase):
+    def test_an_export_and_what_passed(self):
+        lists = Lists.of_export(
+            BERLIN, export(row(1, "first", "AB-12", 18340), row(2, "single", "CD-34", 18340, 5000), row(3, "first", "EF-56", 9000))
+        )
+        self.assertEqual(["EF-56", "AB-12"], [it["plate"] for it in lists.on_site()])
+        first = "FIRST NO 1\nAT 2025-03-10 08:00:00\nG      18340 kg\n"
+        entry, is_new = lists.passed(slip(4, "SECOND", "AB-12", "8140", first))
+        self.assertTrue(is_new and lists.is_whole)
+        self.assertEqual((10200, 1), (lists.shown(4)["net"], lists.shown(4)["first"]))
+        self.assertEqual(13340, lists.shown(2)["net"])
+        lists.passed(slip(5, "VOID", "EF-56", ""))
+        self.assertEqual([], lists.on_site())
+
+    def test_a_number_between_is_missed(self):
+        lists = Lists.of_export(BERLIN, export(ROW))
+        lists.passed(slip(3, "FIRST", "EF-56"))
+        self.assertFalse(lists.is_whole)
+
+    def test_a_second_of_a_first_that_is_not_known_is_missed(self):
+        lists = Lists.of_export(BERLIN, export(ROW))
+        lists.passed(slip(2, "SECOND", "ZZ-1", "8140", "FIRST NO 9\nAT 2025-03-10 08:00:00\nG      18340 kg\n"))
+        self.assertFalse(lists.is_whole)
+
+    def test_a_text_that_comes_again_is_not_new(self):
+        lists = Lists.of_export(BERLIN, export(ROW))
+        self.assertEqual([False, True, False], [lists.passed(it)[1] for it in (SLIP, slip(2, "FIRST", "EF-56"), slip(2, "FIRST", "EF-56"))])
+
+    def test_what_passes_while_an_export_is_made_stays(self):
+        before = Lists.of_export(BERLIN, export(ROW))
+        before.passed(slip(2, "FIRST", "EF-56"))
+        after = Lists.of_export(BERLIN, export(ROW)).with_passed(before)
+        self.assertEqual((["EF-56", "AB-12"], True), ([it["plate"] for it in after.on_site()], after.is_whole))
+        self.assertEqual(slip(2, "FIRST", "EF-56"), after.slip_again(2)[0])
+
+    def test_today_is_the_day_of_the_zone(self):
+        lists = Lists.of_export(
+            BERLIN, export(row(1, "first", "A", 1000, at="2025-03-09 22:59:00"), row(2, "first", "B", 1000, at="2025-03-09 23:01:00"))
+        )
+        now = datetime.datetime(2025, 3, 10, 12, tzinfo=BERLIN)
+        self.assertEqual(["B"], [it["plate"] for it in lists.today(now)])
+
+    def test_search_by_number_and_by_a_part_of_a_plate(self):
+        lists = Lists.of_export(
+            BERLIN, export(row(1, "first", "HB-AB-12", 1000), row(2, "first", "OL-X-1", 1000), row(3, "second", "HB-AB-12", 9000))
+        )
+        for words, found in (("2", [2, 3, 1]), ("bab", [3, 1]), ("b-ab", [3, 1]), ("x", [2]), ("", []), ("-", []), ("zz", []), ("9", [])):
+            self.assertEqual(found, [it["number"] for it in lists.search(words)], words)
+
+    def test_what_is_no_export_is_refused(self):
+        for text in ("", "store 2 disk\n", export(ROW + ",more")):
+            with self.assertRaises(NoText):
+                Lists.of_export(BERLIN, text)
+
+
+class Kept(unittest.TestCase):
+    def setUp(self):
+        folder = tempfile.TemporaryDirectory()
+        self.addCleanup(folder.cleanup)
+        self.files, self.day = Files(Path(folder.name)), datetime.date(2025, 3, 10)
+
+    def tares(self):
+        return Tares(self.files, lambda: self.day, 90, 60000)
+
+    def test_a_tare_has_a_last_day_and_who_kept_it(self):
+        self.tares().keep("AB-12", 5000, "anna")
+        self.assertEqual({"AB-12": {"kg": 5000, "until": "2025-06-08", "by": "anna", "is_over": False}}, self.tares().shown())
+        self.day = datetime.date(2025, 6, 9)
+        self.assertTrue(self.tares().shown()["AB-12"]["is_over"])
+        self.tares().drop("AB-12")
+        self.assertEqual({}, self.tares().shown())
+
+    def test_what_is_none_is_refused(self):
+        for plate, kg in (
+            ("ab", 5000),
+            ("", 5000),
+            ("A" * 13, 5000),
+            ("A", 0),
+            ("A", -1),
+            ("A", 60000),
+            ("A", "5000"),
+            ("A", 5000.0),
+            ("A", True),
+            ("A", None),
+        ):
+            with self.assertRaises(BadTare):
+                self.tares().keep(plate, kg, "")
+
+    def test_zero_is_known_until_the_service_is_another_one(self):
+        def zero():
+            return Zero(self.files, lambda: datetime.datetime(2025, 3, 10, 9, tzinfo=BERLIN))
+
+        service, other = Service(10, 500, "boot", ()), Service(10, 501, "boot", ())
+        first = zero()
+        self.assertTrue(first.connected(service, False))
+        first.was_set("anna")
+        again = zero()  # the counter was started again, the service wasn't
+        self.assertFalse(again.connected(service, True))
+        self.assertEqual((True, "anna"), (again.shown()["known"], again.shown()["by"]))
+        self.assertTrue(again.connected(other, False))
+        self.assertFalse(again.shown()["known"])
+
+    def test_without_a_process_a_refused_connection_is_a_start(self):
+        zero = Zero(self.files, lambda: datetime.datetime(2025, 3, 10, 9, tzinfo=BERLIN))
+        zero.was_set("")
+        self.assertFalse(zero.connected(None, False))
+        self.assertTrue(zero.connected(None, True))
+
+
+class TheSetup(unittest.TestCase):
+    def read(self, text):
+        with tempfile.NamedTemporaryFile("w", suffix=".toml") as file:
+            file.write(text)
+            file.flush()
+            return read_setup(Path(file.name), WEB)
+
+    def test_little_is_enough(self):
+        setup = self.read('state = "/tmp/x"')
+        self.assertEqual((("127.0.0.1", 8090), 20, ()), (setup.listen, setup.interval, setup.ports))
+
+    def test_each_mistake_is_named_by_its_key(self):
+        port = '[[port]]\nname = "till"\nlisten = "127.0.0.1:4101"\nmay = "change"\n'
+        rows = [
+            ("", "state: it is missing"),
+            ('state = ""', "state: write"),
+            ("state = 5", "state: write"),
+            ('state = "x"\nlisten = "0.0.0.0:8090"', "listen: write an address of this machine"),
+            ('state = "x"\nlisten = "127.0.0.1:0"', "listen: write"),
+            ('state = "x"\noffice = "127.0.0.1"', "office: write"),
+            ('state = "x"\noffice = "127.0.0.1:4001"', "office: it is the address of terminal"),
+            ('state = "x"\nzone = "Mars/Base"', "zone: write a time zone"),
+            ('state = "x"\nlanguage = "xx"', "language: write "),
+            ('state = "x"\ninterval = 3', "interval: write 1, 2, 5, 10, 20 or 50"),
+            ('state = "x"\nmax = true', "max: write a whole number"),
+            ('state = "x"\ntare_days = 0', "tare_days: write a whole number from 1"),
+            ('state = "x"\nhosts = "a"', "hosts: write"),
+            ('state = "x"\nlissten = "127.0.0.1:1"', "lissten: there is no such key"),
+            ('state = "x"\nport = 5', "port: write each port as a table"),
+            ('state = "x"\n' + port.replace("till", "Till 1"), "port 1: name: write"),
+            ('state = "x"\n' + port.replace("change", "all"), 'port 1: may: write "read" or "change"'),
+            ('state = "x"\n' + port.replace("4101", "8090"), "port 1: listen: it is the address of listen"),
+            ('state = "x"\n' + port + port, "port 2: listen: it is the address of port 1"),
+            ('state = "x"\n' + port + port.replace("4101", "4102"), "port 2: name: there is a port till"),
+            ('state = "x"\n' + port + "speed = 1", "port 1: speed: there is no such key"),
+            ("state = ", "it is no TOML"),
+        ]
+        for text, wanted in rows:
+            with self.assertRaises(SetupFault) as caught:
+                self.read(text)
+            self.assertIn(wanted, str(caught.exception))
+            self.assertIn(".toml: ", str(caught.exception))
+
+    def test_a_file_that_is_not_there(self):
+        with self.assertRaises(SetupFault):
+            read_setup(Path("/nowhere/counter.toml"), WEB)
+
+
+if __name__ == "__main__":
+    unittest.main()

@@ -1,0 +1,91 @@
+// A request with its key: kept by the browser before it is sent, and sent again until it is answered. It is stored once, whatever is cut.
+
+const KEPT = 'weighbridge.request';
+const ANSWER_WITHIN = 15000;
+const AGAIN_AFTER = 1000;
+const AGAIN_FOR = 30000;             // after that another vehicle may stand on the bridge: the clerk decides
+
+const pause = time => new Promise(done => setTimeout(done, time));
+
+// The address is made whole, since a page whose own address has a password in it may ask for no relative one.
+export async function ask(method, target, body, within = ANSWER_WITHIN) {
+  try {
+    const answer = await fetch(location.origin + target, { method, body, cache: 'no-store', redirect: 'error', signal: AbortSignal.timeout(within) });
+    return { status: answer.status, text: await answer.text(), isSent: answer.headers.get('X-Counter') !== 'not_sent' };
+  } catch {
+    return null;
+  }
+}
+
+export async function askJson(method, target, body, within) {
+  const answer = await ask(method, target, body, within);
+  try { return { ...JSON.parse(answer.text), status: answer.status }; } catch { return null; }
+}
+
+export const refusalOf = answer => /^(?:refused|fault) (\d+) \w+\n$/.exec(answer.text)?.[1];
+export const counterWordOf = answer => /^counter (\w+)/.exec(answer.text)?.[1];
+
+// The office's own answers end a request. What the counter didn't send ends it too, but only if no earlier sending had no answer: that one may be stored.
+function isFinal(answer, request) {
+  if (answer === null) return false;
+  if (answer.status === 201) return true;
+  if (!answer.isSent) return !request.isUnsure && counterWordOf(answer) !== undefined;
+  return answer.status < 500 && refusalOf(answer) !== undefined;
+}
+
+function newKey() {
+  return 'page-' + Array.from(crypto.getRandomValues(new Uint8Array(13)), it => it.toString(16).padStart(2, '0')).join('');
+}
+
+export function keptRequest() {
+  try { return JSON.parse(localStorage.getItem(KEPT)); } catch { return null; }
+}
+
+function keep(request) {
+  try {
+    const text = JSON.stringify(request);
+    localStorage.setItem(KEPT, text);
+    return localStorage.getItem(KEPT) === text;
+  } catch {
+    return false;
+  }
+}
+
+export function forget(request) {
+  if (keptRequest()?.form.key === request.form.key) localStorage.removeItem(KEPT);
+}
+
+// A request that is kept, or null if this browser keeps nothing: then nothing is sent.
+export function newRequest(target, form) {
+  const request = { target, form: { key: newKey(), ...form }, made: Date.now(), isUnsure: false };
+  return keep(request) ? request : null;
+}
+
+export function renewed(request) {
+  const anew = { ...request, made: Date.now(), isUnsure: true };
+  keep(anew);
+  return anew;
+}
+
+export const isOld = request => Math.abs(Date.now() - request.made) > AGAIN_FOR;
+
+// Sends until an answer is final. Null: there was none for so long that it isn't sent by itself any more.
+export async function send(request, unanswered) {
+  for (;;) {
+    const answer = await ask('POST', request.target, new URLSearchParams(request.form));
+    if (isFinal(answer, request)) {
+      forget(request);
+      return answer;
+    }
+    request.isUnsure ||= answer === null || answer.isSent;
+    keep(request);
+    if (isOld(request)) return null;
+    unanswered();
+    await pause(AGAIN_AFTER);
+  }
+}
+
+// Whether the journal has the request's key; null if that can't be told now.
+export async function isStored(request) {
+  return (await askJson('GET', `/keys/${request.form.key}`, undefined, 60000))?.found ?? null;
+}

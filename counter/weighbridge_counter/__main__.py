@@ -1,0 +1,71 @@
+"""The command line."""
+
+import argparse
+import asyncio
+import signal
+import sys
+from pathlib import Path
+
+from aiohttp import web
+
+from .counter import Counter
+from .ports import open_port
+from .routes import Routes
+from .setup import Setup, SetupFault, read_setup
+
+FOLDER = Path(__file__).resolve().parent.parent
+END_OF_ACT_WITHIN = 3.0  # seconds
+ABOUT = """Stands between the service of a weighbridge and everybody: holds its one terminal, and gives pages, tills, displays and monitoring what they ask.
+It judges nothing and stores nothing legal, and may be killed at any time."""
+EXAMPLE = """example:
+  weighbridge-counter /etc/weighbridge-counter.toml           serve; the page is then at the address after `listen`
+  weighbridge-counter --check /etc/weighbridge-counter.toml   only read the setup, and say what is wrong with it
+
+status: 0 ended by a signal, 1 an address or a file can't be used, 2 the words or the setup are refused"""
+
+
+def words_of(given: list[str]) -> argparse.Namespace:
+    words = argparse.ArgumentParser("weighbridge-counter", description=ABOUT, epilog=EXAMPLE, formatter_class=argparse.RawDescriptionHelpFormatter)
+    words.add_argument("setup", metavar="SETUP", type=Path, help="the setup, a TOML file; its example says each key")
+    words.add_argument("--check", dest="only_check", action="store_true", help="read the setup and end")
+    return words.parse_args(given)
+
+
+async def serve(setup: Setup) -> None:
+    counter = Counter(setup)
+    runner = web.AppRunner(Routes(counter, FOLDER).application(), access_log=None)
+    await runner.setup()
+    await web.TCPSite(runner, *setup.listen, shutdown_timeout=0.2).start()
+    ports = [await open_port(counter.terminal, port) for port in setup.ports]
+    for port, listener in zip(setup.ports, ports):
+        print(f"counter: port {port.name} on {port.listen[0]}:{port.listen[1]}", file=sys.stderr)
+    print(f"counter: http://{setup.listen[0]}:{setup.listen[1]}/", file=sys.stderr, flush=True)
+    stopped = asyncio.Event()
+    for it in (signal.SIGTERM, signal.SIGINT):
+        asyncio.get_running_loop().add_signal_handler(it, stopped.set)
+    running = asyncio.ensure_future(counter.run())
+    stopping = asyncio.ensure_future(stopped.wait())
+    await asyncio.wait([running, stopping], return_when=asyncio.FIRST_COMPLETED)
+    if counter.acts.tasks:
+        await asyncio.wait(counter.acts.tasks, timeout=END_OF_ACT_WITHIN)
+    if running.done():
+        running.result()
+
+
+def main(given: list[str] | None = None) -> int:
+    words = words_of(sys.argv[1:] if given is None else given)
+    try:
+        setup = read_setup(words.setup, FOLDER / "web")
+        if not words.only_check:
+            asyncio.run(serve(setup))
+    except SetupFault as fault:
+        print(f"weighbridge-counter: {fault}", file=sys.stderr)
+        return 2
+    except OSError as fault:
+        print(f"weighbridge-counter: {fault}", file=sys.stderr)
+        return 1
+    return 0
+
+
+if __name__ == "__main__":
+    sys.exit(main())

@@ -1,0 +1,185 @@
+"""What the counter knows at a moment, and who is told when it changes."""
+
+import asyncio
+import datetime
+import time
+from collections.abc import Callable
+from typing import Any
+
+from .acts import Acts
+from .books import Books
+from .files import Files
+from .office import Office
+from .pages import FASTEST, SLOWEST, Pages
+from .service import Service, find_service, program_of
+from .setup import Setup
+from .slips import Entry
+from .tares import Tares
+from .terminal import Terminal
+from .values import Value
+from .zero import Zero
+
+MIN_INTERVALS = 20  # below so many intervals e the bridge is empty
+STATE_EVERY = 0.25  # seconds
+GONE_AFTER = 0.5  # seconds without a value after which pages get a sign of life
+
+
+class Counter:
+    def __init__(self, setup: Setup, find: Callable[[tuple[str, int]], Service | None] = find_service) -> None:
+        self.setup, self.find = setup, find
+        self.terminal = Terminal(setup.terminal, setup.wait)
+        self.counts = self.terminal.fanout.counts
+        self.office = Office(setup.office)
+        self.files = Files(setup.state)
+        self.acts = Acts(self.terminal, self.office, self.files, setup.interval, self.counts)
+        self.books = Books(self.office, setup.zone, self.counts)
+        self.pages = Pages()
+        self.tares = Tares(self.files, lambda: self.now().date(), setup.tare_days, setup.max)
+        self.zero = Zero(self.files, self.now)
+        self.service: Service | None = None
+        self.program: dict[str, str | bool] = {}
+        self.bridge = "unknown"  # empty: it was since the last weighing; weighed: a weighing since; restarted: not empty since the service's start
+        self.told_state: dict[str, Any] = {}
+        self.told_weight: tuple[object, ...] = ()
+        self.told_weight_at = 0.0
+        self.tasks: set[asyncio.Task[None]] = set()
+        self._connect()
+
+    def _connect(self) -> None:
+        self.terminal.on_up = self._terminal_is_up
+        self.terminal.on_change = self.tell_state
+        self.terminal.listeners.add(self._take_value)
+        self.terminal.fanout.on_zero = lambda: self.zero.was_set("")
+        self.acts.on_text.append(self.books.passed)
+        self.acts.on_answer = self.books.answered
+        self.books.on_lists = lambda: self.pages.tell("lists", self.lists())
+        self.books.on_entry = self._take_entry
+        self.books.is_empty = self._is_empty
+
+    async def run(self) -> None:
+        await asyncio.gather(self.terminal.run(), self.books.run(), self._tell_regularly())
+
+    def now(self) -> datetime.datetime:
+        return datetime.datetime.now(self.setup.zone)
+
+    def milliseconds(self) -> int:
+        return round(self.terminal.clock() * 1000)
+
+    # ---- what comes from the terminal
+
+    def gross(self) -> int | None:
+        value, tare = self.terminal.fanout.value, self.terminal.fanout.tare
+        return None if value is None or value.kg is None or tare is None else value.kg + tare
+
+    def _is_light(self) -> bool:
+        gross = self.gross()
+        return gross is not None and gross < MIN_INTERVALS * self.setup.interval
+
+    def _is_empty(self) -> bool:
+        return self.terminal.fanout.is_fresh() and self._is_light() and not self.acts.is_busy()
+
+    def _take_value(self, value: Value) -> None:
+        if self._is_light():
+            self.bridge = "empty"
+        looks = (value.state, value.kg, self.terminal.fanout.tare)
+        since = value.at - self.told_weight_at
+        if (looks != self.told_weight and since >= FASTEST) or since >= SLOWEST:
+            self.told_weight, self.told_weight_at = looks, value.at
+            self.pages.tell_weight({"state": value.state, "net": value.kg, "tare": self.terminal.fanout.tare, "at": round(value.at * 1000)})
+
+    def _terminal_is_up(self) -> None:
+        self._keep_going(self.acts.look())
+        self._keep_going(self._look_at_service())
+
+    async def _look_at_service(self) -> None:
+        loop = asyncio.get_running_loop()
+        service = await loop.run_in_executor(None, self.find, self.setup.terminal)
+        was_refused, self.terminal.was_refused = self.terminal.was_refused, False
+        if self.zero.connected(service, was_refused):
+            self.bridge = "empty" if self._is_light() else "restarted"
+            self.books.wants_export = True
+        self.service = service
+        self.program = await loop.run_in_executor(None, program_of, service) if service is not None else {}
+        self._keep_going(self.books.probe())
+        self.tell_state()
+
+    def _keep_going(self, work: Any) -> None:
+        task = asyncio.ensure_future(work)
+        self.tasks.add(task)
+        task.add_done_callback(self.tasks.discard)
+
+    # ---- what comes from the office
+
+    def _take_entry(self, entry: Entry) -> None:
+        if entry.kind != "void":
+            self.bridge = "weighed"
+        self.pages.tell("entry", {"entry": self.books.lists.shown(entry.number), "on_site": self.books.lists.on_site()})
+
+    # ---- commands of pages
+
+    async def set_zero(self, by: str) -> str:
+        """What the terminal replied to `Z`. Raises NotSent or Unanswered."""
+        try:
+            said = (await asyncio.shield(asyncio.ensure_future(self.terminal.command("Z"))))[0]
+            if said == "Z A":
+                self.zero.was_set(by)
+            return said
+        finally:
+            self.tell_state()
+
+    async def clear_tare(self) -> str:
+        try:
+            return (await asyncio.shield(asyncio.ensure_future(self.terminal.command("TAC"))))[0]
+        finally:
+            self.tell_state()
+
+    # ---- what is told
+
+    def link(self) -> str:
+        """down: the service isn't there; waits: another one has its terminal; held: it doesn't answer; up."""
+        fanout = self.terminal.fanout
+        return "held" if fanout.is_held() else fanout.link
+
+    def state(self) -> dict[str, Any]:
+        return {
+            "link": self.link(),
+            "tare": self.terminal.fanout.tare,
+            "bridge": self.bridge,
+            "zero": self.zero.shown(),
+            "serial": self.terminal.serial,
+            "office": self.books.state,
+            "lists_whole": self.books.is_whole(),
+            "tare_left": self.acts.may_be_left,
+            "busy": self.acts.is_busy(),
+        }
+
+    def lists(self) -> dict[str, Any]:
+        return {"on_site": self.books.lists.on_site(), "today": self.books.lists.today(self.now()), "tares": self.tares.shown()}
+
+    def hello(self) -> dict[str, Any]:
+        setup = self.setup
+        return {
+            "company": setup.company,
+            "address": list(setup.address),
+            "zone": setup.zone.key,
+            "language": setup.language,
+            "interval": setup.interval,
+            "tare_days": setup.tare_days,
+            "now": self.milliseconds(),
+        }
+
+    def tell_state(self) -> None:
+        state = self.state()
+        if state != self.told_state:
+            self.told_state = state
+            self.pages.tell("state", state)
+
+    def tell_tares(self) -> None:
+        self.pages.tell("tares", self.tares.shown())
+
+    async def _tell_regularly(self) -> None:
+        while True:
+            self.tell_state()
+            if not self.terminal.fanout.is_fresh(GONE_AFTER):
+                self.pages.tell("alive", self.milliseconds())  # so that a page tells a silent scale from a counter that is gone
+            await asyncio.sleep(STATE_EVERY)

@@ -1,0 +1,126 @@
+"""What stands on the page's lists: made of one export and of each text that passed since. A help to the eye; the office judges."""
+
+import datetime
+import zoneinfo
+from typing import Any
+
+from .slips import HEADER, Entry, NoText, entry_of_row, entry_of_text, slip_of_row
+
+MOST_TEXTS = 2000  # that are kept as they passed
+MOST_TODAY = 1000
+MOST_HITS = 60
+
+
+class Lists:
+    def __init__(self, zone: zoneinfo.ZoneInfo) -> None:
+        self.zone = zone
+        self.entries: dict[int, Entry] = {}
+        self.rows: dict[int, str] = {}  # of the export, for a slip again
+        self.texts: dict[int, str] = {}  # as they passed
+        self.open: dict[str, int] = {}  # the number of the open First of a plate
+        self.partner: dict[int, int] = {}
+        self.by_plate: dict[str, list[int]] = {}
+        self.last = 0
+        self.is_whole = False  # whether nothing is known to be missing
+
+    # ---- what comes
+
+    @classmethod
+    def of_export(cls, zone: zoneinfo.ZoneInfo, text: str) -> "Lists":
+        """The lists of an export. It may run in a thread of its own."""
+        header, *rows = text.split("\n")
+        if header != HEADER:
+            raise NoText(header[:40])
+        made = cls(zone)
+        for row in rows:
+            if row:
+                entry = entry_of_row(row)
+                made.rows[entry.number] = row
+                made._take(entry)
+        made.is_whole = True
+        return made
+
+    def with_passed(self, older: "Lists") -> "Lists":
+        """These lists with what passed while their export was made."""
+        for number, text in older.texts.items():
+            if number in self.entries:
+                self.texts[number] = text
+            elif number > self.last:
+                self.passed(text)
+        return self
+
+    def passed(self, text: str) -> tuple[Entry, bool]:
+        """Takes a text that the office answered with 201. Gives its entry, and whether it is new here."""
+        entry = entry_of_text(text)
+        self.texts[entry.number] = text
+        while len(self.texts) > MOST_TEXTS:
+            del self.texts[next(iter(self.texts))]
+        if entry.number in self.entries:
+            return entry, False
+        if entry.number > self.last + 1:
+            self.is_whole = False
+        if entry.kind == "second" and self.open.get(entry.plate) != entry.first:
+            self.is_whole = False
+        self._take(entry)
+        return entry, True
+
+    def _take(self, entry: Entry) -> None:
+        self.entries[entry.number] = entry
+        self.last = max(self.last, entry.number)
+        self.by_plate.setdefault(entry.plate, []).append(entry.number)
+        if entry.kind == "first":
+            self.open[entry.plate] = entry.number
+        elif entry.kind in ("second", "void"):
+            first = self.open.pop(entry.plate, None)
+            first = entry.first if entry.first is not None else first
+            if first is not None:
+                self.partner[entry.number] = first
+
+    # ---- what is shown
+
+    def slip_again(self, number: int) -> tuple[str | None, str] | None:
+        """The text of an entry and where it is from: `passed`, or `export`, with None if its digest isn't that of its fields. None: it isn't here."""
+        if number in self.texts:
+            return self.texts[number], "passed"
+        if number in self.rows:
+            return slip_of_row(self.rows[number]), "export"
+        return None
+
+    def shown(self, number: int) -> dict[str, Any]:
+        entry, first = self.entries[number], self.entries.get(self.partner.get(number, 0))
+        net = None
+        if entry.kind == "single" and entry.gross is not None and entry.preset is not None:
+            net = entry.gross - entry.preset
+        elif entry.kind == "second" and first is not None and entry.gross is not None and first.gross is not None:
+            net = abs(entry.gross - first.gross)
+        return {
+            "number": number,
+            "kind": entry.kind,
+            "plate": entry.plate,
+            "at": entry.at.strftime("%Y-%m-%dT%H:%M:%SZ"),
+            "gross": entry.gross,
+            "tare": entry.preset,
+            "net": net,
+            "first": self.partner.get(number),
+        }
+
+    def on_site(self) -> list[dict[str, Any]]:
+        return [self.shown(number) for number in sorted(self.open.values(), reverse=True)]
+
+    def today(self, now: datetime.datetime) -> list[dict[str, Any]]:
+        day = now.astimezone(self.zone).date()
+        found: list[dict[str, Any]] = []
+        for number in range(self.last, max(0, self.last - MOST_TODAY), -1):
+            if number in self.entries and self.entries[number].at.astimezone(self.zone).date() == day:
+                found.append(self.shown(number))
+        return found
+
+    def search(self, words: str) -> list[dict[str, Any]]:
+        """Entries by number, or by a part of their plate; the newest first."""
+        words = words.upper().replace(" ", "")
+        bare = words.replace("-", "")
+        hits = [int(words)] if words.isdigit() and len(words) < 11 and int(words) in self.entries else []
+        if bare:
+            numbers = [number for plate, all in self.by_plate.items() if bare in plate.replace("-", "") for number in all]
+            hits += [it for it in sorted(numbers, reverse=True)[:MOST_HITS] if it not in hits]
+        return [self.shown(number) for number in hits[:MOST_HITS]]

@@ -1,0 +1,243 @@
+"""The routes: those of the office, which pass, and the counter's own. `counter/openapi.json` describes all of them."""
+
+import asyncio
+import json
+import socket
+from collections.abc import Awaitable, Callable
+from pathlib import Path
+from typing import Any
+
+from aiohttp import web
+
+from .counter import Counter
+from .health import health_of, metrics_of
+from .office import NoAnswer
+from .pages import Page, frame_of
+from .tares import BadTare
+from .terminal import NotSent, Unanswered
+
+LONGEST_BODY = 2048  # bytes; the office takes 1,024
+SMALL_BUFFER = 16384  # bytes in the system on the way to a page
+LOOK_AT_SLOW_PAGE_EVERY = 0.05  # seconds
+READS_NOTHING = 5.0  # seconds: a page that takes nothing for so long is closed, and begins anew
+KEY_WITHIN = 60.0
+NO_STORE = {"Cache-Control": "no-store", "X-Content-Type-Options": "nosniff"}
+POLICY = (
+    "default-src 'none'; script-src 'self'; style-src 'self'; img-src 'self'; connect-src 'self'; "
+    "base-uri 'none'; form-action 'none'; frame-ancestors 'none'; require-trusted-types-for 'script'"
+)
+PAGE_FIELDS = {
+    "Cache-Control": "no-cache",
+    "Content-Security-Policy": POLICY,
+    "X-Content-Type-Options": "nosniff",
+    "Referrer-Policy": "no-referrer",
+    "Cross-Origin-Resource-Policy": "same-origin",
+}
+Handler = Callable[[web.Request], Awaitable[web.StreamResponse]]
+
+
+def as_json(what: Any, status: int = 200) -> web.Response:
+    return web.json_response(what, status=status, headers=NO_STORE)
+
+
+def as_text(body: bytes, status: int, kind: str = "text/plain; charset=utf-8", **fields: str) -> web.Response:
+    return web.Response(status=status, body=body, headers={"Content-Type": kind, **NO_STORE, **fields})
+
+
+class Routes:
+    def __init__(self, counter: Counter, folder: Path) -> None:
+        self.counter, self.folder = counter, folder
+        self.hosts = {"127.0.0.1", "localhost", counter.setup.listen[0], *counter.setup.hosts}
+
+    def application(self) -> web.Application:
+        @web.middleware
+        async def guard(request: web.Request, handler: Handler) -> web.StreamResponse:
+            return await self.guarded(request, handler)
+
+        application = web.Application(middlewares=[guard], client_max_size=LONGEST_BODY)
+        own = r"{number:[1-9]\d{0,9}}"
+        application.add_routes(
+            [
+                web.get("/", self.page),
+                web.get(r"/web/{name:[a-z]+\.(?:js|css|svg)|lang/[a-z]{2}\.json}", self.page_file),
+                web.get("/openapi.json", self.openapi),
+                web.get("/events", self.events),
+                web.get("/time", self.time),
+                web.post("/weighings", self.weigh),
+                web.post("/voids", self.weigh),
+                web.post("/zero", self.zero),
+                web.post("/tare/clear", self.clear_tare),
+                web.get("/indication", self.hand_on),
+                web.get("/tickets/{number}", self.hand_on),
+                web.get("/entries/" + own, self.entry),
+                web.get("/search", self.search),
+                web.get("/keys/{key:[A-Za-z0-9-]{1,32}}", self.key),
+                web.put("/tares/{plate}", self.keep_tare),
+                web.delete("/tares/{plate}", self.drop_tare),
+                web.post("/lists/refresh", self.refresh),
+                web.get("/health", self.health),
+                web.get("/metrics", self.metrics),
+            ]
+        )
+        return application
+
+    # ---- who may ask
+
+    async def guarded(self, request: web.Request, handler: Handler) -> web.StreamResponse:
+        """Refuses what a page of another site asks, a name that was bent to this address, and what may be old."""
+        host = request.headers.get("Host", "")
+        origin = request.headers.get("Origin")
+        if host.rpartition(":")[0] not in self.hosts and host not in self.hosts:
+            return as_text(b"counter other_host\n", 421)
+        if request.headers.get("Sec-Fetch-Site", "none") not in ("none", "same-origin") or (
+            origin is not None and origin.partition("://")[2] != host
+        ):
+            return as_text(b"counter other_site\n", 403)
+        if request.method != "GET" and self.counter.terminal.is_in_doubt():
+            return as_text(b"counter late\n", 503, **{"X-Counter": "not_sent"})
+        try:
+            return await handler(request)
+        except web.HTTPException as fault:
+            name = {404: "no_route", 405: "wrong_method", 413: "too_large"}.get(fault.status, "malformed")
+            return as_text(f"fault {fault.status} {name}\n".encode(), fault.status)
+
+    # ---- the page
+
+    async def page(self, request: web.Request) -> web.StreamResponse:
+        return web.FileResponse(self.folder / "web" / "index.html", headers=PAGE_FIELDS)
+
+    async def page_file(self, request: web.Request) -> web.StreamResponse:
+        path = self.folder / "web" / request.match_info["name"]
+        if not path.is_file():
+            raise web.HTTPNotFound
+        return web.FileResponse(path, headers=PAGE_FIELDS)
+
+    async def openapi(self, request: web.Request) -> web.StreamResponse:
+        return web.FileResponse(self.folder / "openapi.json")
+
+    async def time(self, request: web.Request) -> web.StreamResponse:
+        return as_json({"now": self.counter.milliseconds()})
+
+    async def events(self, request: web.Request) -> web.StreamResponse:
+        response = web.StreamResponse(headers={"Content-Type": "text/event-stream", "X-Accel-Buffering": "no", **NO_STORE})
+        await response.prepare(request)
+        transport = request.transport
+        if transport is None:
+            return response
+        transport.get_extra_info("socket").setsockopt(socket.SOL_SOCKET, socket.SO_SNDBUF, SMALL_BUFFER)
+        page = Page()
+        page.put(b"retry: 500\n\n")
+        for name, what in (("hello", self.counter.hello()), ("state", self.counter.state()), ("lists", self.counter.lists())):
+            page.put(frame_of(name, what))
+        self.counter.pages.open.add(page)
+        try:
+            while (taken := await page.take()) and not transport.is_closing():
+                await response.write(taken)
+                if transport.get_write_buffer_size() and not await self.is_taken(transport):
+                    transport.abort()
+        except ConnectionError:
+            pass
+        finally:
+            self.counter.pages.open.discard(page)
+        return response
+
+    async def is_taken(self, transport: asyncio.WriteTransport) -> bool:
+        """Whether a slow page takes what waits for it in time."""
+        until = self.counter.terminal.clock() + READS_NOTHING
+        while transport.get_write_buffer_size() and not transport.is_closing():
+            if self.counter.terminal.clock() > until:
+                return False
+            await asyncio.sleep(LOOK_AT_SLOW_PAGE_EVERY)
+        return True
+
+    # ---- weighings
+
+    async def weigh(self, request: web.Request) -> web.StreamResponse:
+        told = await self.counter.acts.carry_out(request.path, await request.read())
+        return as_text(told.body, told.status, **({} if told.is_sent else {"X-Counter": "not_sent"}))
+
+    async def hand_on(self, request: web.Request) -> web.StreamResponse:
+        try:
+            answer = await self.counter.office.ask("GET", request.path)
+        except NoAnswer:
+            return as_text(b"counter no_answer\n", 502)
+        return as_text(answer.body, answer.status, answer.kind)
+
+    # ---- the terminal
+
+    async def zero(self, request: web.Request) -> web.StreamResponse:
+        return await self.said(lambda: self.counter.set_zero(request.headers.get("X-Remote-User", "")))
+
+    async def clear_tare(self, request: web.Request) -> web.StreamResponse:
+        return await self.said(self.counter.clear_tare)
+
+    async def said(self, command: Callable[[], Awaitable[str]]) -> web.StreamResponse:
+        try:
+            return as_json({"said": await command()})
+        except NotSent:
+            return as_json({"said": None, "why": "not_sent"}, 503)
+        except Unanswered:
+            return as_json({"said": None, "why": "unanswered"}, 504)
+
+    # ---- entries
+
+    async def entry(self, request: web.Request) -> web.StreamResponse:
+        """The text of an entry: of a ticket as the office gives it now, of a slip as it passed or as its row's digest proves it."""
+        number = int(request.match_info["number"])
+        known = self.counter.books.lists.entries.get(number)
+        if known is None or known.kind in ("second", "single"):
+            try:
+                answer = await self.counter.office.ask("GET", f"/tickets/{number}")
+            except NoAnswer:
+                return as_json({"why": "no_answer"}, 502)
+            if answer.status == 200:
+                return as_json({"text": answer.text, "from": "office"})
+            return as_json({"why": answer.text.strip()}, answer.status)
+        found = self.counter.books.lists.slip_again(number)
+        if found is None or found[0] is None:
+            return as_json({"why": "refused 17 damaged"}, 409)
+        return as_json({"text": found[0], "from": found[1]})
+
+    async def search(self, request: web.Request) -> web.StreamResponse:
+        return as_json({"hits": self.counter.books.lists.search(request.query.get("q", "")[:40]), "whole": self.counter.books.is_whole()})
+
+    async def key(self, request: web.Request) -> web.StreamResponse:
+        """Whether the journal has the key, by an export of now: that stores nothing."""
+        try:
+            answer = await self.counter.office.ask("GET", "/journal.csv", within=KEY_WITHIN)
+        except NoAnswer:
+            return as_json({"found": None}, 502)
+        if answer.status != 200:
+            return as_json({"found": None}, 503)
+        return as_json({"found": f",{request.match_info['key']},".encode() in answer.body})
+
+    async def refresh(self, request: web.Request) -> web.StreamResponse:
+        self.counter.books.wants_export = True
+        return as_json({}, 202)
+
+    # ---- kept tares
+
+    async def keep_tare(self, request: web.Request) -> web.StreamResponse:
+        try:
+            wish = json.loads(await request.read())
+            self.counter.tares.keep(request.match_info["plate"], wish["kg"], request.headers.get("X-Remote-User", ""))
+        except (ValueError, KeyError, TypeError):
+            return as_json({"why": 'send {"kg": a whole number}'}, 422)
+        except BadTare as fault:
+            return as_json({"why": str(fault)}, 422)
+        self.counter.tell_tares()
+        return as_json({})
+
+    async def drop_tare(self, request: web.Request) -> web.StreamResponse:
+        self.counter.tares.drop(request.match_info["plate"])
+        self.counter.tell_tares()
+        return as_json({})
+
+    # ---- monitoring
+
+    async def health(self, request: web.Request) -> web.StreamResponse:
+        health = health_of(self.counter)
+        return as_json(health, 200 if health["can_weigh"] else 503)
+
+    async def metrics(self, request: web.Request) -> web.StreamResponse:
+        return as_text(metrics_of(self.counter).encode(), 200, "text/plain; version=0.0.4; charset=utf-8")

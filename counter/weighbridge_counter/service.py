@@ -1,0 +1,69 @@
+"""Which process is the service: its words, its start and its program, as /proc shows them to every user of the machine.
+
+A start is told from a connection that was only cut by the process and the moment of its start. The zero that was set before a start may be lost.
+"""
+
+import os
+import subprocess
+from dataclasses import dataclass
+from pathlib import Path
+
+PROC = Path("/proc")
+VERSION_WITHIN = 5.0  # seconds
+
+
+@dataclass(frozen=True)
+class Service:
+    process: int
+    started_ticks: int  # since the machine's start
+    boot: str
+    words: tuple[str, ...]
+
+    @property
+    def identity(self) -> str:
+        return f"{self.boot} {self.process} {self.started_ticks}"
+
+    def started_at(self) -> float:
+        """Seconds since 1970."""
+        booted = next((int(it.split()[1]) for it in (PROC / "stat").read_text().splitlines() if it.startswith("btime ")), 0)
+        return booted + self.started_ticks / os.sysconf("SC_CLK_TCK")
+
+
+def listener_user(address: tuple[str, int]) -> int | None:
+    """The user whose process listens on the address; None if nobody does, or it can't be seen."""
+    wanted = "%s:%04X" % ("".join(f"{int(it):02X}" for it in reversed(address[0].split("."))), address[1])
+    try:
+        rows = [it.split() for it in (PROC / "net/tcp").read_text().splitlines()[1:]]
+    except OSError:
+        return None
+    return next((int(it[7]) for it in rows if it[1] == wanted and it[3] == "0A"), None)
+
+
+def find_service(terminal: tuple[str, int]) -> Service | None:
+    """The process that was told to serve this terminal, of the user who listens on its address; None if none can be seen."""
+    user, wanted = listener_user(terminal), f"{terminal[0]}:{terminal[1]}"
+    if user is None:
+        return None
+    for folder in PROC.iterdir():
+        if not folder.name.isdigit():
+            continue
+        try:
+            words = (folder / "cmdline").read_bytes().decode("utf-8", "replace").rstrip("\0").split("\0")
+            if "serve" not in words or wanted not in words or folder.stat().st_uid != user:
+                continue
+            ticks = int((folder / "stat").read_text().rpartition(")")[2].split()[19])
+            return Service(int(folder.name), ticks, (PROC / "sys/kernel/random/boot_id").read_text().strip(), tuple(words))
+        except (OSError, IndexError, ValueError):
+            continue
+    return None
+
+
+def program_of(service: Service) -> dict[str, str | bool]:
+    """What the program's file says of itself, and whether it was changed since the service was started, so that another one runs."""
+    path = Path(service.words[0])
+    try:
+        said = subprocess.run([str(path), "--version"], capture_output=True, text=True, timeout=VERSION_WITHIN, stdin=subprocess.DEVNULL).stdout
+        changed = path.stat().st_mtime > service.started_at() or path.stat().st_ctime > service.started_at()
+    except (OSError, subprocess.SubprocessError):
+        return {"path": str(path), "version": "", "changed_since": False}
+    return {"path": str(path), "version": said.strip(), "changed_since": changed}

@@ -1,0 +1,41 @@
+"""Tares that clerks keep for a plate: a wish, with its last day and who kept it. The ticket says PT of it."""
+
+import re
+from collections.abc import Callable
+from datetime import date, timedelta
+from typing import Any
+
+from .files import Files
+
+FILE = "tares.json"
+PLATE = re.compile(r"[A-Z0-9-]{1,12}")
+
+
+class BadTare(Exception):
+    """No plate, or no tare, that the scale could take."""
+
+
+class Tares:
+    def __init__(self, files: Files, today: Callable[[], date], days: int, most: int) -> None:
+        self.files, self.today, self.days, self.most = files, today, days, most
+        kept = files.read(FILE)
+        self.kept: dict[str, dict[str, Any]] = kept if isinstance(kept, dict) else {}
+
+    def keep(self, plate: str, kg: object, by: str) -> None:
+        if not PLATE.fullmatch(plate):
+            raise BadTare("plate: 1 to 12 of A-Z, 0-9 and -")
+        if not isinstance(kg, int) or isinstance(kg, bool) or not 0 < kg < self.most:
+            raise BadTare(f"kg: a whole number from 1 to {self.most - 1}")
+        until = self.today() + timedelta(days=self.days)
+        self._replace({**self.kept, plate: {"kg": kg, "until": until.isoformat(), "by": by}})
+
+    def drop(self, plate: str) -> None:
+        self._replace({it: tare for it, tare in self.kept.items() if it != plate})
+
+    def shown(self) -> dict[str, dict[str, Any]]:
+        today = self.today().isoformat()
+        return {plate: {**tare, "is_over": tare["until"] < today} for plate, tare in self.kept.items()}
+
+    def _replace(self, kept: dict[str, dict[str, Any]]) -> None:
+        self.files.write(FILE, kept)
+        self.kept = kept
