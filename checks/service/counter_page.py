@@ -14,6 +14,7 @@ from countering import TOP, Bridge, becomes, holds, kg_of, same
 from network import Network
 
 ENTER, ESCAPE, TAB, SPACE, F4, F8, F9 = "\ue007", "\ue00c", "\ue004", " ", "\ue034", "\ue038", "\ue039"
+FAULTS = ("No connection to the counter's program.", "The scale's program doesn't run.", "The scale doesn't answer.")
 LOOKS = [(1280, 800, False, "en"), (1280, 800, True, "de"), (360, 740, False, "de"), (360, 740, True, "en")]
 # Text whose colour is too near to what is behind it.
 FAINT = """
@@ -292,6 +293,7 @@ def gone_after(clerk, stop, go_on):
     while clerk.kg() is not None and time.monotonic() - began < 5:
         time.sleep(0.02)
     took = time.monotonic() - began
+    becomes("and a sentence says what is wrong", lambda: clerk.words().startswith(FAULTS), 8)
     words = clerk.words()
     go_on()
     becomes("it comes back by itself", lambda: clerk.kg() is not None, 12)
