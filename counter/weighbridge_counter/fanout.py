@@ -258,7 +258,7 @@ class Fanout:
         question, now = self.question, self.clock()
         if not (self.is_settled or (self.holder is not None and self.holder.may_settle)):
             return
-        if question is None or question.sent_at is not None or now > question.until or self.swallow:
+        if question is None or question.sent_at is not None or now > question.until:
             return
         if self.is_fresh(max(0.06, 1.5 * min(self.period, SILENT_PERIOD))):
             question.sent_at = now
