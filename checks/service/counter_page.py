@@ -15,7 +15,7 @@ from network import Network
 
 ENTER, ESCAPE, TAB, SPACE, F4, F8, F9 = "\ue007", "\ue00c", "\ue004", " ", "\ue034", "\ue038", "\ue039"
 FAULTS = ("No connection to the counter's program.", "The scale's program doesn't run.", "The scale doesn't answer.")
-LOOKS = [(1280, 800, False, "en"), (1280, 800, True, "de"), (360, 740, False, "de"), (360, 740, True, "en")]
+LOOKS = [(1280, 800, False, "en"), (1280, 800, True, "de"), (360, 740, False, "de"), (360, 740, True, "en"), (1000, 640, False, "fr"), (360, 640, True, "es")]
 # Text whose colour is too near to what is behind it.
 FAINT = """
 const numbers = text => (text.match(/[\\d.]+/g) || []).map(Number);
@@ -31,7 +31,9 @@ for (const it of document.querySelectorAll('body *')) {
 }
 return found;"""
 WIDE = """return [...document.querySelectorAll('body *')].filter(it => it.checkVisibility() && !it.closest('#paper') && it.getBoundingClientRect().right > innerWidth + 1)
-  .map(it => `${it.tagName}#${it.id}`).concat(document.documentElement.scrollWidth > innerWidth ? ['the page'] : [])"""
+  .map(it => `${it.tagName}#${it.id}`).concat(document.documentElement.scrollWidth > innerWidth ? ['the page'] : [])
+  .concat([...document.querySelectorAll('#work > * *, header *, #alarms *')].filter(it => it.checkVisibility() && !it.closest('select') &&
+    it.getBoundingClientRect().bottom > it.closest('#work > *, header, #alarms').getBoundingClientRect().bottom + 1).map(it => `cut: ${it.tagName}#${it.id}`))"""
 
 
 class Clerk:
