@@ -220,8 +220,18 @@ def show(program, pace, seconds):
     played = Played(bridge, pace)
     presets = iter(range(40, 10**9, 40))
     tares = iter(lambda: 40 + (next(presets) - 40) % 56000, None)
-    threads = [threading.Thread(target=act, args=(played, *words), daemon=True) for act, words in (
-        (till, ("till", tares, 1)), (till, ("other", tares, 2)), (page, ("desk", 3)), (page, ("phone", 4)), (watch, ()), (display, ()), (vehicles, ()))]
+    threads = [
+        threading.Thread(target=act, args=(played, *words), daemon=True)
+        for act, words in (
+            (till, ("till", tares, 1)),
+            (till, ("other", tares, 2)),
+            (page, ("desk", 3)),
+            (page, ("phone", 4)),
+            (watch, ()),
+            (display, ()),
+            (vehicles, ()),
+        )
+    ]
     try:
         for it in threads:
             it.start()
