@@ -107,7 +107,11 @@ def nothing_late(bridge):
             said, after, late = refused_while_held(bridge, line, seconds)
             is_refused = all(it is None or it.endswith(" I") for it in said)
             is_right = is_refused and after == ["S S         60 kg", NO_TARE] and late == 0
-            holds(f"{line} while the service stands still for {seconds} s is refused, and nothing acts later", is_right, "" if is_right else f"{said}, {after}, {late}")
+            holds(
+                f"{line} while the service stands still for {seconds} s is refused, and nothing acts later",
+                is_right,
+                "" if is_right else f"{said}, {after}, {late}",
+            )
     bridge.put(0)
     becomes_up(bridge)
 
@@ -142,7 +146,11 @@ def nothing_late_when_the_counter_stands_still(bridge):
         told = page.get()
         bridge.wait_until_up()
         time.sleep(0.5)
-        same(f"what came while the counter stood still for {seconds} s is not carried out", (NO_TARE, (503, "counter late\n")), (bridge.tare(), told[:2]))
+        same(
+            f"what came while the counter stood still for {seconds} s is not carried out",
+            (NO_TARE, (503, "counter late\n")),
+            (bridge.tare(), told[:2]),
+        )
 
 
 def a_tare_of_one_weighing(bridge):
@@ -164,10 +172,17 @@ def a_tare_of_one_weighing(bridge):
     same("one that a till has set is refused by name, and stays", ((409, "counter tare_set\n"), "TA A       3000 kg"), (single(5000), bridge.tare()))
     same("and a First meets it by name", (409, "refused 9 tare_active\n"), bridge.weigh("tare-first", "first", "AB-12"))
     same("the page clears it", ('{"said": "TAC A"}', NO_TARE), (bridge.ask("POST", "/tare/clear")[1], bridge.tare()))
-    acts = [Meanwhile(bridge.weigh, f"side-{it}", kind, f"S-{it}", tare) for it, (kind, tare) in enumerate([("single", 4000), ("first", None), ("single", 5000), ("first", None)])]
+    acts = [
+        Meanwhile(bridge.weigh, f"side-{it}", kind, f"S-{it}", tare)
+        for it, (kind, tare) in enumerate([("single", 4000), ("first", None), ("single", 5000), ("first", None)])
+    ]
     told = [it.get() for it in acts]
     stored = [it for it in told if it[0] == 201]
-    holds("of four at once one is stored, with its own tare or none", len(stored) == 1 and all(it[1].split()[0] in ("refused", "counter") for it in told if it[0] != 201), str([it[1].split("\n")[0] for it in told]))
+    holds(
+        "of four at once one is stored, with its own tare or none",
+        len(stored) == 1 and all(it[1].split()[0] in ("refused", "counter") for it in told if it[0] != 201),
+        str([it[1].split("\n")[0] for it in told]),
+    )
     same("and none is left", NO_TARE, bridge.tare())
 
 
@@ -211,7 +226,11 @@ def zero_since_the_start(bridge):
     bridge.start_counter()
     becomes("and still is once the counter was started again", lambda: bridge.health()["state"]["zero"]["known"])
     service = bridge.health()["service"]
-    holds("the service's program, words and start are shown", service["process"] == bridge.service.pid and "--pace" in service["words"] and service["program"]["version"].startswith("weighbridge "), str(service["program"]))
+    holds(
+        "the service's program, words and start are shown",
+        service["process"] == bridge.service.pid and "--pace" in service["words"] and service["program"]["version"].startswith("weighbridge "),
+        str(service["program"]),
+    )
     bridge.kill_counter()
     bridge.kill_service()
     bridge.start_service()

@@ -14,7 +14,15 @@ from countering import TOP, Bridge, becomes, holds, kg_of, same
 from network import Network
 
 ENTER, ESCAPE, TAB, SPACE, F4, F8, F9 = "\ue007", "\ue00c", "\ue004", " ", "\ue034", "\ue038", "\ue039"
-LOOKS = [(1280, 800, False, "en"), (1280, 800, True, "de"), (360, 740, False, "de"), (360, 740, True, "en")]
+FAULTS = ("No connection to the counter's program.", "The scale's program doesn't run.", "The scale doesn't answer.")
+LOOKS = [
+    (1280, 800, False, "en"),
+    (1280, 800, True, "de"),
+    (360, 740, False, "de"),
+    (360, 740, True, "en"),
+    (1000, 640, False, "fr"),
+    (360, 640, True, "es"),
+]
 # Text whose colour is too near to what is behind it.
 FAINT = """
 const numbers = text => (text.match(/[\\d.]+/g) || []).map(Number);
@@ -30,7 +38,9 @@ for (const it of document.querySelectorAll('body *')) {
 }
 return found;"""
 WIDE = """return [...document.querySelectorAll('body *')].filter(it => it.checkVisibility() && !it.closest('#paper') && it.getBoundingClientRect().right > innerWidth + 1)
-  .map(it => `${it.tagName}#${it.id}`).concat(document.documentElement.scrollWidth > innerWidth ? ['the page'] : [])"""
+  .map(it => `${it.tagName}#${it.id}`).concat(document.documentElement.scrollWidth > innerWidth ? ['the page'] : [])
+  .concat([...document.querySelectorAll('#work > * *, header *, #alarms *')].filter(it => it.checkVisibility() && !it.closest('select') &&
+    it.getBoundingClientRect().bottom > it.closest('#work > *, header, #alarms').getBoundingClientRect().bottom + 1).map(it => `cut: ${it.tagName}#${it.id}`))"""
 
 
 class Clerk:
@@ -44,7 +54,9 @@ class Clerk:
     def load(self, lang="en"):
         self.browser.go(f"{self.at}/?lang={lang}")
         # a page that prints would wait for a dialog
-        self.browser.run("window.papers = []; window.print = () => window.papers.push([document.getElementById('paper-copy').textContent, document.getElementById('paper-text').textContent]);")
+        self.browser.run(
+            "window.papers = []; window.print = () => window.papers.push([document.getElementById('paper-copy').textContent, document.getElementById('paper-text').textContent]);"
+        )
 
     def words(self):
         return self.browser.run("return document.getElementById('words').textContent")
@@ -151,7 +163,11 @@ def a_tare_by_keyboard(bridge, clerk):
     same("Escape clears the plate", "", clerk.plate())
     bridge.terminal_says("till", "TA 3000 kg")
     clerk.sees("A tare of 3,000 kg is set.")
-    same("NET stands beside the weight", ("NET", 15340, "Tare 3,000 kg, gross 18,340 kg"), (clerk.browser.text("#kind"), clerk.kg(), clerk.browser.text("#parts")))
+    same(
+        "NET stands beside the weight",
+        ("NET", 15340, "Tare 3,000 kg, gross 18,340 kg"),
+        (clerk.browser.text("#kind"), clerk.kg(), clerk.browser.text("#parts")),
+    )
     for _ in range(12):
         if clerk.focus() == "Clear the tare":
             break
@@ -216,7 +232,11 @@ def no_request_twice(bridge, clerk):
         clerk.sees("No answer yet.", 4, f"{plan}: the clerk sees that no answer came")
         clerk.sees("Slip", 12, f"{plan}: and then the slip")
         sent = clerk.browser.run("return window.sent")
-        same(f"{plan}: sent as often as was cut and once more, under one key, stored once", (len(plan) + 1, 1, before + 1), (len(sent), len(set(sent)), len(bridge.entries())))
+        same(
+            f"{plan}: sent as often as was cut and once more, under one key, stored once",
+            (len(plan) + 1, 1, before + 1),
+            (len(sent), len(set(sent)), len(bridge.entries())),
+        )
     bridge.next_vehicle(9170)
     clerk.browser.run(hook, ["not_sent"])
     clerk.keys("BUSY-1")
@@ -232,14 +252,18 @@ def kept_over_a_load(bridge, clerk):
     bridge.next_vehicle(9170)
     clerk.keys("KEPT-1")
     clerk.sees("Ready.")
-    clerk.browser.run("window.fetch = (target, how) => target.endsWith('/weighings') ? Promise.reject(new TypeError('cut')) : window.realFetch(target, how)")
+    clerk.browser.run(
+        "window.fetch = (target, how) => target.endsWith('/weighings') ? Promise.reject(new TypeError('cut')) : window.realFetch(target, how)"
+    )
     clerk.keys(ENTER)
     clerk.sees("No answer yet.")
     clerk.load()
     clerk.sees("Slip", what="a page that is loaded again sends what it kept")
     same("and it is stored once", 1, sum(it[3] == "KEPT-1" for it in bridge.entries()))
     bridge.next_vehicle(9170)
-    clerk.browser.run("localStorage.setItem('weighbridge.request', JSON.stringify({ target: '/weighings', form: { key: 'page-old', kind: 'first', plate: 'OLD-1' }, made: Date.now() - 60000 }))")
+    clerk.browser.run(
+        "localStorage.setItem('weighbridge.request', JSON.stringify({ target: '/weighings', form: { key: 'page-old', kind: 'first', plate: 'OLD-1' }, made: Date.now() - 60000 }))"
+    )
     clerk.load()
     clerk.sees("No answer came to: First weighing, OLD-1", what="one of long ago isn't sent by itself")
     same("nothing was stored of it", False, bridge.has_key("page-old"))
@@ -292,6 +316,7 @@ def gone_after(clerk, stop, go_on):
     while clerk.kg() is not None and time.monotonic() - began < 5:
         time.sleep(0.02)
     took = time.monotonic() - began
+    becomes("and a sentence says what is wrong", lambda: clerk.words().startswith(FAULTS), 8)
     words = clerk.words()
     go_on()
     becomes("it comes back by itself", lambda: clerk.kg() is not None, 12)
@@ -337,7 +362,11 @@ def never_old(bridge, clerk, what, seconds=6, may_show_none=False):
         if kg not in fresh:
             late.append(kg)
     delays.sort()
-    holds(f"{what}: no weight is more than a second old", not late and (may_show_none or seen > 5), f"{seen} looks; {len(late)} old{'; a change is shown after %.0f ms median' % (1000 * delays[len(delays) // 2]) if delays else ''}")
+    holds(
+        f"{what}: no weight is more than a second old",
+        not late and (may_show_none or seen > 5),
+        f"{seen} looks; {len(late)} old{'; a change is shown after %.0f ms median' % (1000 * delays[len(delays) // 2]) if delays else ''}",
+    )
     return delays
 
 
@@ -359,13 +388,21 @@ def press_to_ticket(bridge, clerk, count=9):
         times.append(clerk.browser.run("return window.took"))
         clerk.keys(ESCAPE)
     times.sort()
-    holds(f"from the press to the answer on the page, at {bridge.pace} readings a second", times[count // 2] <= 200, f"median {times[count // 2]:.0f} ms, worst {times[-1]:.0f} ms of {count}")
+    holds(
+        f"from the press to the answer on the page, at {bridge.pace} readings a second",
+        times[count // 2] <= 200,
+        f"median {times[count // 2]:.0f} ms, worst {times[-1]:.0f} ms of {count}",
+    )
 
 
 def a_change_at_the_page(bridge, clerk, network):
     """From the converter's line to the page, as the page itself sees it: of its own clock."""
     delays = never_old(bridge, clerk, "on a good network")
-    holds("a change of load is at the page in at most 120 ms, median", delays and delays[len(delays) // 2] <= 0.12, f"{1000 * delays[len(delays) // 2]:.0f} ms with the look itself" if delays else "none")
+    holds(
+        "a change of load is at the page in at most 120 ms, median",
+        delays and delays[len(delays) // 2] <= 0.12,
+        f"{1000 * delays[len(delays) // 2]:.0f} ms with the look itself" if delays else "none",
+    )
     network.delay, network.speed = 0.3, 8000
     time.sleep(2)
     never_old(bridge, clerk, "on a slow network of 300 ms and 8 kB a second")
@@ -376,7 +413,11 @@ def a_change_at_the_page(bridge, clerk, network):
     bridge.put(9170)
     becomes("a weight is shown", lambda: clerk.kg() == 18340)
     group = os.getpgid(clerk.browser.driver.pid)
-    suspended = [int(it) for it in subprocess.run(["pgrep", "-f", clerk.browser.folder], capture_output=True, text=True).stdout.split() if int(it) != os.getpid()]
+    suspended = [
+        int(it)
+        for it in subprocess.run(["pgrep", "-f", clerk.browser.folder], capture_output=True, text=True).stdout.split()
+        if int(it) != os.getpid()
+    ]
     for it in suspended:
         os.kill(it, signal.SIGSTOP)
     bridge.converter.load = 4070
@@ -405,7 +446,9 @@ def looks(bridge):
                 time.sleep(0.35)
                 found.extend(f"{state}: {it}" for it in clerk.browser.run(WIDE) + clerk.browser.run(FAINT))
                 text = clerk.browser.run("return document.body.innerText")
-                found.extend(f"{state}: no word {it}" for it in re.findall(r"\b(?:link|refused|counter|kind|done|weigh)_\w+|undefined|NaN|\{\w+\}", text))
+                found.extend(
+                    f"{state}: no word {it}" for it in re.findall(r"\b(?:link|refused|counter|kind|done|weigh)_\w+|undefined|NaN|\{\w+\}", text)
+                )
 
             bridge.put(0)
             look("empty")
@@ -463,7 +506,11 @@ class Nginx:
         with open(f"{TOP}/docs/counter.md", encoding="utf-8") as page:
             section = page.read().split("### Behind nginx")[1].split("\n### ")[0]
         commands = "set -e\n" + "".join(it for it in re.findall(r"(?:^    .*\n)+", section, re.M) if "systemctl" not in it)
-        for old, new in (("/etc/nginx", f"{self.folder}/etc/nginx"), ("/usr/share/doc/weighbridge-counter/examples", f"{TOP}/packaging/counter"), ("passwd -6", "passwd -6 weigh-in")):
+        for old, new in (
+            ("/etc/nginx", f"{self.folder}/etc/nginx"),
+            ("/usr/share/doc/weighbridge-counter/examples", f"{TOP}/packaging/counter"),
+            ("passwd -6", "passwd -6 weigh-in"),
+        ):
             commands = replaced("docs/counter.md", commands, old, new)
         if os.getuid() != 0:
             commands = commands.replace("chown ", "true ").replace("chmod 640", "chmod 644")
@@ -485,11 +532,20 @@ class Nginx:
         with open(f"{self.folder}/nginx.conf", "w") as file:
             file.write("user www-data;\ndaemon off;\nworker_processes 1;\npid nginx.pid;\nevents {}\nhttp {\n    access_log access.log;\n")
             file.write(f"{paths}    include etc/nginx/conf.d/*.conf;\n}}\n")
-        self.process = subprocess.Popen(["nginx", "-p", self.folder, "-e", "error.log", "-c", "nginx.conf"], stdin=subprocess.DEVNULL, stdout=subprocess.DEVNULL, stderr=subprocess.DEVNULL)
+        self.process = subprocess.Popen(
+            ["nginx", "-p", self.folder, "-e", "error.log", "-c", "nginx.conf"],
+            stdin=subprocess.DEVNULL,
+            stdout=subprocess.DEVNULL,
+            stderr=subprocess.DEVNULL,
+        )
         time.sleep(0.7)
 
     def ask(self, target, *words):
-        it = subprocess.run(["curl", "-sk", "-m", "5", "-o", "/dev/null", "-w", "%{http_code} %{http_version}", *words, f"https://{HOST}:{self.port}{target}"], capture_output=True, text=True)
+        it = subprocess.run(
+            ["curl", "-sk", "-m", "5", "-o", "/dev/null", "-w", "%{http_code} %{http_version}", *words, f"https://{HOST}:{self.port}{target}"],
+            capture_output=True,
+            text=True,
+        )
         return it.stdout
 
     def close(self):
@@ -520,7 +576,9 @@ def behind_nginx(bridge):
         clerk.keys(ENTER)
         clerk.sees("Slip", what="and a vehicle is weighed behind nginx")
         never_old(bridge, clerk, "behind nginx", 4)
-        clerk.browser.run("return fetch(location.origin + '/tares/NGINX-1', { method: 'PUT', body: JSON.stringify({ kg: 5000 }) }).then(it => it.status)")
+        clerk.browser.run(
+            "return fetch(location.origin + '/tares/NGINX-1', { method: 'PUT', body: JSON.stringify({ kg: 5000 }) }).then(it => it.status)"
+        )
         kept = open(f"{bridge.folder}/state/tares.json").read()
         holds("who kept a tare is known by the password", '"by": "clerk"' in kept, kept)
         bridge.put(9170)
