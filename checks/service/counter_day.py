@@ -8,7 +8,7 @@ import random
 import re
 import time
 
-from counter_page import ENTER, ESCAPE, F9, Clerk, at_of
+from counter_clerk import ENTER, ESCAPE, F9, Clerk, at_of
 from countering import Bridge, becomes, holds, same
 from network import Network
 

@@ -186,34 +186,48 @@ def a_tare_of_one_weighing(bridge):
     same("and none is left", NO_TARE, bridge.tare())
 
 
+def disturb(bridge, what, told):
+    """Kills or holds the counter or the service, and waits until all is there again."""
+    if "hold" in what:
+        bridge.hold(bridge.counter if what == "hold counter" else bridge.service, random.uniform(1.1, 2.5))
+        told.get()
+    elif what == "counter":
+        bridge.kill_counter()
+        told.get()
+        bridge.start_counter(is_waited_for=False)
+    else:
+        bridge.kill_service()
+        told.get()
+        time.sleep(0.05)
+        bridge.start_service()
+    bridge.wait_until_up()
+
+
 def killed_within_the_act(bridge, kills):
-    """The counter, then the service, killed at moments over the whole act: no tare is left, and one key has one entry."""
+    """The counter and the service killed, and each held, at moments over the whole act: no tare is left, and one key has one entry."""
     span, left, stored, twice = 0.05 + 3.0 / bridge.pace, 0, 0, 0
-    for what in ("counter", "service"):
-        for at in range(kills):
-            bridge.next_vehicle(9170)
-            key = f"kill-{what}-{at}"
-            told = Meanwhile(bridge.weigh, key, "single", f"K-{at}", 5000, within=3)
-            time.sleep(span * at / kills)
-            if what == "counter":
-                bridge.kill_counter()
-                told.get()
-                bridge.start_counter()
-            else:
-                bridge.kill_service()
-                told.get()
-                time.sleep(0.05)
-                bridge.start_service()
-                bridge.wait_until_up()
-            left += bridge.tare() != NO_TARE
-            count = sum(it[1] == key for it in bridge.entries())
-            again = bridge.weigh(key, "single", f"K-{at}", 5000)
-            stored += count
-            twice += count > 1 or (count == 1 and again[0] != 201) or sum(it[1] == key for it in bridge.entries()) > 1
-            if told.get() and told.get()[0] == 201:
-                twice += told.get()[1] != again[1]
-    same(f"killed {2 * kills} times within the act, no tare is left and each key has one entry", (0, 0), (left, twice))
-    holds("some of them were stored, and some not", 0 < stored < 2 * kills, f"{stored} stored")
+    moments = [
+        (what, at)
+        for what, count in (("counter", kills), ("service", kills), ("hold counter", kills // 3), ("hold service", kills // 3))
+        for at in range(count)
+    ]
+    for what, at in moments:
+        bridge.next_vehicle(9170)
+        key = f"kill-{what.replace(' ', '-')}-{at}"
+        told = Meanwhile(bridge.weigh, key, "single", f"K-{at}", 5000, within=8)
+        time.sleep(span * at / (kills if "hold" not in what else kills // 3))
+        disturb(bridge, what, told)
+        left += bridge.tare() != NO_TARE
+        count = sum(it[1] == key for it in bridge.entries())
+        again = bridge.weigh(key, "single", f"K-{at}", 5000)
+        stored += count
+        twice += count > 1 or (count == 1 and again[0] != 201) or sum(it[1] == key for it in bridge.entries()) > 1
+        if told.get() and told.get()[0] == 201:
+            twice += told.get()[1] != again[1]
+    same(
+        f"killed {2 * kills} times and held {kills // 3 * 2} times within the act, no tare is left and each key has one entry", (0, 0), (left, twice)
+    )
+    holds("some of them were stored, and some not", 0 < stored < len(moments), f"{stored} stored")
     holds("the journal is sound", bridge.ask("GET", "/check", port=bridge.office)[1].startswith("SOUND"))
 
 

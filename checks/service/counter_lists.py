@@ -4,6 +4,7 @@ import json
 import os
 import re
 import sqlite3
+import subprocess
 import time
 
 from countering import TOP, Bridge, becomes, holds, same
@@ -30,6 +31,15 @@ def one_text(bridge):
     for target in ("/indication", "/tickets/1", "/tickets/x", "/tickets/4294967296"):
         same(f"{target} passes", bridge.ask("GET", target, port=bridge.office)[:2], bridge.ask("GET", target)[:2])
     same("whether a key is in the journal", [True, False], [bridge.json("GET", f"/keys/{it}")["found"] for it in ("text-1", "text-2")])
+
+
+def clients_through_it(bridge):
+    """clients/weigh.py and weigh.sh weigh through the counter as at the office."""
+    for name, plate in (("weigh.py", "PY-1"), ("weigh.sh", "SH-1")):
+        bridge.next_vehicle(9170)
+        words = [os.path.join(TOP, "clients", name), "first", plate, f"client-{plate}"]
+        it = subprocess.run(words, env={**os.environ, "WEIGHBRIDGE": f"http://127.0.0.1:{bridge.http}"}, capture_output=True, text=True, timeout=60)
+        same(f"{name} through the counter", (0, bridge.weigh(f"client-{plate}", "first", plate, port=bridge.office)[1]), (it.returncode, it.stdout))
 
 
 def on_lists(bridge, plate):
@@ -272,6 +282,7 @@ def show(program):
     bridge = Bridge(program, 20).start_counter()
     try:
         one_text(bridge)
+        clients_through_it(bridge)
         what_did_not_pass(bridge)
         kept_tares(bridge)
         who_may_ask(bridge)
