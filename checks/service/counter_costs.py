@@ -111,10 +111,22 @@ def show(program, seconds=12):
             print(line, flush=True)
             holds(f"{pages} pages at {pace}: each has a stream that stays", len(streams.heard) == pages and streams.ended == 0)
             if pages == 20:
-                holds(f"{pages} pages at {pace}: at most {MOST_CPU:.0f} % of a core and {MOST_MEMORY:.0f} MB", counter <= MOST_CPU and memory <= MOST_MEMORY, f"{counter:.1f} %, {memory:.0f} MB")
+                holds(
+                    f"{pages} pages at {pace}: at most {MOST_CPU:.0f} % of a core and {MOST_MEMORY:.0f} MB",
+                    counter <= MOST_CPU and memory <= MOST_MEMORY,
+                    f"{counter:.1f} %, {memory:.0f} MB",
+                )
             median, most = 1000 * statistics.median(ages), 1000 * ages[int(0.99 * len(ages))]
-            holds(f"{pages} pages at {pace}: from the converter's line to the event", median <= 120, f"median {median:.0f} ms, 99 % {most:.0f} ms of {len(ages)}")
+            holds(
+                f"{pages} pages at {pace}: from the converter's line to the event",
+                median <= 120,
+                f"median {median:.0f} ms, 99 % {most:.0f} ms of {len(ages)}",
+            )
             for kind, them in times.items():
-                holds(f"from the request to the text of a {kind}, at {pace}", statistics.median(them) <= 0.2, f"median {1000 * statistics.median(them):.0f} ms, worst {1000 * max(them):.0f} ms of {len(them)}")
+                holds(
+                    f"from the request to the text of a {kind}, at {pace}",
+                    statistics.median(them) <= 0.2,
+                    f"median {1000 * statistics.median(them):.0f} ms, worst {1000 * max(them):.0f} ms of {len(them)}",
+                )
         finally:
             bridge.close()

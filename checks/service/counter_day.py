@@ -8,12 +8,21 @@ import random
 import re
 import time
 
-from counter_page import ENTER, ESCAPE, F9, Clerk, at_of
+from counter_clerk import ENTER, ESCAPE, F9, Clerk, at_of
 from countering import Bridge, becomes, holds, same
 from network import Network
 
 VEHICLES, PATIENCE = 30, 60
-FAULTS = ["counter killed", "service killed", "service held", "network gone", "converter silent", "a till's tare", "counter held", "page loaded again"]
+FAULTS = [
+    "counter killed",
+    "service killed",
+    "service held",
+    "network gone",
+    "converter silent",
+    "a till's tare",
+    "counter held",
+    "page loaded again",
+]
 # What a sentence asks for. The first that is found in it holds.
 ASKED = [
     ("Zero is set", "wait"),
@@ -131,7 +140,9 @@ class Day:
             load = self.site.pop(plate) - self.rng.randrange(2500, 5000)
             typed = plate.replace("-", "") if self.rng.random() < 0.3 else plate.lower().replace("-", " ")
         else:
-            plate, load = f"HB-{self.rng.choice('ABCDEFGH')}{self.rng.choice('KLMNP')}-{number}{self.rng.randrange(10, 99)}", self.rng.randrange(8000, 16000)
+            plate, load = f"HB-{self.rng.choice('ABCDEFGH')}{self.rng.choice('KLMNP')}-{number}{self.rng.randrange(10, 99)}", self.rng.randrange(
+                8000, 16000
+            )
             self.site[plate], typed = load, plate.lower()
         self.work(plate, load, typed, fault)
 
@@ -151,7 +162,11 @@ def show(program):
         same("what the clerk was told is what is stored", rows, day.told)
         holds("each vehicle is weighed", len(rows) == VEHICLES, f"{len(rows)}")
         holds("the journal is sound", bridge.ask("GET", "/check", port=bridge.office)[1].startswith("SOUND"))
-        becomes("the lists have all of them", lambda: f"_entries {len(rows)}\n" in bridge.ask("GET", "/metrics")[1] and bridge.health()["state"]["lists_whole"], 20)
+        becomes(
+            "the lists have all of them",
+            lambda: f"_entries {len(rows)}\n" in bridge.ask("GET", "/metrics")[1] and bridge.health()["state"]["lists_whole"],
+            20,
+        )
         same("no tare is left", "TA A          0 kg", bridge.tare())
         for words, seconds in day.long:
             print(f"    {seconds:3} s  {words}")

@@ -107,7 +107,11 @@ def nothing_late(bridge):
             said, after, late = refused_while_held(bridge, line, seconds)
             is_refused = all(it is None or it.endswith(" I") for it in said)
             is_right = is_refused and after == ["S S         60 kg", NO_TARE] and late == 0
-            holds(f"{line} while the service stands still for {seconds} s is refused, and nothing acts later", is_right, "" if is_right else f"{said}, {after}, {late}")
+            holds(
+                f"{line} while the service stands still for {seconds} s is refused, and nothing acts later",
+                is_right,
+                "" if is_right else f"{said}, {after}, {late}",
+            )
     bridge.put(0)
     becomes_up(bridge)
 
@@ -142,7 +146,11 @@ def nothing_late_when_the_counter_stands_still(bridge):
         told = page.get()
         bridge.wait_until_up()
         time.sleep(0.5)
-        same(f"what came while the counter stood still for {seconds} s is not carried out", (NO_TARE, (503, "counter late\n")), (bridge.tare(), told[:2]))
+        same(
+            f"what came while the counter stood still for {seconds} s is not carried out",
+            (NO_TARE, (503, "counter late\n")),
+            (bridge.tare(), told[:2]),
+        )
 
 
 def a_tare_of_one_weighing(bridge):
@@ -164,41 +172,62 @@ def a_tare_of_one_weighing(bridge):
     same("one that a till has set is refused by name, and stays", ((409, "counter tare_set\n"), "TA A       3000 kg"), (single(5000), bridge.tare()))
     same("and a First meets it by name", (409, "refused 9 tare_active\n"), bridge.weigh("tare-first", "first", "AB-12"))
     same("the page clears it", ('{"said": "TAC A"}', NO_TARE), (bridge.ask("POST", "/tare/clear")[1], bridge.tare()))
-    acts = [Meanwhile(bridge.weigh, f"side-{it}", kind, f"S-{it}", tare) for it, (kind, tare) in enumerate([("single", 4000), ("first", None), ("single", 5000), ("first", None)])]
+    acts = [
+        Meanwhile(bridge.weigh, f"side-{it}", kind, f"S-{it}", tare)
+        for it, (kind, tare) in enumerate([("single", 4000), ("first", None), ("single", 5000), ("first", None)])
+    ]
     told = [it.get() for it in acts]
     stored = [it for it in told if it[0] == 201]
-    holds("of four at once one is stored, with its own tare or none", len(stored) == 1 and all(it[1].split()[0] in ("refused", "counter") for it in told if it[0] != 201), str([it[1].split("\n")[0] for it in told]))
+    holds(
+        "of four at once one is stored, with its own tare or none",
+        len(stored) == 1 and all(it[1].split()[0] in ("refused", "counter") for it in told if it[0] != 201),
+        str([it[1].split("\n")[0] for it in told]),
+    )
     same("and none is left", NO_TARE, bridge.tare())
 
 
+def disturb(bridge, what, told):
+    """Kills or holds the counter or the service, and waits until all is there again."""
+    if "hold" in what:
+        bridge.hold(bridge.counter if what == "hold counter" else bridge.service, random.uniform(1.1, 2.5))
+        told.get()
+    elif what == "counter":
+        bridge.kill_counter()
+        told.get()
+        bridge.start_counter(is_waited_for=False)
+    else:
+        bridge.kill_service()
+        told.get()
+        time.sleep(0.05)
+        bridge.start_service()
+    bridge.wait_until_up()
+
+
 def killed_within_the_act(bridge, kills):
-    """The counter, then the service, killed at moments over the whole act: no tare is left, and one key has one entry."""
+    """The counter and the service killed, and each held, at moments over the whole act: no tare is left, and one key has one entry."""
     span, left, stored, twice = 0.05 + 3.0 / bridge.pace, 0, 0, 0
-    for what in ("counter", "service"):
-        for at in range(kills):
-            bridge.next_vehicle(9170)
-            key = f"kill-{what}-{at}"
-            told = Meanwhile(bridge.weigh, key, "single", f"K-{at}", 5000, within=3)
-            time.sleep(span * at / kills)
-            if what == "counter":
-                bridge.kill_counter()
-                told.get()
-                bridge.start_counter()
-            else:
-                bridge.kill_service()
-                told.get()
-                time.sleep(0.05)
-                bridge.start_service()
-                bridge.wait_until_up()
-            left += bridge.tare() != NO_TARE
-            count = sum(it[1] == key for it in bridge.entries())
-            again = bridge.weigh(key, "single", f"K-{at}", 5000)
-            stored += count
-            twice += count > 1 or (count == 1 and again[0] != 201) or sum(it[1] == key for it in bridge.entries()) > 1
-            if told.get() and told.get()[0] == 201:
-                twice += told.get()[1] != again[1]
-    same(f"killed {2 * kills} times within the act, no tare is left and each key has one entry", (0, 0), (left, twice))
-    holds("some of them were stored, and some not", 0 < stored < 2 * kills, f"{stored} stored")
+    moments = [
+        (what, at)
+        for what, count in (("counter", kills), ("service", kills), ("hold counter", kills // 3), ("hold service", kills // 3))
+        for at in range(count)
+    ]
+    for what, at in moments:
+        bridge.next_vehicle(9170)
+        key = f"kill-{what.replace(' ', '-')}-{at}"
+        told = Meanwhile(bridge.weigh, key, "single", f"K-{at}", 5000, within=8)
+        time.sleep(span * at / (kills if "hold" not in what else kills // 3))
+        disturb(bridge, what, told)
+        left += bridge.tare() != NO_TARE
+        count = sum(it[1] == key for it in bridge.entries())
+        again = bridge.weigh(key, "single", f"K-{at}", 5000)
+        stored += count
+        twice += count > 1 or (count == 1 and again[0] != 201) or sum(it[1] == key for it in bridge.entries()) > 1
+        if told.get() and told.get()[0] == 201:
+            twice += told.get()[1] != again[1]
+    same(
+        f"killed {2 * kills} times and held {kills // 3 * 2} times within the act, no tare is left and each key has one entry", (0, 0), (left, twice)
+    )
+    holds("some of them were stored, and some not", 0 < stored < len(moments), f"{stored} stored")
     holds("the journal is sound", bridge.ask("GET", "/check", port=bridge.office)[1].startswith("SOUND"))
 
 
@@ -211,7 +240,11 @@ def zero_since_the_start(bridge):
     bridge.start_counter()
     becomes("and still is once the counter was started again", lambda: bridge.health()["state"]["zero"]["known"])
     service = bridge.health()["service"]
-    holds("the service's program, words and start are shown", service["process"] == bridge.service.pid and "--pace" in service["words"] and service["program"]["version"].startswith("weighbridge "), str(service["program"]))
+    holds(
+        "the service's program, words and start are shown",
+        service["process"] == bridge.service.pid and "--pace" in service["words"] and service["program"]["version"].startswith("weighbridge "),
+        str(service["program"]),
+    )
     bridge.kill_counter()
     bridge.kill_service()
     bridge.start_service()

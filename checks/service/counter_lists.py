@@ -4,6 +4,7 @@ import json
 import os
 import re
 import sqlite3
+import subprocess
 import time
 
 from countering import TOP, Bridge, becomes, holds, same
@@ -21,11 +22,24 @@ def one_text(bridge):
     same("and it is stored once", 1, sum(it[1] == "text-1" for it in bridge.entries()))
     body = "kind=first&more=%41+b&plate=%48ERE&key=text-1"
     same("a form passes as it was written", (201, text), bridge.ask("POST", "/weighings", body=body)[:2])
-    for target, form in (("/weighings", {"key": "x", "kind": "fourth", "plate": "A"}), ("/weighings", {"key": "x", "kind": "first", "plate": "a b"}), ("/voids", {"key": "x", "plate": "NONE"})):
+    for target, form in (
+        ("/weighings", {"key": "x", "kind": "fourth", "plate": "A"}),
+        ("/weighings", {"key": "x", "kind": "first", "plate": "a b"}),
+        ("/voids", {"key": "x", "plate": "NONE"}),
+    ):
         same(f"a refusal passes: {form}", bridge.ask("POST", target, form, port=bridge.office)[:2], bridge.ask("POST", target, form)[:2])
     for target in ("/indication", "/tickets/1", "/tickets/x", "/tickets/4294967296"):
         same(f"{target} passes", bridge.ask("GET", target, port=bridge.office)[:2], bridge.ask("GET", target)[:2])
     same("whether a key is in the journal", [True, False], [bridge.json("GET", f"/keys/{it}")["found"] for it in ("text-1", "text-2")])
+
+
+def clients_through_it(bridge):
+    """clients/weigh.py and weigh.sh weigh through the counter as at the office."""
+    for name, plate in (("weigh.py", "PY-1"), ("weigh.sh", "SH-1")):
+        bridge.next_vehicle(9170)
+        words = [os.path.join(TOP, "clients", name), "first", plate, f"client-{plate}"]
+        it = subprocess.run(words, env={**os.environ, "WEIGHBRIDGE": f"http://127.0.0.1:{bridge.http}"}, capture_output=True, text=True, timeout=60)
+        same(f"{name} through the counter", (0, bridge.weigh(f"client-{plate}", "first", plate, port=bridge.office)[1]), (it.returncode, it.stdout))
 
 
 def on_lists(bridge, plate):
@@ -52,7 +66,11 @@ def what_did_not_pass(bridge):
     bridge.put(0)
     becomes("and the lists are read anew", lambda: len(on_lists(bridge, "PAST")) == 2)
     ticket = on_lists(bridge, "PAST")[0]
-    same("a ticket again is the office's", {"text": bridge.ask("GET", f"/tickets/{ticket['number']}", port=bridge.office)[1], "from": "office"}, bridge.json("GET", f"/entries/{ticket['number']}"))
+    same(
+        "a ticket again is the office's",
+        {"text": bridge.ask("GET", f"/tickets/{ticket['number']}", port=bridge.office)[1], "from": "office"},
+        bridge.json("GET", f"/entries/{ticket['number']}"),
+    )
     same("its net", 10200, ticket["net"])
     same("there is none of a number that nobody has", 404, bridge.ask("GET", "/entries/4000000000")[0])
 
@@ -93,15 +111,33 @@ def who_may_ask(bridge):
     ):
         same(f"asked with {fields}", status, bridge.ask("GET", "/time", **fields)[0])
     same("a weighing from elsewhere", 403, bridge.ask("POST", "/weighings", {"key": "x"}, Sec_Fetch_Site="cross-site")[0])
-    same("what is no route, a wrong method, too long a body", [404, 405, 413], [bridge.ask("GET", "/none")[0], bridge.ask("GET", "/zero")[0], bridge.ask("POST", "/weighings", body="x" * 3000)[0]])
-    same("no file of the folder above", [404, 404], [bridge.ask("GET", "/web/../openapi.json")[0], bridge.ask("GET", "/web/lang/../../openapi.json")[0]])
+    same(
+        "what is no route, a wrong method, too long a body",
+        [404, 405, 413],
+        [bridge.ask("GET", "/none")[0], bridge.ask("GET", "/zero")[0], bridge.ask("POST", "/weighings", body="x" * 3000)[0]],
+    )
+    same(
+        "no file of the folder above",
+        [404, 404],
+        [bridge.ask("GET", "/web/../openapi.json")[0], bridge.ask("GET", "/web/lang/../../openapi.json")[0]],
+    )
     policy = bridge.ask("GET", "/")[2]["content-security-policy"]
-    holds("the page's content policy allows nothing from elsewhere and nothing within the page", "default-src 'none'" in policy and "unsafe" not in policy and "http" not in policy, policy)
+    holds(
+        "the page's content policy allows nothing from elsewhere and nothing within the page",
+        "default-src 'none'" in policy and "unsafe" not in policy and "http" not in policy,
+        policy,
+    )
 
 
 def kept_tares(bridge):
     same("a tare is kept", (200, "{}"), bridge.ask("PUT", "/tares/AB-12", body='{"kg": 5000}', X_Remote_User="anna")[:2])
-    for target, body in (("/tares/ab", '{"kg": 5000}'), ("/tares/AB-12", '{"kg": 0}'), ("/tares/AB-12", '{"kg": "5"}'), ("/tares/AB-12", "5"), ("/tares/AB-12", "")):
+    for target, body in (
+        ("/tares/ab", '{"kg": 5000}'),
+        ("/tares/AB-12", '{"kg": 0}'),
+        ("/tares/AB-12", '{"kg": "5"}'),
+        ("/tares/AB-12", "5"),
+        ("/tares/AB-12", ""),
+    ):
         same(f"what is none is refused: {target} {body}", 422, bridge.ask("PUT", target, body=body)[0])
     bridge.kill_counter()
     bridge.start_counter()
@@ -201,7 +237,11 @@ def the_description(bridge):
         schema = document["components"]["schemas"][name]
         wrong.extend((name, it.message[:200]) for it in jsonschema.Draft202012Validator(resolved(schema, document)).iter_errors(what))
     same("each answer of both, and each event, is as openapi.json says", [], wrong[:5])
-    same("each route of the counter's program is there, and no other", routes_of_the_program(), {it for it, what in document["paths"].items() if what.get("servers", [{}])[0].get("description") != "the office"} - {"/web/{name}"})
+    same(
+        "each route of the counter's program is there, and no other",
+        routes_of_the_program(),
+        {it for it, what in document["paths"].items() if what.get("servers", [{}])[0].get("description") != "the office"} - {"/web/{name}"},
+    )
 
 
 def routes_of_the_program():
@@ -242,6 +282,7 @@ def show(program):
     bridge = Bridge(program, 20).start_counter()
     try:
         one_text(bridge)
+        clients_through_it(bridge)
         what_did_not_pass(bridge)
         kept_tares(bridge)
         who_may_ask(bridge)

@@ -2,7 +2,7 @@
 
 import time
 
-from counter_page import ENTER, F9, Clerk, at_of
+from counter_clerk import ENTER, F9, Clerk, at_of
 from countering import Bridge
 
 SETTINGS = 'address = ["Hafenstraße 12", "28217 Bremen"]\n'

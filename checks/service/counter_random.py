@@ -42,6 +42,7 @@ def till(played, name, tares, seed):
             line = rng.choice(["SI", "S", "TA", "TA", "TAC", "preset", "preset", "I4", "Z", "@", "WEIGH"])
             kg = next(tares) if line == "preset" else None
             line = f"TA {kg} kg" if kg else line
+            played.refused.pop(kg, None)  # numbers come again after 1,400
             client.send(line)
             said = client.line()
             played.counts["till"] += 1
@@ -218,9 +219,19 @@ def show(program, pace, seconds):
     bridge = Bridge(program, pace).start_counter()
     played = Played(bridge, pace)
     presets = iter(range(40, 10**9, 40))
-    tares = iter(lambda: 40 + (next(presets) - 40) % 39000, None)
-    threads = [threading.Thread(target=act, args=(played, *words), daemon=True) for act, words in (
-        (till, ("till", tares, 1)), (till, ("other", tares, 2)), (page, ("desk", 3)), (page, ("phone", 4)), (watch, ()), (display, ()), (vehicles, ()))]
+    tares = iter(lambda: 40 + (next(presets) - 40) % 56000, None)
+    threads = [
+        threading.Thread(target=act, args=(played, *words), daemon=True)
+        for act, words in (
+            (till, ("till", tares, 1)),
+            (till, ("other", tares, 2)),
+            (page, ("desk", 3)),
+            (page, ("phone", 4)),
+            (watch, ()),
+            (display, ()),
+            (vehicles, ()),
+        )
+    ]
     try:
         for it in threads:
             it.start()

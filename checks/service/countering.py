@@ -88,7 +88,9 @@ class Bridge:
         self.executable = patch(self.folder) if patch else COUNTER
         self.setup = os.path.join(self.folder, "counter.toml")
         with open(self.setup, "w") as file:
-            file.write(f'state = "{self.folder}/state"\nlisten = "{HOST}:{self.http}"\nterminal = "{HOST}:{self.terminal}"\noffice = "{HOST}:{self.office}"\n')
+            file.write(
+                f'state = "{self.folder}/state"\nlisten = "{HOST}:{self.http}"\nterminal = "{HOST}:{self.terminal}"\noffice = "{HOST}:{self.office}"\n'
+            )
             file.write('zone = "Europe/Berlin"\ncompany = "Kieswerk Wellum"\n' + settings)
             for name, port in self.ports.items():
                 file.write(f'[[port]]\nname = "{name}"\nlisten = "{HOST}:{port}"\nmay = "{"read" if name == "display" else "change"}"\n')
@@ -97,8 +99,27 @@ class Bridge:
     # ---- the service
 
     def start_service(self):
-        words = [self.program, "serve", "--file", f"{self.folder}/journal.db", "--terminal", f"{HOST}:{self.terminal}", "--office", f"{HOST}:{self.office}"]
-        words += ["--converter", f"tcp:{HOST}:{self.converter.port}", "--pace", str(self.pace), "--turns", "1000000000", "--capacity", "100000", *self.options]
+        words = [
+            self.program,
+            "serve",
+            "--file",
+            f"{self.folder}/journal.db",
+            "--terminal",
+            f"{HOST}:{self.terminal}",
+            "--office",
+            f"{HOST}:{self.office}",
+        ]
+        words += [
+            "--converter",
+            f"tcp:{HOST}:{self.converter.port}",
+            "--pace",
+            str(self.pace),
+            "--turns",
+            "1000000000",
+            "--capacity",
+            "100000",
+            *self.options,
+        ]
         with open(f"{self.folder}/service.log", "ab") as log:
             self.service = subprocess.Popen(words, stdin=subprocess.DEVNULL, stdout=log, stderr=log)
         self._wait_for(self.office, self.service)
@@ -164,7 +185,9 @@ class Bridge:
         length = f"Content-Length: {len(body.encode())}\r\n" if body is not None else "Content-Length: 0\r\n" if method == "POST" else ""
         head = "".join(f"{name.replace('_', '-')}: {value}\r\n" for name, value in {"Host": f"{HOST}:{self.http}", **fields}.items())
         try:
-            data = bridge.exchange_bytes(port or self.http, f"{method} {target} HTTP/1.1\r\n{head}Connection: close\r\n{length}\r\n{body or ''}".encode(), within)
+            data = bridge.exchange_bytes(
+                port or self.http, f"{method} {target} HTTP/1.1\r\n{head}Connection: close\r\n{length}\r\n{body or ''}".encode(), within
+            )
         except OSError:
             return 0, "", {}
         top, parted, text = data.decode("utf-8", "replace").partition("\r\n\r\n")

@@ -111,6 +111,18 @@ class WithATare(WithABridge):
         self.assertEqual((["TA 5000 kg", "TAC"], 0), (bridge.played.done, bridge.played.tare))
         self.assertFalse(bridge.files.has(ACT_FILE))
 
+    async def test_a_file_says_so_from_before_it_is_set_until_it_is_cleared(self):
+        bridge = self.bridge((201, TICKET))
+        seen = {}
+
+        def reply(line):
+            seen[line] = bridge.files.read(ACT_FILE)
+            return PlayedTerminal.reply(bridge.played, line)
+
+        bridge.played.reply = reply
+        await self.weigh(bridge)
+        self.assertEqual(({"kg": 5000}, {"kg": 5000}, False), (seen["TA 5000 kg"], seen["TAC"], bridge.files.has(ACT_FILE)))
+
     async def test_none_is_left_whatever_the_office_says(self):
         for answer in ((409, "refused 7 unstable\n"), (503, "refused 15 store\n"), None):
             bridge = self.bridge(answer)

@@ -175,6 +175,15 @@ class CallingBack(unittest.TestCase):
         played.pass_time(1.2)
         self.assertEqual(("unanswered", 0, None), (asker.outcome, played.fanout.doubtful_tare, played.fanout.tare))
 
+    def test_it_is_remembered_too_where_the_connection_was_cut(self):
+        for cut in ("ended", "reset"):
+            played = up()
+            Asker(played.fanout, "TA")
+            played.reading(2)
+            Asker(played.fanout, "TA 5000 kg")
+            getattr(played.fanout, cut)()
+            self.assertEqual((0, None), (played.fanout.doubtful_tare, played.fanout.tare), cut)
+
     def test_who_leaves_his_turn_leaves_no_reply_to_the_next(self):
         played = up()
         asker = Asker(played.fanout, "TA 5000 kg")

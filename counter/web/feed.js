@@ -10,8 +10,8 @@ const pause = time => new Promise(done => setTimeout(done, time));
 const now = () => performance.now();
 
 export class Feed {
-  constructor(hear) {
-    this.hear = hear;                // called with the name of an event and what it says
+  constructor() {
+    this.hear = () => {};            // called with the name of an event and what it says
     this.weight = null;
     this.heardAt = -Infinity;
     this.offset = null;              // this browser's clock less the counter's

@@ -54,7 +54,7 @@ function driveOff(newest) {
 export function step(now) {
   const { link, weight, state, plate, result, told } = now;
   if (now.waiting) return now.waiting;
-  if (result && !plate && link !== 'up') return result;
+  if (result && !plate && link !== 'up' && now.isResultNew) return result;     // what came of the press comes before a fault
   if (link !== 'up') return { look: 'bad', word: `link_${link}` };
   if (told) return told;
   if (['I', '+', '-'].includes(weight.state)) return { look: 'bad', word: { I: 'no_weight', '+': 'overload', '-': 'below_zero' }[weight.state] };

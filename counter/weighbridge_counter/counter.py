@@ -37,6 +37,7 @@ class Counter:
         self.tares = Tares(self.files, lambda: self.now().date(), setup.tare_days, setup.max)
         self.zero = Zero(self.files, self.now)
         self.service: Service | None = None
+        self.has_looked = False  # for the service, in this run
         self.program: dict[str, str | bool] = {}
         self.bridge = "unknown"  # empty: it was since the last weighing; weighed: a weighing since; restarted: not empty since the service's start
         self.told_state: dict[str, Any] = {}
@@ -95,10 +96,11 @@ class Counter:
         loop = asyncio.get_running_loop()
         service = await loop.run_in_executor(None, self.find, self.setup.terminal)
         was_refused, self.terminal.was_refused = self.terminal.was_refused, False
-        if self.zero.connected(service, was_refused):
+        was_known = self.zero.service is not None
+        if self.zero.connected(service, was_refused) and was_known:
             self.bridge = "empty" if self._is_light() else "restarted"
-            self.books.wants_export = True
-        self.service = service
+            self.books.wants_export = self.books.wants_export or self.has_looked
+        self.has_looked, self.service = True, service
         self.program = await loop.run_in_executor(None, program_of, service) if service is not None else {}
         self._keep_going(self.books.probe())
         self.tell_state()

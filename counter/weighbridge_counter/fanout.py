@@ -89,7 +89,7 @@ class Fanout:
         self.value: Value | None = None
         self.period = 0.1
         self.tare: int | None = None  # in kg; None where it isn't known
-        self.doubtful_tare: int | None = None  # the tare before a command that was called back, until it is known again
+        self.doubtful_tare: int | None = None  # the tare before a command that had no reply, until it is known again
         self.is_settled = False  # whether a new connection was asked for what isn't known of it, and cleared of what was left
         self.holder: Turn | None = None
         self.queue: deque[Turn] = deque()
@@ -218,6 +218,9 @@ class Fanout:
     # ---- within
 
     def _forget(self) -> None:
+        question = self.question
+        if question is not None and question.sent_at is not None and self.doubtful_tare is None:
+            self.doubtful_tare = self.tare
         self.link, self.tare, self.swallow, self.is_settled = "down", None, 0, False
 
     def _say(self, line: str) -> None:
@@ -258,7 +261,7 @@ class Fanout:
         question, now = self.question, self.clock()
         if not (self.is_settled or (self.holder is not None and self.holder.may_settle)):
             return
-        if question is None or question.sent_at is not None or now > question.until or self.swallow:
+        if question is None or question.sent_at is not None or now > question.until:
             return
         if self.is_fresh(max(0.06, 1.5 * min(self.period, SILENT_PERIOD))):
             question.sent_at = now
@@ -279,8 +282,6 @@ class Fanout:
 
     def _call_back(self, question: Question) -> None:
         self.counts["called_back"] += 1
-        if self.doubtful_tare is None:
-            self.doubtful_tare = self.tare
         self.reset()
         self._finish(question, Outcome.UNANSWERED)
 

@@ -1,0 +1,68 @@
+"""A clerk at the counter's page, who has a keyboard alone, for checks/counter."""
+
+import re
+import tempfile
+
+from bridge import HOST, free_port
+from browser import Browser
+from countering import becomes
+
+ENTER, ESCAPE, TAB, SPACE, F4, F8, F9 = "\ue007", "\ue00c", "\ue004", " ", "\ue034", "\ue038", "\ue039"
+
+
+def at_of(port):
+    return f"http://{HOST}:{port}"
+
+
+class Clerk:
+    """A clerk at the page, who has a keyboard alone."""
+
+    def __init__(self, at, folder=None, width=1280, height=800, is_dark=False, lang="en"):
+        self.at, self.browser = at, Browser(free_port(), folder or tempfile.mkdtemp(prefix="browser-"), width, height)
+        self.browser.look(width, height, is_dark)
+        self.load(lang)
+
+    def load(self, lang="en"):
+        self.browser.go(f"{self.at}/?lang={lang}")
+        # a page that prints would wait for a dialog
+        self.browser.run(
+            "window.papers = []; window.print = () => window.papers.push([document.getElementById('paper-copy').textContent, document.getElementById('paper-text').textContent]);"
+        )
+
+    def words(self):
+        return self.browser.run("return document.getElementById('words').textContent")
+
+    def more(self):
+        return self.browser.run("return document.getElementById('more').textContent")
+
+    def weight(self):
+        return self.browser.run("return document.getElementById('weight').textContent")
+
+    def kg(self):
+        """The weight that is shown; None if there is none."""
+        digits = re.sub(r"[^\d-]", "", self.weight().replace("\u2212", "-"))
+        return int(digits) if digits else None
+
+    def plate(self):
+        return self.browser.run("return document.getElementById('plate').value")
+
+    def focus(self):
+        return self.browser.run("return document.activeElement.id || document.activeElement.textContent")
+
+    def keys(self, text):
+        self.browser.keys(text)
+
+    def sees(self, words, seconds=15, what=None):
+        becomes(what or f"the clerk sees: {words}", lambda: words in self.words(), seconds)
+
+    def kept(self):
+        return self.browser.run("return localStorage.getItem('weighbridge.request')")
+
+    def papers(self):
+        return self.browser.run("return window.papers")
+
+    def alarms(self):
+        return self.browser.run("return document.getElementById('alarms').textContent")
+
+    def close(self):
+        self.browser.close()

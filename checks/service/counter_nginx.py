@@ -1,0 +1,73 @@
+"""A real nginx before the counter, for checks/counter."""
+
+import os
+import re
+import subprocess
+import tempfile
+import time
+
+from bridge import HOST, free_port
+from countering import TOP
+
+
+class Nginx:
+    """A real nginx, set up by the commands of docs/counter.md below a folder of its own, and changed as the comments of its setup say."""
+
+    def __init__(self, counter_port):
+        self.folder, self.port, plain = tempfile.mkdtemp(prefix="nginx-"), free_port(), free_port()
+        os.chmod(self.folder, 0o755)
+        os.makedirs(f"{self.folder}/etc/nginx/conf.d")
+        with open(f"{TOP}/docs/counter.md", encoding="utf-8") as page:
+            section = page.read().split("### Behind nginx")[1].split("\n### ")[0]
+        commands = "set -e\n" + "".join(it for it in re.findall(r"(?:^    .*\n)+", section, re.M) if "systemctl" not in it)
+        for old, new in (
+            ("/etc/nginx", f"{self.folder}/etc/nginx"),
+            ("/usr/share/doc/weighbridge-counter/examples", f"{TOP}/packaging/counter"),
+            ("passwd -6", "passwd -6 weigh-in"),
+        ):
+            commands = replaced("docs/counter.md", commands, old, new)
+        if os.getuid() != 0:
+            commands = commands.replace("chown ", "true ").replace("chmod 640", "chmod 644")
+        subprocess.run(["sh", "-c", commands], check=True, capture_output=True, cwd=TOP)
+        path = f"{self.folder}/etc/nginx/conf.d/weighbridge-counter.conf"
+        with open(path) as file:
+            text = file.read()
+        for old, new in (
+            ("listen 80;", f"listen {HOST}:{plain};"),
+            ("listen 443 ssl http2;", f"listen {HOST}:{self.port} ssl http2;"),
+            ("server 127.0.0.1:8090;", f"server {HOST}:{counter_port};"),
+            ("/etc/nginx/weighbridge/", f"{self.folder}/etc/nginx/weighbridge/"),
+            ("weighbridge.example", HOST),
+        ):
+            text = replaced("nginx.conf", text, old, new)
+        with open(path, "w") as file:
+            file.write(text)
+        paths = "".join(f"    {name}_temp_path {name};\n" for name in ("client_body", "proxy", "fastcgi", "uwsgi", "scgi"))
+        with open(f"{self.folder}/nginx.conf", "w") as file:
+            file.write("user www-data;\ndaemon off;\nworker_processes 1;\npid nginx.pid;\nevents {}\nhttp {\n    access_log access.log;\n")
+            file.write(f"{paths}    include etc/nginx/conf.d/*.conf;\n}}\n")
+        self.process = subprocess.Popen(
+            ["nginx", "-p", self.folder, "-e", "error.log", "-c", "nginx.conf"],
+            stdin=subprocess.DEVNULL,
+            stdout=subprocess.DEVNULL,
+            stderr=subprocess.DEVNULL,
+        )
+        time.sleep(0.7)
+
+    def ask(self, target, *words):
+        it = subprocess.run(
+            ["curl", "-sk", "-m", "5", "-o", "/dev/null", "-w", "%{http_code} %{http_version}", *words, f"https://{HOST}:{self.port}{target}"],
+            capture_output=True,
+            text=True,
+        )
+        return it.stdout
+
+    def close(self):
+        self.process.terminate()
+        self.process.wait(20)
+
+
+def replaced(name, text, old, new):
+    if old not in text:
+        raise SystemExit(f"counter: {name} doesn't have: {old}")
+    return text.replace(old, new)

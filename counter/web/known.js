@@ -1,0 +1,35 @@
+// What is known now: what the counter told, and what the clerk is at.
+
+import { Feed, OLDEST_WEIGHT } from './feed.js';
+import { part } from './parts.js';
+import { paperOf } from './papers.js';
+
+export const MIN_INTERVALS = 20;     // below so many intervals the bridge is empty
+const RESULT_BEFORE_FAULTS = 5000;   // milliseconds that a result is shown before a fault is
+
+export const feed = new Feed();
+export const known = { hello: { interval: 20, zone: 'UTC', tare_days: 90 }, state: null, onSite: [], today: [], tares: {} };
+export const clerk = { oneTare: null, isFirstInstead: false, waiting: null, result: null, told: null, newest: null };
+
+export const plate = () => part('plate').value;
+
+export function linkNow() {
+  if (feed.isGone() || known.state === null) return 'off';
+  if (known.state.link !== 'up') return known.state.link;
+  return feed.age() > OLDEST_WEIGHT ? 'held' : 'up';
+}
+
+function newestWeighing() {
+  const newest = known.today.find(it => it.kind !== 'void');
+  return newest && { plate: newest.plate, number: newest.number, paper: paperOf(newest) };
+}
+
+export function nowKnown() {
+  const link = linkNow();
+  return {
+    link, weight: link === 'up' ? feed.weight : null, state: known.state, plate: plate(), onSite: known.onSite, tares: known.tares,
+    min: MIN_INTERVALS * known.hello.interval, oneTare: clerk.oneTare, isFirstInstead: clerk.isFirstInstead,
+    waiting: clerk.waiting, result: clerk.result, told: clerk.told, newest: newestWeighing(),
+    isResultNew: clerk.result !== null && performance.now() - clerk.result.madeAt < RESULT_BEFORE_FAULTS,
+  };
+}

@@ -1,0 +1,105 @@
+// What is shown: the weight, the one sentence, the form and the bars at the top, each only where it changed.
+
+import { alike, choiceOf, grossOf, isPlate, netOf, step } from './guide.js';
+import { clerk, known, nowKnown } from './known.js';
+import { button, make, onlyChanged, part } from './parts.js';
+import { dayOf, has, kg, language, number, t, whenOf } from './words.js';
+
+const RESULT_AFTER_LEAVING = 2500;   // milliseconds that a result stays once the vehicle has left
+const SIGNS = { ok: '✔', wait: '◔', bad: '⚠', calm: '▷', do: '➜' };
+
+// What may be pressed, by its word. Whoever does it puts it in here.
+export const acts = {};
+
+export function show() {
+  if (!has('plate')) return;
+  const now = nowKnown();
+  forgetResult(now);
+  now.result = clerk.result;
+  const told = step(now);
+  showScale(now);
+  showGuide({ ...told, language });
+  showForm(formOf(now, told));
+  showAlarms(alarmsOf(now));
+  showNote(now.link !== 'off' && known.state && !known.state.lists_whole ? t('lists_lack') : '');
+}
+
+// What came of a press stays until the vehicle has left for a while, and goes when the next one comes.
+function forgetResult(now) {
+  const result = clerk.result, gross = grossOf(now.weight);
+  if (!result || gross === null) return;
+  if (gross < now.min) result.leftAt ??= performance.now();
+  if (result.leftAt !== undefined && (gross >= now.min || performance.now() - result.leftAt > RESULT_AFTER_LEAVING)) clerk.result = null;
+}
+
+function showScale({ link, weight }) {
+  const hasWeight = weight !== null && weight.net !== null, isNet = hasWeight && Boolean(weight.tare);
+  part('scale').dataset.look = hasWeight ? { S: 'ok', D: 'wait' }[weight.state] : 'bad';
+  part('state').textContent = t(hasWeight ? { S: 'stable', D: 'moves' }[weight.state] : 'none');
+  part('kind').textContent = hasWeight ? t(isNet ? 'net' : 'gross') : '';
+  part('parts').textContent = isNet ? t('net_parts', { tare: kg(weight.tare), gross: kg(grossOf(weight)) }) : '';
+  part('weight').classList.toggle('words', !hasWeight);
+  if (hasWeight) part('weight').replaceChildren(number(weight.net), make('small', { textContent: ' kg' }));
+  else part('weight').textContent = t({ '+': 'overload_short', '-': 'below_short', I: 'no_weight_short' }[weight?.state] ?? (link === 'off' || link === 'down' ? 'no_connection_short' : 'no_weight_short'));
+}
+
+const showGuide = onlyChanged(told => {
+  part('guide').dataset.look = told.look;
+  part('sign').textContent = SIGNS[told.look];
+  const values = inWords(told.values ?? {});
+  part('words').textContent = t(told.word, values);
+  part('more').textContent = told.more ?? (has(`${told.word}_more`) ? t(`${told.word}_more`, values) : '');
+  part('choices').replaceChildren(...(told.choices ?? []).map(it => button(t(it), acts[it], { className: 'choice' })));
+});
+
+// Weights among values are written as such.
+function inWords(values) {
+  return Object.fromEntries(Object.entries(values).map(([name, it]) => [name, typeof it === 'number' && name !== 'number' ? kg(it) : it]));
+}
+
+function formOf(now, told) {
+  const choice = choiceOf(now), isReady = Boolean(told.isReady) && !clerk.waiting, net = netOf(choice, grossOf(now.weight));
+  const kept = now.tares[now.plate], like = now.plate ? alike(now.plate, now.onSite).map(it => it.plate) : [];
+  return { plate: now.plate, choice, isReady, isUnlikely: Boolean(told.isUnlikely), net: isReady && net > 0 ? net : null, kept, like, tareOf: clerk.result?.tare, language };
+}
+
+const showForm = onlyChanged(form => {
+  const { choice } = form;
+  part('go').disabled = !form.isReady;
+  part('go').classList.toggle('unlikely', form.isUnlikely);
+  part('go-words').textContent = form.plate ? `${t(`weigh_${choice.kind}`, { tare: choice.tare ? kg(choice.tare) : '' })} · ${form.plate}` : t('weigh');
+  part('go-more').textContent = form.net === null ? '' : t('net_to_come', { kg: kg(form.net) });
+  part('hint').replaceChildren(...hintsOf(form));
+  part('others').replaceChildren(...othersOf(form));
+});
+
+function hintsOf({ plate, choice, kept, like }) {
+  if (choice.first) return [make('b', { textContent: t('on_site_since', { time: whenOf(choice.first.at), kg: kg(choice.first.gross) }) })];
+  if (like.length) return [make('b', { textContent: t('one_of_these') }), ...like.map(it => button(it, () => acts.take(it), { className: 'like' }))];
+  if (kept) return [make('b', { textContent: t(kept.is_over ? 'tare_is_over' : kept.by ? 'tare_is_kept_by' : 'tare_is_kept', { kg: kg(kept.kg), day: dayOf(kept.until), by: kept.by }) })];
+  return plate ? [make('span', { textContent: t('not_on_site') })] : [];
+}
+
+function othersOf({ plate, choice, tareOf }) {
+  const others = [];
+  if (choice.kind === 'single') others.push(button(t('first_instead'), acts.first_instead));
+  if (!choice.first && isPlate(plate)) others.push(button(t('tare_from_papers'), acts.tare_from_papers));
+  if (!plate && tareOf) others.push(button(t('keep_tare_of', { kg: kg(tareOf.kg), plate: tareOf.plate }), () => acts.keep_tare(tareOf)));
+  return others;
+}
+
+function alarmsOf({ link, state }) {
+  if (state === null || link === 'off') return [];
+  const alarms = [];
+  if (!state.zero.known && link === 'up') alarms.push({ look: 'wait', text: t(state.zero.at ? 'zero_lost' : 'zero_unknown', { time: state.zero.at ? whenOf(state.zero.at) : '' }), choice: 'set_zero' });
+  if (state.tare_left) alarms.push({ look: 'bad', text: t('tare_left') });
+  if (state.office === 'store') alarms.push({ look: 'bad', text: t('store_closed') });
+  if (state.office === 'no_answer' && link === 'up') alarms.push({ look: 'bad', text: t('office_silent') });
+  return alarms;
+}
+
+const showAlarms = onlyChanged(alarms => {
+  part('alarms').replaceChildren(...alarms.map(it => make('div', { className: it.look }, make('span', { textContent: it.text }), ...(it.choice ? [button(t(it.choice), acts[it.choice])] : []))));
+});
+
+const showNote = onlyChanged(text => { part('note').textContent = text; });

@@ -1,0 +1,82 @@
+// A weighing from the press to its end: sent until it is answered, and then told.
+
+import { clerk, known, MIN_INTERVALS } from './known.js';
+import { paperOf } from './papers.js';
+import { counterWordOf, forget, isOld, isStored, keptRequest, newRequest, refusalOf, renewed, send } from './request.js';
+import { acts, show } from './show.js';
+import { has, t } from './words.js';
+
+const TOLD_FOR = { ok: 2500, wait: 6000, bad: 6000 };
+
+// Until then nothing else can be weighed; `choices` is what may be pressed.
+function wait(look, word, values, choices) {
+  clerk.waiting = { look, word, values, choices };
+  show();
+}
+
+export function tell(look, word, more) {
+  const told = clerk.told = { look, word, more };
+  show();
+  setTimeout(() => { if (clerk.told === told) { clerk.told = null; show(); } }, TOLD_FOR[look]);
+}
+
+// One request at a time in a browser: one that another window keeps is ended first.
+export function begin(target, form) {
+  if (clerk.waiting) return;
+  if (keptRequest()) { resume(); return; }
+  const request = newRequest(target, form);
+  if (request === null) tell('bad', 'keeps_nothing');
+  else conclude(request);
+}
+
+const whatOf = request => ({ what: `${t(request.form.kind ? `kind_${request.form.kind}` : 'kind_void')}, ${request.form.plate}` });
+
+async function conclude(request) {
+  clerk.result = clerk.told = null;
+  wait('wait', 'sent', whatOf(request));
+  const answer = await send(request, () => wait('wait', 'no_answer_yet', whatOf(request)));
+  if (answer === null) { leave(request); return; }
+  clerk.waiting = null;
+  if (answer.status === 201) finish(request, answer.text);
+  else refuse(answer);
+  acts.focus();
+}
+
+// There was no answer for so long that another vehicle may be there: the clerk decides.
+function leave(request) {
+  acts.send_again = () => conclude(renewed(request));
+  acts.look_up = async () => {
+    wait('wait', 'looking');
+    const stored = await isStored(request);
+    if (stored === true) { conclude(renewed(request)); return; }
+    if (stored === null) { leave(request); return; }
+    forget(request);
+    clerk.waiting = null;
+    tell('bad', 'was_not_stored');
+  };
+  wait('bad', 'lost', whatOf(request), ['send_again', 'look_up']);
+}
+
+function refuse(answer) {
+  const refusal = refusalOf(answer), word = refusal ? `refused_${refusal}` : `counter_${counterWordOf(answer)}`;
+  tell('bad', has(word) ? word : 'refused', `${t('nothing_stored')} (${answer.text.trim().slice(0, 60)})`);
+}
+
+function finish(request, text) {
+  const at = Number(/ (\d+)\n/.exec(text)[1]), net = /^N +(\d+) kg$/m.exec(text)?.[1], grosses = [...text.matchAll(/^G +(\d+) kg$/mg)].map(it => Number(it[1]));
+  const kind = request.form.kind ?? 'void', values = { paper: paperOf({ kind }), number: at, plate: request.form.plate };
+  const word = kind === 'void' ? 'done_void' : net === undefined ? 'done_first' : 'done_net';
+  const isPair = grosses.length === 2 && Number(net) >= MIN_INTERVALS * known.hello.interval;
+  clerk.result = {
+    look: 'ok', word, values: { ...values, kg: Number(net ?? grosses[0] ?? 0) }, choices: ['print'], number: at, text, madeAt: performance.now(),
+    tare: isPair ? { plate: request.form.plate, kg: Math.min(...grosses) } : null,
+  };
+  acts.clear();
+}
+
+// What this browser kept, of a page before this one or of another window, is sent again by itself, unless it is old.
+export function resume() {
+  const kept = keptRequest();
+  if (kept && isOld(kept)) leave(kept);
+  else if (kept) conclude({ ...kept, isUnsure: true });
+}
