@@ -165,6 +165,7 @@ class Counter:
             "address": list(setup.address),
             "zone": setup.zone.key,
             "language": setup.language,
+            "languages": setup.languages,
             "interval": setup.interval,
             "tare_days": setup.tare_days,
             "now": self.milliseconds(),
