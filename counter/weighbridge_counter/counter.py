@@ -3,7 +3,7 @@
 import asyncio
 import datetime
 import time
-from collections.abc import Callable
+from collections.abc import Callable, Coroutine
 from typing import Any
 
 from .acts import Acts
@@ -109,7 +109,7 @@ class Counter:
         self._keep_going(self.books.probe())
         self.tell_state()
 
-    def _keep_going(self, work: Any) -> None:
+    def _keep_going(self, work: Coroutine[Any, Any, None]) -> None:
         task = asyncio.ensure_future(work)
         self.tasks.add(task)
         task.add_done_callback(self.tasks.discard)

@@ -132,7 +132,7 @@ def read_setup(path: Path, web: Path) -> Setup:
         address=reader.texts("address", "write the lines below the name, as a list of texts"),
         language=reader.choice("language", "en", tuple(known)),
         languages=known,
-        interval=int(reader.number("interval", 20, 1, 50)),
+        interval=reader.number("interval", 20, 1, 50),
         max=reader.number("max", 60000, 500, 500000),
         wait=reader.number("wait", 20, 1, 600),
         tare_days=reader.number("tare_days", 90, 1, 3660),
