@@ -265,22 +265,20 @@ def zero_since_the_start(bridge):
 
 def another_at_the_terminal(bridge):
     """Who goes past the counter is named, also over the seconds in which the counter tries again; a service that stands still isn't taken for that."""
-    import counter_lists
-
     bridge.kill_counter()
     with Client(bridge.terminal) as other:
         other.send("SIR")
         other.line()
         bridge.start_counter(is_waited_for=False)
         becomes("another one at the terminal is named", lambda: bridge.health()["state"]["link"] == "waits")
-        told = [it["link"] for name, it in counter_lists.events_of(bridge, 5) if name == "state"]
+        told = [it["link"] for name, it in bridge.events(5) if name == "state"]
         same("and it stays so while the counter tries again", {"waits"}, set(told))
         same("a weighing with a tare is not begun", (503, "counter no_terminal\n"), bridge.weigh("other-1", "single", "A", 5000))
     bridge.wait_until_up()
     bridge.service.send_signal(19)
     with Client(bridge.ports["till"]) as client:
         client.send("TAC")
-        told = [it["link"] for name, it in counter_lists.events_of(bridge, 6) if name == "state"]
+        told = [it["link"] for name, it in bridge.events(6) if name == "state"]
     bridge.service.send_signal(18)
     bridge.wait_until_up()
     same("a service that stands still is told as one that doesn't answer", {"up", "held"}, set(told))

@@ -2,6 +2,7 @@
 
 import json
 import os
+import re
 import signal
 import socket
 import subprocess
@@ -201,6 +202,19 @@ class Bridge:
 
     def json(self, method, target, **how):
         return json.loads(self.ask(method, target, **how)[1])
+
+    def events(self, seconds):
+        """The events of a stream in so many seconds, each by its name."""
+        found, until = b"", time.monotonic() + seconds
+        with socket.create_connection((HOST, self.http), 5) as stream:
+            stream.sendall(f"GET /events HTTP/1.1\r\nHost: {HOST}:{self.http}\r\n\r\n".encode())
+            stream.settimeout(0.2)
+            while time.monotonic() < until:
+                try:
+                    found += stream.recv(65536)
+                except TimeoutError:
+                    pass
+        return [(name, json.loads(text)) for name, text in re.findall(r"event: (\w+)\ndata: (.*)\n\n", found.decode())]
 
     def health(self):
         return self.json("GET", "/health")
