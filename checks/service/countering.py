@@ -3,6 +3,7 @@
 import json
 import os
 import re
+import shutil
 import signal
 import socket
 import subprocess
@@ -176,6 +177,8 @@ class Bridge:
                 it.kill()
                 it.wait()
         self.converter.is_over = True
+        if not failures:
+            shutil.rmtree(self.folder, ignore_errors=True)
 
     # ---- asking
 
@@ -313,8 +316,6 @@ class Meanwhile(threading.Thread):
 
 def without_reset(folder):
     """A copy of the counter that ends its connections by an ordinary close, in place of a reset: what comes of it has to be seen by the tests."""
-    import shutil
-
     shutil.copytree(os.path.join(TOP, "counter"), os.path.join(folder, "copy"), ignore=shutil.ignore_patterns("__pycache__", "tests"))
     path = os.path.join(folder, "copy", "weighbridge_counter", "terminal.py")
     with open(path) as file:
