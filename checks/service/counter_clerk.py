@@ -1,6 +1,7 @@
 """A clerk at the counter's page, who has a keyboard alone, for checks/counter."""
 
 import re
+import shutil
 import tempfile
 
 from bridge import HOST, free_port
@@ -66,3 +67,4 @@ class Clerk:
 
     def close(self):
         self.browser.close()
+        shutil.rmtree(self.browser.folder, ignore_errors=True)

@@ -263,6 +263,27 @@ def zero_since_the_start(bridge):
     same("a service that stood still wasn't started", True, bridge.health()["state"]["zero"]["known"])
 
 
+def another_at_the_terminal(bridge):
+    """Who goes past the counter is named, also over the seconds in which the counter tries again; a service that stands still isn't taken for that."""
+    bridge.kill_counter()
+    with Client(bridge.terminal) as other:
+        other.send("SIR")
+        other.line()
+        bridge.start_counter(is_waited_for=False)
+        becomes("another one at the terminal is named", lambda: bridge.health()["state"]["link"] == "waits")
+        told = [it["link"] for name, it in bridge.events(5) if name == "state"]
+        same("and it stays so while the counter tries again", {"waits"}, set(told))
+        same("a weighing with a tare is not begun", (503, "counter no_terminal\n"), bridge.weigh("other-1", "single", "A", 5000))
+    bridge.wait_until_up()
+    bridge.service.send_signal(19)
+    with Client(bridge.ports["till"]) as client:
+        client.send("TAC")
+        told = [it["link"] for name, it in bridge.events(6) if name == "state"]
+    bridge.service.send_signal(18)
+    bridge.wait_until_up()
+    same("a service that stands still is told as one that doesn't answer", {"up", "held"}, set(told))
+
+
 def show(program, pace, kills):
     print(f"---- one terminal for many, at {pace} readings a second", flush=True)
     bridge = Bridge(program, pace).start_counter()
@@ -274,5 +295,7 @@ def show(program, pace, kills):
         a_tare_of_one_weighing(bridge)
         killed_within_the_act(bridge, kills)
         zero_since_the_start(bridge)
+        if pace == 10:
+            another_at_the_terminal(bridge)
     finally:
         bridge.close()

@@ -5,7 +5,6 @@ import os
 import re
 import sqlite3
 import subprocess
-import time
 
 from countering import TOP, Bridge, becomes, holds, same
 
@@ -141,26 +140,9 @@ def kept_tares(bridge):
         same(f"what is none is refused: {target} {body}", 422, bridge.ask("PUT", target, body=body)[0])
     bridge.kill_counter()
     bridge.start_counter()
-    kept = next(it for name, it in events_of(bridge, 1.0) if name == "lists")["tares"]
+    kept = next(it for name, it in bridge.events(1.0) if name == "lists")["tares"]
     same("it is there after a start, with who kept it", (5000, "anna", False), (kept["AB-12"]["kg"], kept["AB-12"]["by"], kept["AB-12"]["is_over"]))
     same("and gone once it is dropped", (200, "{}"), bridge.ask("DELETE", "/tares/AB-12")[:2])
-
-
-def events_of(bridge, seconds):
-    """The events of a stream in so many seconds."""
-    import socket
-
-    found = b""
-    with socket.create_connection(("127.0.0.1", bridge.http), 5) as stream:
-        stream.sendall(f"GET /events HTTP/1.1\r\nHost: 127.0.0.1:{bridge.http}\r\n\r\n".encode())
-        until = time.monotonic() + seconds
-        stream.settimeout(0.2)
-        while time.monotonic() < until:
-            try:
-                found += stream.recv(65536)
-            except TimeoutError:
-                pass
-    return [(name, json.loads(text)) for name, text in re.findall(r"event: (\w+)\ndata: (.*)\n\n", found.decode())]
 
 
 def resolved(schema, document):
@@ -233,7 +215,7 @@ def the_description(bridge):
     answered("/tares/{plate}", "PUT", bridge.http, "/tares/AB-12", body="{}")
     answered("/tares/{plate}", "DELETE", bridge.http, "/tares/AB-12")
     bridge.put(0)
-    for name, what in events_of(bridge, 1.0):
+    for name, what in bridge.events(1.0):
         schema = document["components"]["schemas"][name]
         wrong.extend((name, it.message[:200]) for it in jsonschema.Draft202012Validator(resolved(schema, document)).iter_errors(what))
     same("each answer of both, and each event, is as openapi.json says", [], wrong[:5])

@@ -110,6 +110,22 @@ def search_and_withdraw_by_keyboard(bridge, clerk):
     same("and from a dialog that is closed", "plate", clerk.focus())
 
 
+def another_language(bridge, clerk):
+    """A language is a file: one that is put beside the others is offered, and what the clerk chose stays."""
+    bridge.put(0)
+    same(
+        "the languages are offered by their names",
+        ["Deutsch", "English", "Español", "Français"],
+        clerk.browser.run("return [...document.getElementById('language').options].map(it => it.text)"),
+    )
+    clerk.browser.run("const it = document.getElementById('language'); it.value = 'fr'; it.dispatchEvent(new Event('change'));")
+    clerk.sees("Le pont est vide.")
+    clerk.browser.go(clerk.at)
+    clerk.sees("Le pont est vide.", what="and it stays over a load")
+    clerk.load()
+    clerk.sees("The bridge is empty.")
+
+
 def refusals(bridge, clerk):
     bridge.next_vehicle(9170)
     clerk.keys("REF-1")
@@ -269,6 +285,7 @@ def show(program):
         a_pair_by_keyboard(bridge, clerk)
         a_tare_by_keyboard(bridge, clerk)
         search_and_withdraw_by_keyboard(bridge, clerk)
+        another_language(bridge, clerk)
         refusals(bridge, clerk)
         no_request_twice(bridge, clerk)
         kept_over_a_load(bridge, clerk)

@@ -34,6 +34,7 @@ def write(program, folder):
         clerk.sees("Zero is set.")
         for plate, load in (("BRA-LM-2210", 12040), ("VER-X-901", 17330), ("HB-KW-77", 9170), ("BRA-LM-2210", 5010)):
             weigh(plate, load)
+        picture("done")
         bridge.next_vehicle(4070)
         clerk.sees("Type the plate.")
         clerk.keys("HB-KW-77")

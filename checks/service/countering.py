@@ -2,6 +2,8 @@
 
 import json
 import os
+import re
+import shutil
 import signal
 import socket
 import subprocess
@@ -175,6 +177,8 @@ class Bridge:
                 it.kill()
                 it.wait()
         self.converter.is_over = True
+        if not failures:
+            shutil.rmtree(self.folder, ignore_errors=True)
 
     # ---- asking
 
@@ -201,6 +205,19 @@ class Bridge:
 
     def json(self, method, target, **how):
         return json.loads(self.ask(method, target, **how)[1])
+
+    def events(self, seconds):
+        """The events of a stream in so many seconds, each by its name."""
+        found, until = b"", time.monotonic() + seconds
+        with socket.create_connection((HOST, self.http), 5) as stream:
+            stream.sendall(f"GET /events HTTP/1.1\r\nHost: {HOST}:{self.http}\r\n\r\n".encode())
+            stream.settimeout(0.2)
+            while time.monotonic() < until:
+                try:
+                    found += stream.recv(65536)
+                except TimeoutError:
+                    pass
+        return [(name, json.loads(text)) for name, text in re.findall(r"event: (\w+)\ndata: (.*)\n\n", found.decode())]
 
     def health(self):
         return self.json("GET", "/health")
@@ -299,8 +316,6 @@ class Meanwhile(threading.Thread):
 
 def without_reset(folder):
     """A copy of the counter that ends its connections by an ordinary close, in place of a reset: what comes of it has to be seen by the tests."""
-    import shutil
-
     shutil.copytree(os.path.join(TOP, "counter"), os.path.join(folder, "copy"), ignore=shutil.ignore_patterns("__pycache__", "tests"))
     path = os.path.join(folder, "copy", "weighbridge_counter", "terminal.py")
     with open(path) as file:

@@ -1,6 +1,8 @@
 """A tare belongs to one weighing: acts over a terminal and an office that are played, on a clock of their own."""
 
 import asyncio
+import contextlib
+import io
 import tempfile
 import unittest
 from collections import Counter
@@ -148,6 +150,15 @@ class WithATare(WithABridge):
             bridge = self.bridge()
             told = await self.weigh(bridge, body)
             self.assertEqual((422, b"counter bad_tare\n", ["SIR"]), (told.status, told.body, bridge.played.sent))
+
+    async def test_a_file_that_can_not_be_written_is_told_and_nothing_is_set(self):
+        bridge = self.bridge()
+        bridge.files.folder = Path(self.folder) / "gone"
+        with contextlib.redirect_stderr(io.StringIO()) as said:
+            told = await self.weigh(bridge)
+        self.assertEqual((503, b"counter no_file\n", False), (told.status, told.body, told.is_sent))
+        self.assertEqual(([], True), (bridge.played.done, "act.json.new" in said.getvalue()))
+        self.assertFalse(bridge.acts.is_busy())
 
     async def test_without_values_nothing_is_sent(self):
         bridge = self.bridge()

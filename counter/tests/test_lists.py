@@ -9,7 +9,7 @@ from pathlib import Path
 from weighbridge_counter.files import Files
 from weighbridge_counter.lists import Lists
 from weighbridge_counter.service import Service
-from weighbridge_counter.setup import SetupFault, read_setup
+from weighbridge_counter.setup import SetupFault, languages, read_setup
 from weighbridge_counter.slips import HEADER, NoText, entry_of_text, slip_of_row
 from weighbridge_counter.tares import BadTare, Tares
 from weighbridge_counter.zero import Zero
@@ -177,6 +177,19 @@ class TheSetup(unittest.TestCase):
     def test_little_is_enough(self):
         setup = self.read('state = "/tmp/x"')
         self.assertEqual((("127.0.0.1", 8090), 20, ()), (setup.listen, setup.interval, setup.ports))
+
+    def test_a_language_is_a_file(self):
+        self.assertEqual({"de": "Deutsch", "en": "English", "es": "Español", "fr": "Français"}, self.read('state = "x"').languages)
+
+    def test_one_that_is_put_there_is_known_and_one_that_is_broken_is_named(self):
+        with tempfile.TemporaryDirectory() as web:
+            folder = Path(web) / "lang"
+            folder.mkdir()
+            (folder / "it.json").write_text('{"name": "Italiano"}')
+            self.assertEqual({"it": "Italiano"}, languages(Path(web)))
+            (folder / "pl.json").write_text("{")
+            with self.assertRaisesRegex(SetupFault, "pl.json: it is no file of words"):
+                languages(Path(web))
 
     def test_each_mistake_is_named_by_its_key(self):
         port = '[[port]]\nname = "till"\nlisten = "127.0.0.1:4101"\nmay = "change"\n'

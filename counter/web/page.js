@@ -9,7 +9,7 @@ import { make, part } from './parts.js';
 import { askJson } from './request.js';
 import { acts, show } from './show.js';
 import { begin, resume, tell } from './weighing.js';
-import { LANGUAGES, clockOf, kg, language, number, speak, t, useZone, wantedLanguage } from './words.js';
+import { clockOf, kg, language, number, speak, t, useZone, wantedLanguage } from './words.js';
 
 const THEME = 'weighbridge.theme';
 
@@ -36,7 +36,9 @@ function takeHello(hello) {
   known.hello = hello;
   useZone(hello.zone);
   part('company').textContent = document.title = hello.company;
-  const wish = wantedLanguage(hello.language);
+  part('language').replaceChildren(...Object.entries(hello.languages).map(([value, textContent]) => make('option', { value, textContent })));
+  part('language').value = language;
+  const wish = wantedLanguage(hello.language, hello.languages);
   if (wish !== language) change(wish);
 }
 
@@ -209,9 +211,8 @@ function showMoments() {
 
 async function main() {
   try { if (localStorage.getItem(THEME)) document.documentElement.dataset.theme = localStorage.getItem(THEME); } catch { /* the system's */ }
-  part('language').replaceChildren(...Object.entries(LANGUAGES).map(([value, textContent]) => make('option', { value, textContent })));
   listenToHands();
-  while (!await change(wantedLanguage('en'))) await new Promise(done => setTimeout(done, 1000));
+  while (!await change(wantedLanguage('en')) && !await change('en')) await new Promise(done => setTimeout(done, 1000));
   feed.begin();
   setInterval(showMoments, 250);
   resume();

@@ -1,7 +1,5 @@
 // The words of the page in the clerk's language, and how numbers and moments are written in it.
 
-export const LANGUAGES = { en: 'English', de: 'Deutsch', fr: 'Français', es: 'Español' };
-const PLACES = { en: 'en-GB', de: 'de-DE', fr: 'fr-FR', es: 'es-ES' };
 const REMEMBERED = 'weighbridge.language';
 
 let words = {};
@@ -10,10 +8,10 @@ let zone = 'UTC';
 
 export const has = key => words[key] !== undefined;
 export const t = (key, values = {}) => (words[key] ?? key).replace(/\{(\w+)\}/g, (_, name) => values[name] ?? '');
-export const number = (value, digits = 0) => new Intl.NumberFormat(PLACES[language], { minimumFractionDigits: digits, maximumFractionDigits: digits, useGrouping: 'always' }).format(value);
+export const number = (value, digits = 0) => new Intl.NumberFormat(words.place, { minimumFractionDigits: digits, maximumFractionDigits: digits, useGrouping: 'always' }).format(value);
 export const kg = value => `${number(value)} kg`;
 
-const written = (at, options) => new Intl.DateTimeFormat(PLACES[language], { timeZone: zone, ...options }).format(new Date(at));
+const written = (at, options) => new Intl.DateTimeFormat(words.place, { timeZone: zone, ...options }).format(new Date(at));
 export const dayOf = at => written(at, { day: '2-digit', month: 'short', year: 'numeric' });
 export const timeOf = at => written(at, { hour: '2-digit', minute: '2-digit', hourCycle: 'h23' });
 export const isToday = at => dayOf(at) === dayOf(Date.now());
@@ -22,10 +20,10 @@ export const clockOf = at => written(at, { weekday: 'short', hour: '2-digit', mi
 
 export function useZone(name) { zone = name; }
 
-// The language that the address asks for, or this browser was used in, or the setup names.
-export function wantedLanguage(ofSetup) {
+// The language that the address asks for, or this browser was used in, or the setup names; of those that there are, if that is known.
+export function wantedLanguage(ofSetup, languages) {
   const wishes = [new URLSearchParams(location.search).get('lang'), remembered(), ofSetup];
-  return wishes.find(it => it in LANGUAGES) ?? 'en';
+  return wishes.find(it => languages ? it in languages : /^[a-z]{2}$/.test(it)) ?? 'en';
 }
 
 function remembered() {

@@ -5,6 +5,7 @@ Nothing that is stored comes from here: the office judges, and its texts pass by
 
 import asyncio
 import re
+import sys
 from collections import Counter
 from collections.abc import Awaitable, Callable
 from dataclasses import dataclass
@@ -81,8 +82,12 @@ class Acts:
         except NotSent:
             told.set_result(not_sent(503, "no_terminal"))
         except OSError as fault:
-            told.set_result(not_sent(503, f"no_file {fault.filename}"))
+            print(f"counter: a file of its own: {fault}", file=sys.stderr, flush=True)
+            if not told.done():
+                told.set_result(not_sent(503, "no_file"))
         finally:
+            if not told.done():
+                told.set_result(NO_ANSWER)
             self.one_at_a_time.release()
 
     async def _pass_on(self, target: str, body: bytes) -> Told:

@@ -3,13 +3,13 @@
 import asyncio
 import datetime
 import time
-from collections.abc import Callable
+from collections.abc import Callable, Coroutine
 from typing import Any
 
 from .acts import Acts
 from .books import Books
 from .files import Files
-from .office import Office
+from .office import NoAnswer, Office
 from .pages import FASTEST, SLOWEST, Pages
 from .service import Service, find_service, program_of
 from .setup import Setup
@@ -21,6 +21,8 @@ from .zero import Zero
 
 MIN_INTERVALS = 20  # below so many intervals e the bridge is empty
 STATE_EVERY = 0.25  # seconds
+WITHOUT_VALUE = 1.5  # seconds between two looks whether another one has the terminal
+ANSWERS_WITHIN = 1.2  # seconds
 GONE_AFTER = 0.5  # seconds without a value after which pages get a sign of life
 
 
@@ -37,6 +39,7 @@ class Counter:
         self.tares = Tares(self.files, lambda: self.now().date(), setup.tare_days, setup.max)
         self.zero = Zero(self.files, self.now)
         self.service: Service | None = None
+        self.answers_at_office = False  # while it gives the counter no value
         self.has_looked = False  # for the service, in this run
         self.program: dict[str, str | bool] = {}
         self.bridge = "unknown"  # empty: it was since the last weighing; weighed: a weighing since; restarted: not empty since the service's start
@@ -58,7 +61,7 @@ class Counter:
         self.books.is_empty = self._is_empty
 
     async def run(self) -> None:
-        await asyncio.gather(self.terminal.run(), self.books.run(), self._tell_regularly())
+        await asyncio.gather(self.terminal.run(), self.books.run(), self._tell_regularly(), self._look_for_another())
 
     def now(self) -> datetime.datetime:
         return datetime.datetime.now(self.setup.zone)
@@ -89,6 +92,7 @@ class Counter:
             self.pages.tell_weight({"state": value.state, "net": value.kg, "tare": self.terminal.fanout.tare, "at": round(value.at * 1000)})
 
     def _terminal_is_up(self) -> None:
+        self.answers_at_office = False
         self._keep_going(self.acts.look())
         self._keep_going(self._look_at_service())
 
@@ -105,7 +109,7 @@ class Counter:
         self._keep_going(self.books.probe())
         self.tell_state()
 
-    def _keep_going(self, work: Any) -> None:
+    def _keep_going(self, work: Coroutine[Any, Any, None]) -> None:
         task = asyncio.ensure_future(work)
         self.tasks.add(task)
         task.add_done_callback(self.tasks.discard)
@@ -138,9 +142,13 @@ class Counter:
     # ---- what is told
 
     def link(self) -> str:
-        """down: the service isn't there; waits: another one has its terminal; held: it doesn't answer; up."""
+        """down: the service isn't there; waits: it is, but its terminal is another one's; held: it doesn't answer; up."""
         fanout = self.terminal.fanout
-        return "held" if fanout.is_held() else fanout.link
+        if fanout.link == "up":
+            return "held" if fanout.is_held() else "up"
+        if self.terminal.is_refused:
+            return "down"
+        return "waits" if self.answers_at_office else "held"
 
     def state(self) -> dict[str, Any]:
         return {
@@ -165,6 +173,7 @@ class Counter:
             "address": list(setup.address),
             "zone": setup.zone.key,
             "language": setup.language,
+            "languages": setup.languages,
             "interval": setup.interval,
             "tare_days": setup.tare_days,
             "now": self.milliseconds(),
@@ -178,6 +187,19 @@ class Counter:
 
     def tell_tares(self) -> None:
         self.pages.tell("tares", self.tares.shown())
+
+    async def _look_for_another(self) -> None:
+        """A service that answers at its office, and gives no value for so long, serves another one's terminal."""
+        while True:
+            await asyncio.sleep(WITHOUT_VALUE)
+            if self.terminal.fanout.link == "up" or self.terminal.is_refused:
+                self.answers_at_office = False
+                continue
+            try:
+                await self.office.ask("GET", "/indication", within=ANSWERS_WITHIN)
+                self.answers_at_office = self.terminal.fanout.link != "up"
+            except NoAnswer:
+                self.answers_at_office = False
 
     async def _tell_regularly(self) -> None:
         while True:

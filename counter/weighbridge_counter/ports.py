@@ -26,6 +26,7 @@ class Client:
         self.terminal, self.reader, self.writer, self.may_change = terminal, reader, writer, may_change
         self.lines: asyncio.Queue[tuple[str, float] | None] = asyncio.Queue(MOST_LINES)
         self.wish: Wish | None = None
+        self.seen: Value | None = None
         self.repeats = self.is_at_end = False
         self.stuck_since: float | None = None
 
@@ -47,7 +48,7 @@ class Client:
             line, came = found
             if self.terminal.clock() - came > CARRIED_OUT_WITHIN:
                 return
-            await self._answer(line)
+            await self._answer(line, came)
         await asyncio.wait_for(self.writer.drain(), READS_NOTHING)
 
     # ---- lines
@@ -85,11 +86,11 @@ class Client:
 
     # ---- answers
 
-    async def _answer(self, line: str) -> None:
+    async def _answer(self, line: str, came: float) -> None:
         if line in ("S", "SI", "@"):
             self._repeat(False)
         if line == "SI":
-            self._say(reply_of(await self.terminal.next_value()))
+            self._say(reply_of(await self._next_value(came)))
         elif line == "S":
             self._say(reply_of(await self._stable()))
         elif line == "SIR":
@@ -103,19 +104,24 @@ class Client:
         else:
             self._say("ES")
 
+    async def _next_value(self, came: float) -> Value | None:
+        """The value after a line came: lines that came together are answered by one, as at the terminal."""
+        if self.seen is None or self.seen.at < came:
+            self.seen = await self.terminal.next_value()
+        return self.seen
+
     async def _stable(self) -> Value | None:
         """The first value that is stable or out of range, of as many as the terminal waits for; fewer once another line came."""
         wish, left = self._new_wish(), self.terminal.fanout.wait_readings + 1
-        loop = asyncio.get_running_loop()
         until: float | None = None
         try:
-            while left > 0 and (until is None or loop.time() < until):
+            while left > 0 and (until is None or self.terminal.clock() < until):
                 value = await self.terminal.next_value()
                 if value is None or value.state in "S+-":
                     return value
                 left -= 1
                 if wish.is_hurried and until is None:
-                    until = loop.time() + max(ENDED_AFTER, 3 * self.terminal.fanout.period)
+                    until = self.terminal.clock() + max(ENDED_AFTER, 3 * self.terminal.fanout.period)
             return None
         finally:
             self.wish = None

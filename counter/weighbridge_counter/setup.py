@@ -1,5 +1,6 @@
 """The setup: a TOML file. Each mistake in it is named by file, key and what to do."""
 
+import json
 import re
 import tomllib
 import zoneinfo
@@ -37,6 +38,7 @@ class Setup:
     wait: int = 20
     tare_days: int = 90
     hosts: tuple[str, ...] = ()
+    languages: dict[str, str] = field(default_factory=dict)  # the name of each, in itself
     ports: tuple[Port, ...] = field(default=())
 
 
@@ -97,8 +99,15 @@ class Reader:
             raise self.fault(key, "there is no such key: look at its spelling, or take it out")
 
 
-def languages(web: Path) -> tuple[str, ...]:
-    return tuple(sorted(it.stem for it in (web / "lang").glob("*.json")))
+def languages(web: Path) -> dict[str, str]:
+    """The languages of the page, a file each."""
+    found: dict[str, str] = {}
+    for path in sorted((web / "lang").glob("??.json")):
+        try:
+            found[path.stem] = str(json.loads(path.read_text(encoding="utf-8"))["name"])
+        except (OSError, ValueError, KeyError, TypeError) as fault:
+            raise SetupFault(f"{path}: it is no file of words: {fault}: compare it with en.json") from None
+    return found
 
 
 def read_setup(path: Path, web: Path) -> Setup:
@@ -112,7 +121,7 @@ def read_setup(path: Path, web: Path) -> Setup:
     ports = table.pop("port", [])
     if not isinstance(ports, list) or not all(isinstance(it, dict) for it in ports):
         raise SetupFault(f"{path}: port: write each port as a table of its own, below a line [[port]]")
-    reader = Reader(table, str(path))
+    reader, known = Reader(table, str(path)), languages(web)
     setup = Setup(
         state=Path(reader.text("state", None, "write the folder in which the counter keeps its files")),
         listen=reader.address("listen", "127.0.0.1:8090"),
@@ -121,8 +130,9 @@ def read_setup(path: Path, web: Path) -> Setup:
         zone=zone_of(reader),
         company=reader.text("company", "Weighbridge", "write the name that stands on the page"),
         address=reader.texts("address", "write the lines below the name, as a list of texts"),
-        language=reader.choice("language", "en", languages(web)),
-        interval=int(reader.number("interval", 20, 1, 50)),
+        language=reader.choice("language", "en", tuple(known)),
+        languages=known,
+        interval=reader.number("interval", 20, 1, 50),
         max=reader.number("max", 60000, 500, 500000),
         wait=reader.number("wait", 20, 1, 600),
         tare_days=reader.number("tare_days", 90, 1, 3660),

@@ -90,6 +90,7 @@ class Terminal:
         self.listeners: set[Listener] = set()
         self.serial: str | None = None
         self.was_refused = False  # nobody listened since it was looked at last
+        self.is_refused = False  # nobody listened at the last try
         self.alive_at = clock()
         self.doubted_until = 0.0
 
@@ -109,8 +110,10 @@ class Terminal:
         try:
             _, connection = await loop.create_connection(lambda: Connection(self), *self.address)
         except OSError:
-            self.was_refused = True
+            self.was_refused = self.is_refused = True
+            self.on_change()
             return
+        self.is_refused = False
         self.fanout.wire = connection
         self.fanout.connected()
         self.on_change()
