@@ -36,6 +36,14 @@ class Clerk:
     def more(self):
         return self.browser.run("return document.getElementById('more').textContent")
 
+    def sentence(self):
+        """What the page says is to be done now, and what stands below it, read at once."""
+        return self.browser.run("return ['words', 'more'].map(it => document.getElementById(it).textContent)")
+
+    def choose(self):
+        """Presses the first of the choices, if it still stands there."""
+        return self.browser.run("const it = document.querySelector('#choices button'); if (it) it.click(); return it !== null")
+
     def weight(self):
         return self.browser.run("return document.getElementById('weight').textContent")
 

@@ -13,6 +13,8 @@ from countering import Bridge, becomes, holds, same
 from network import Network
 
 VEHICLES, PATIENCE = 30, 60
+# Seconds: for so long a page that is loaded may say nothing yet.
+LOADS_WITHIN = 3
 FAULTS = [
     "counter killed",
     "service killed",
@@ -89,11 +91,14 @@ class Day:
         """One vehicle, from driving on to driving off, as the sentences say."""
         bridge, clerk, is_on, since, shown, until = self.bridge, self.clerk, False, time.monotonic(), "", time.monotonic() + PATIENCE
         while time.monotonic() < until:
-            words, more = clerk.words(), clerk.more()
+            words, more = clerk.sentence()
             if words != shown:
                 if time.monotonic() - since > 3:
                     self.long.append((shown, round(time.monotonic() - since)))
                 shown, since = words, time.monotonic()
+            if not words and time.monotonic() - since < LOADS_WITHIN:
+                time.sleep(0.15)
+                continue
             done = re.match(r"(?:Slip|Ticket) (\d+): ", words) or re.match(rf"{plate} is weighed, (?:Slip|Ticket) (\d+)", words)
             if done and plate in words + more and is_on:
                 self.told.append((int(done[1]), plate))
@@ -127,9 +132,9 @@ class Day:
                     self.fault(fault)
                     fault = None
             elif what == "clear":
-                clerk.browser.click("#choices button")
+                clerk.choose()
             elif what == "again":
-                clerk.browser.click("#choices button")
+                clerk.choose()
             time.sleep(0.15)
         self.doubts.append(f"{plate}: nothing came of it in {PATIENCE} s: {clerk.words()} | {clerk.more()}")
         bridge.converter.load = 0
