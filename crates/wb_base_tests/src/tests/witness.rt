@@ -6,14 +6,14 @@ use std::test::Fail;
 use wb_journal::Digest;
 use wb_witness::{LINE, Newest, Said, WITNESS, entry_of, line_of, place_of, read};
 
-const D14: &str = "b3b5f9b7b253a32759e7f7696c8248ad2d85333673358587ad599ef71b8e7d3e";
+const DIGEST_OF_14: &str = "b3b5f9b7b253a32759e7f7696c8248ad2d85333673358587ad599ef71b8e7d3e";
 
-const D15: &str = "a982a0aaef75f8622de6a96ef3a1d8ddd9de4bd18d9cda420eeb00dfbfcfa68c";
+const DIGEST_OF_15: &str = "a982a0aaef75f8622de6a96ef3a1d8ddd9de4bd18d9cda420eeb00dfbfcfa68c";
 
-const OF_14: &str =
+const LINE_OF_14: &str =
     "newest 0000000014 b3b5f9b7b253a32759e7f7696c8248ad2d85333673358587ad599ef71b8e7d3e 5fe2bf3a3689b4f6e132448374df2d63241027750d80fac4a159bc6c71808344\n";
 
-const OF_15: &str =
+const LINE_OF_15: &str =
     "newest 0000000015 a982a0aaef75f8622de6a96ef3a1d8ddd9de4bd18d9cda420eeb00dfbfcfa68c 381c1abad6e15052ceaba8db21b92bd39ebcc57f07b69ccc7f39ab98a97e0c6e\n";
 
 /// What happened to a witness of 14 and 15.
@@ -61,8 +61,8 @@ fn number_in(witness: &[u8]) -> u32 {
 
 fn number_after(change: Change) -> u32 {
     let mut witness = [0u8; WITNESS];
-    witness[..LINE].copy_from_slice(OF_14.as_bytes());
-    witness[LINE..].copy_from_slice(OF_15.as_bytes());
+    witness[..LINE].copy_from_slice(LINE_OF_14.as_bytes());
+    witness[LINE..].copy_from_slice(LINE_OF_15.as_bytes());
     match change {
         Nothing => number_in(&witness),
         Set(place, byte) => {
@@ -102,8 +102,8 @@ fn assert_line(rt: &impl Abort, number: u32, digest: &str, wanted: Option<&str>)
 
 #[test]
 fn writes_lines_by_turns(rt: HostRuntime) -> Result<(), Fail> {
-    assert_line(&rt, 14, D14, Some(OF_14));
-    assert_line(&rt, 15, D15, Some(OF_15));
+    assert_line(&rt, 14, DIGEST_OF_14, Some(LINE_OF_14));
+    assert_line(&rt, 15, DIGEST_OF_15, Some(LINE_OF_15));
     assert_line(&rt, 15, "no text", None);
     assert_eq!(rt; (place_of(14), place_of(15)), (0, LINE as u64));
     Ok(())
@@ -134,8 +134,8 @@ const PRINTED_AGAIN: &str =
 
 #[test]
 fn finds_the_entry_of_a_response(rt: HostRuntime) -> Result<(), Fail> {
-    assert_entry(&rt, TICKET, Some((15, D15)));
-    assert_entry(&rt, SLIP, Some((14, D14)));
+    assert_entry(&rt, TICKET, Some((15, DIGEST_OF_15)));
+    assert_entry(&rt, SLIP, Some((14, DIGEST_OF_14)));
     assert_entry(&rt, PRINTED_AGAIN, None);
     assert_entry(
         &rt,
