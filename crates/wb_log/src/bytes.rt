@@ -1,49 +1,59 @@
 //! Numbers and counts in bytes.
+ghost use Rattle.std.specs.Prelude.{◌≡◌, ◌+◌, ◌≤◌, ◌↔◌, IsTrue, length, slice_index};
+ghost use Rattle.sqlite_wal.specs.Format.{be32, be64, stored_sum, zeros};
+ghost use Rattle.wb_log.specs.Look.{AreRightOrLost};
 
-/// The byte at a place, and 0 past the end.
-pub(crate) fn byte(bytes: &[u8], at: usize) -> u8 {
-    bytes.get(at).copied().unwrap_or(0)
-}
+/// A checksum: two words.
+pub(crate) type Sum = (u32, u32);
 
 /// The four bytes from a place as a number, the highest first.
-pub(crate) fn be32(bytes: &[u8], at: usize) -> u32 {
-    let at = at.min(usize::MAX - 4);
-    let mut number = 0u32;
-    for place in at..at + 4 {
-        number = number
-            .wrapping_mul(256)
-            .wrapping_add(u32::from(byte(bytes, place)));
-    }
-    number
+pub(crate) fn number_at(bytes: &[u8], at: usize) -> u32
+    requires { at + 4 ≤ length bytes.now }
+    ensures { result ≡ be32 bytes.now at }
+{
+    bytes[at] as u32 * 0x100_0000
+        + bytes[at + 1] as u32 * 0x1_0000
+        + bytes[at + 2] as u32 * 0x100
+        + bytes[at + 3] as u32
 }
 
-/// The eight bytes from a place as a number, the highest first.
-pub(crate) fn be64(bytes: &[u8], at: usize) -> u64 {
-    let high = u64::from(be32(bytes, at));
-    let low = u64::from(be32(bytes, at.saturating_add(4)));
-    high.wrapping_mul(0x1_0000_0000).wrapping_add(low)
+/// The eight bytes from the beginning as a number, the highest first.
+pub(crate) fn first_number(bytes: &[u8]) -> u64
+    requires { 8 ≤ length bytes.now }
+    ensures { result ≡ be64 bytes.now 0 }
+{
+    number_at(bytes, 0) as u64 * 0x1_0000_0000 + number_at(bytes, 4) as u64
+}
+
+/// The checksum that is stored at a place.
+pub(crate) fn sum_at(bytes: &[u8], at: usize) -> Sum
+    requires { at + 8 ≤ length bytes.now }
+    ensures { result ≡ stored_sum bytes.now at }
+{
+    (number_at(bytes, at), number_at(bytes, at + 4))
 }
 
 /// How many bytes are 0.
-pub(crate) fn zeros(bytes: &[u8]) -> u64 {
-    let mut count = 0u64;
-    for byte in bytes {
-        if *byte == 0 {
-            count = count.saturating_add(1);
-        }
+pub(crate) fn zeros_in(bytes: &[u8]) -> u64
+    ensures value { result ≡ zeros bytes.now }
+    ensures few { result ≤ length bytes.now }
+{
+    let mut count = 0;
+    for i in 0..bytes.len() {
+        count += if bytes[i] == 0 { 1 } else { 0 };
     }
     count
 }
 
-/// The bytes from a place on.
-pub(crate) fn behind(bytes: &[u8], at: usize) -> &[u8] {
-    bytes.get(at..).unwrap_or(&[])
-}
-
 /// Whether each of these bytes is right, or was lost to a 0.
-pub(crate) fn are_right_or_lost(found: &[u8], right: &[u8]) -> bool {
-    found
-        .iter()
-        .zip(right)
-        .all(|(found, right)| *found == 0 || *found == *right)
+pub(crate) fn are_right_or_lost(bytes: &[u8], right: &[u8]) -> bool
+    requires { length bytes.now ≡ length right.now }
+    ensures { IsTrue result ↔ AreRightOrLost bytes.now right.now }
+{
+    for i in 0..bytes.len() {
+        if bytes[i] != 0 && bytes[i] != right[i] {
+            return false;
+        }
+    }
+    true
 }

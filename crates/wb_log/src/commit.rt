@@ -2,76 +2,98 @@
 //!
 //! Its first frame has a number above those of all pages, and begins with a count: of the zeros in its pages, and of how far its numbers and its
 //! size lie below that number. It is written over zeros, so that what is lost of it is 0, which makes what is found more, or the count less.
-use crate::bytes::{are_right_or_lost, be32, be64, behind, zeros};
-use crate::frames::{Frames, content, seal, size};
-use crate::header::Sum;
+ghost use Rattle.std.specs.Prelude.{◌≡◌, ◌≤◌, ◌+◌, ◌-◌, ◌↔◌, ◌<◌, ◌^◌, IsTrue, length};
+ghost use Rattle.wb_log.specs.Look.{IsSealed, lack};
+ghost use Rattle.wb_log.specs.helpers.Commit.{EndsLost, GoesOn, HasBegun};
+
+use crate::bytes::{Sum, are_right_or_lost, first_number, number_at, zeros_in};
+use crate::frames::{FRAME_HEADER, sum_after};
 
 /// The number of a frame that counts.
-const COUNT: u32 = 0xff00_0000;
+pub(crate) const COUNT: u32 = 0xff00_0000;
 
 /// What was found of a commit so far.
 #[derive(Clone, Copy)]
-pub(crate) struct Commit<'a> {
-    frames: Frames<'a>,
-    /// What it counts itself.
-    said: u64,
-    /// What was found of that.
-    found: u64,
-    /// The checksum before the next frame.
+pub(crate) struct Commit {
+    /// What its first frame counts beyond what was found; none if more was found.
+    left: Option<u64>,
+    /// The checksum that the newest frame had.
     sum: Sum,
     /// Whether each salt and checksum so far is right, or lost bytes.
     is_right: bool,
 }
 
-impl<'a> Commit<'a> {
-    /// A commit that begins with this frame, after this checksum. None if the frame doesn't count, and has lost nothing.
-    pub(crate) fn begin(frames: Frames<'a>, first: &[u8], sum: Sum) -> Option<Self> {
-        let number = be32(first, 0);
-        if number != COUNT && number != 0 {
-            return None;
-        }
-        let mut commit = Commit {
-            frames,
-            said: be64(content(first), 0),
-            found: 0,
+impl Commit {
+    /// A commit that begins with this frame, after this checksum.
+    pub(crate) fn begin(head: &[u8], before: Sum, frame: &[u8]) -> Self
+        requires head { 32 ≤ length head.now }
+        requires frame { 32 ≤ length frame.now }
+        ensures { HasBegun head.now before frame.now result }
+    {
+        let page = &frame[FRAME_HEADER..];
+        let front = [255, 0, 0, 0, frame[4], frame[5], frame[6], frame[7]];
+        let sum = sum_after(head, before, &front, frame);
+        Commit {
+            left: less(Some(first_number(page)), zeros_in(&page[8..])),
             sum,
-            is_right: true,
-        };
-        commit.take(first, COUNT, behind(content(first), 8));
-        Some(commit)
+            is_right: is_sealed(head, sum, frame),
+        }
     }
 
-    /// Takes the next frame.
-    pub(crate) fn go_on(&mut self, frame: &[u8]) {
-        let number = be32(frame, 0);
-        self.found = self.found.saturating_add(lack(number));
-        self.take(frame, number, content(frame));
+    /// The same with its next frame.
+    pub(crate) fn go_on(self, head: &[u8], frame: &[u8]) -> Self
+        requires head { 32 ≤ length head.now }
+        requires frame { 24 ≤ length frame.now }
+        requires room { length frame.now ≤ 65560 }
+        ensures { GoesOn head.now self frame.now result }
+    {
+        let more = zeros_in(&frame[FRAME_HEADER..]) + lack(number_at(frame, 0));
+        let sum = sum_after(head, self.sum, &frame[..8], frame);
+        Commit {
+            left: less(self.left, more),
+            sum,
+            is_right: self.is_right && is_sealed(head, sum, frame),
+        }
     }
 
-    /// Takes a frame of this number, with the part of its page in which zeros are counted.
-    fn take(&mut self, frame: &[u8], number: u32, counted: &[u8]) {
-        self.found = self.found.saturating_add(zeros(counted));
-        self.sum = self.frames.sum_of(frame, number, self.sum);
-        self.is_right = self.is_right && self.is_sealed(frame);
-    }
-
-    /// Whether the salts and the checksum of a frame are right, or lost bytes.
-    fn is_sealed(&self, frame: &[u8]) -> bool {
-        let (first, second) = self.sum;
-        let seal = seal(frame);
-        are_right_or_lost(seal, self.frames.header.salts())
-            && are_right_or_lost(behind(seal, 8), &first.to_be_bytes())
-            && are_right_or_lost(behind(seal, 12), &second.to_be_bytes())
-    }
-
-    /// Whether a commit that ends with this frame may have lost bytes, and only that.
-    pub(crate) fn may_have_lost(&self, last: &[u8]) -> bool {
-        let found = self.found.saturating_add(lack(size(last)));
-        self.said < found || (self.said == found && self.is_right)
+    /// Whether it lost bytes and nothing else, if it ends with this frame.
+    pub(crate) fn ends_lost(&self, frame: &[u8]) -> bool
+        requires { 24 ≤ length frame.now }
+        ensures { IsTrue result ↔ EndsLost self.now frame.now }
+    {
+        match less(self.left, lack(number_at(frame, 4))) {
+            None => true,
+            Some(left) => left == 0 && self.is_right,
+        }
     }
 }
 
+/// What is left of a count after so many more were found.
+fn less(left: Option<u64>, more: u64) -> Option<u64>
+    ensures { result ≡ Rattle.wb_log.specs.helpers.Commit.left_after left more }
+{
+    left?.checked_sub(more)
+}
+
 /// How far a number lies below the one that counts.
-fn lack(number: u32) -> u64 {
-    u64::from(COUNT.saturating_sub(number))
+fn lack(number: u32) -> u64
+    ensures { result ≡ Rattle.wb_log.specs.Look.lack number }
+{
+    COUNT.saturating_sub(number) as u64
+}
+
+/// Whether the salts and the checksum of a frame are right, or lost bytes.
+fn is_sealed(head: &[u8], sum: Sum, frame: &[u8]) -> bool
+    requires head { 32 ≤ length head.now }
+    requires frame { 24 ≤ length frame.now }
+    ensures { IsTrue result ↔ IsSealed head.now sum frame.now }
+{
+    let (first, second) = sum;
+    if !are_right_or_lost(&frame[8..16], &head[16..24]) {
+        return false;
+    }
+    if !are_right_or_lost(&frame[16..20], &first.to_be_bytes()) {
+        return false;
+    }
+    are_right_or_lost(&frame[20..24], &second.to_be_bytes())
 }

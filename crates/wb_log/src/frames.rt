@@ -1,132 +1,127 @@
 //! The frames of a log. Each has 24 bytes and a page: the page's number, the size of the database if the frame ends a commit and 0 if not, the
 //! log's salts, and a checksum over all that comes before it.
-//!
-//! A frame's *gate* is its first byte of salt. It is shut, which is 0, before and after the frames of a commit. A commit of two syncs opens its
-//! gate last, when all its frames are synced. A commit of one sync is written over zeros.
-ghost use Rattle.std.specs.Prelude.{◌≤◌};
+ghost use Rattle.std.specs.Prelude.{◌≡◌, ◌≢◌, ◌+◌, ◌<◌, ◌≤◌, ◌^◌, ◌↔◌, ℕ, IsTrue, IfSome, None, length, slice_index};
+ghost use Rattle.sqlite_wal.specs.Format.{part, commit_size, checksum, content, IsFrame};
+ghost use Rattle.sqlite_wal.specs.Recovery.{Passes};
+ghost use Rattle.wb_log.specs.Look.{Has};
+ghost use Rattle.wb_log.specs.helpers.Stop.{StopsAt, IsBehind};
 
-use crate::bytes::{be32, behind, byte};
-use crate::header::{HEADER, Header, Sum};
+use crate::bytes::{Sum, number_at, sum_at};
+use crate::header::{BIG, HEADER};
 use sqlite_wal::checksum_of;
 
-const FRAME_HEADER: usize = 24;
+pub(crate) const FRAME_HEADER: usize = 24;
 
-/// The frames of a log, whole or not.
-#[derive(Clone, Copy)]
-pub(crate) struct Frames<'a> {
-    pub(crate) header: Header<'a>,
-    bytes: &'a [u8],
-    length: usize,
-}
-
-/// Where reading a log stops.
+/// The first frame that doesn't pass the test, and the commit that it is of.
 #[derive(Clone, Copy)]
 pub(crate) struct Stop {
-    /// Which frame is the first that isn't whole, from 0.
+    /// Its number, from 0.
     pub(crate) frame: usize,
-    /// The first frame of its commit, and the checksum before that.
-    pub(crate) commit: usize,
+    /// Where it begins in the log.
+    pub(crate) at: usize,
+    /// The checksum before it.
     pub(crate) sum: Sum,
+    /// The number of the first frame of its commit.
+    pub(crate) first: usize,
+    /// Where that begins in the log.
+    pub(crate) first_at: usize,
+    /// The checksum before that.
+    pub(crate) first_sum: Sum,
 }
 
-impl<'a> Frames<'a> {
-    /// The frames of a log whose pages have so many bytes.
-    pub(crate) fn new(header: Header<'a>, log: &'a [u8], page_size: usize) -> Self {
-        Frames {
-            header,
-            bytes: behind(log, HEADER),
-            length: page_size.saturating_add(FRAME_HEADER),
-        }
-    }
-
-    /// The frames from this one on.
-    pub(crate) fn from(&self, frame: usize) -> &'a [u8] {
-        behind(self.bytes, frame.saturating_mul(self.length))
-    }
-
-    /// How many bytes a frame has.
-    pub(crate) fn length(&self) -> usize
-        ensures { 24 ≤ result }
-    {
-        self.length.max(FRAME_HEADER)
-    }
-
-    /// Where a frame begins in the log.
-    pub(crate) fn place(&self, frame: usize) -> usize {
-        frame.saturating_mul(self.length).saturating_add(HEADER)
-    }
-
-    /// Where reading stops. None if each frame is whole.
-    pub(crate) fn stop(&self) -> Option<Stop> {
-        let mut sum = self.header.sum();
-        let mut commit = (0, sum);
-        for (frame, bytes) in self.bytes.chunks_exact(self.length()).enumerate() {
-            if !self.is_whole(bytes, sum) {
-                let (commit, sum) = commit;
-                return Some(Stop { frame, commit, sum });
-            }
-            sum = stored_sum(bytes);
-            if commits(bytes) {
-                commit = (frame.saturating_add(1), sum);
-            }
-        }
-        None
-    }
-
-    /// Whether a frame has the log's salts, a page's number, and its checksum.
-    fn is_whole(&self, frame: &[u8], before: Sum) -> bool {
-        let number = be32(frame, 0);
-        self.has_salts(frame)
-            && number != 0
-            && self.sum_of(frame, number, before) == stored_sum(frame)
-    }
-
-    /// The checksum that a frame of this page has to have.
-    pub(crate) fn sum_of(&self, frame: &[u8], number: u32, before: Sum) -> Sum {
-        let is_big = self.header.is_big();
-        let mut front = [0u8; 8];
-        front[..4].copy_from_slice(&number.to_be_bytes());
-        front[4..].copy_from_slice(&be32(frame, 4).to_be_bytes());
-        checksum_of(is_big, checksum_of(is_big, before, &front), content(frame))
-    }
-
-    pub(crate) fn has_salts(&self, frame: &[u8]) -> bool {
-        frame.get(8..16) == Some(self.header.salts())
-    }
-
-    /// Whether the gate of a frame is open, as after a commit.
-    pub(crate) fn is_open(&self, frame: &[u8]) -> bool {
-        byte(frame, 8) == byte(self.header.salts(), 0)
-    }
-
-    /// Whether the gate of a frame that isn't open is shut, or the frame is one of a log before this one, of which sqlite3 leaves some. Another
-    /// byte beside this log's other salts is damage.
-    pub(crate) fn is_shut(&self, frame: &[u8]) -> bool {
-        byte(frame, 8) == 0 || frame.get(9..16) != self.header.salts().get(1..)
-    }
-}
-
-/// The size of the database that a frame has which ends a commit, and 0 of another.
-pub(crate) fn size(frame: &[u8]) -> u32 {
-    be32(frame, 4)
+/// The frame that begins at a byte of the log, if the log has all of it.
+pub(crate) fn frame_from(log: &[u8], page: usize, at: usize) -> Option<&[u8]>
+    requires { page ≤ 65536 }
+    ensures some { IfSome result (λ frame. (at + (24 + page) ≤ length log.now) × (frame.now ≡ part log.now at (24 + page))) }
+    ensures none { result ≡ None → length log.now < at + (24 + page) }
+{
+    log.get(at..)?.get(..FRAME_HEADER + page)
 }
 
 /// Whether a frame ends a commit.
-pub(crate) fn commits(frame: &[u8]) -> bool {
-    size(frame) != 0
+pub(crate) fn commits(frame: &[u8]) -> bool
+    requires { 24 ≤ length frame.now }
+    ensures { IsTrue result ↔ (commit_size frame.now ≢ 0) }
+{
+    number_at(frame, 4) != 0
 }
 
-/// The checksum that a frame has.
-pub(crate) fn stored_sum(frame: &[u8]) -> Sum {
-    (be32(frame, 16), be32(frame, 20))
+/// Whether a frame has the salts of this header.
+pub(crate) fn has_salts(head: &[u8], frame: &[u8]) -> bool
+    requires head { 32 ≤ length head.now }
+    requires frame { 24 ≤ length frame.now }
+    ensures { IsTrue result ↔ (part frame.now 8 8 ≡ part head.now 16 8) }
+{
+    frame[8..16] == head[16..24]
 }
 
-/// The salts and the checksum that a frame has, as bytes.
-pub(crate) fn seal(frame: &[u8]) -> &[u8] {
-    frame.get(8..FRAME_HEADER).unwrap_or(&[])
+/// Whether a frame passes the test under this header, after this checksum.
+fn passes(head: &[u8], before: Sum, frame: &[u8]) -> bool
+    requires head { 32 ≤ length head.now }
+    requires frame { 24 ≤ length frame.now }
+    ensures { IsTrue result ↔ IsFrame head.now before frame.now }
+{
+    if !has_salts(head, frame) || number_at(frame, 0) == 0 {
+        return false;
+    }
+    sum_after(head, before, &frame[..8], frame) == sum_at(frame, 16)
 }
 
-/// The page that a frame has.
-pub(crate) fn content(frame: &[u8]) -> &[u8] {
-    behind(frame, FRAME_HEADER)
+/// The checksum of a frame that begins with these eight bytes.
+pub(crate) fn sum_after(head: &[u8], before: Sum, front: &[u8], frame: &[u8]) -> Sum
+    requires head { 32 ≤ length head.now }
+    requires frame { 24 ≤ length frame.now }
+    ensures { result ≡ Rattle.wb_log.specs.Look.sum_after head.now before front.now frame.now }
+{
+    let is_big = head[3] == BIG;
+    checksum_of(
+        is_big,
+        checksum_of(is_big, before, front),
+        &frame[FRAME_HEADER..],
+    )
+}
+
+/// Where the frames stop to pass the test. None if each does.
+pub(crate) fn first_stop(log: &[u8], page: usize) -> Option<Stop>
+    requires head { 32 ≤ length log.now }
+    requires page { page ≤ 65536 }
+    ensures some { IfSome result (λ stop. StopsAt page log.now stop) }
+    ensures none { result ≡ None → (i : ℕ) → Has page log.now i → Passes page log.now i }
+{
+    let head = &log[..HEADER];
+    let sum = sum_at(head, 24);
+    let mut stop = Stop {
+        frame: 0,
+        at: HEADER,
+        sum,
+        first: 0,
+        first_at: HEADER,
+        first_sum: sum,
+    };
+    while let Some(frame) = frame_from(log, page, stop.at) {
+        if !passes(head, stop.sum, frame) {
+            return Some(stop);
+        }
+        stop = behind(stop, frame);
+    }
+    None
+}
+
+/// The place behind a frame that passes.
+fn behind(stop: Stop, frame: &[u8]) -> Stop
+    requires frame { 24 ≤ length frame.now }
+    requires number { stop.frame ≤ stop.at }
+    requires room { stop.at + length frame.now < 2 ^ 64 }
+    ensures { IsBehind stop frame.now result }
+{
+    let mut next = stop;
+    next.frame += 1;
+    next.at += frame.len();
+    next.sum = sum_at(frame, 16);
+    if commits(frame) {
+        next.first = next.frame;
+        next.first_at = next.at;
+        next.first_sum = next.sum;
+    }
+    next
 }

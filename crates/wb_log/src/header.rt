@@ -1,71 +1,46 @@
 //! The first 32 bytes of a log.
-use crate::bytes::{be32, behind, byte};
-use sqlite_wal::checksum_of;
+ghost use Rattle.std.specs.Prelude.{◌≡◌, ◌≤◌, ◌↔◌, IsTrue, IfSome, IsSome, length};
+ghost use Rattle.sqlite_wal.specs.Format.{be32, IsSigned};
+ghost use Rattle.sqlite_wal.specs.PageSize.{IsPageSize, bytes_of};
+
+use crate::bytes::{number_at, sum_at};
+use sqlite_wal::{PageSize, checksum_of};
 
 pub(crate) const HEADER: usize = 32;
+
+/// The fourth byte of a header whose checksums read words with the highest byte first.
+pub(crate) const BIG: u8 = 0x83;
 
 /// The count of checkpoints that a log has before its first one.
 const BEGUN: u32 = 0xffff_ffff;
 
-/// A checksum: two words.
-pub(crate) type Sum = (u32, u32);
-
-/// What a log's header says of its frames.
-#[derive(Clone, Copy)]
-pub(crate) struct Header<'a> {
-    bytes: &'a [u8],
+/// Whether a header begins as each does, and ends with its checksum.
+pub(crate) fn is_signed(head: &[u8]) -> bool
+    requires { 32 ≤ length head.now }
+    ensures { IsTrue result ↔ IsSigned head.now }
+{
+    if head[0] != 0x37 || head[1] != 0x7f || head[2] != 0x06 {
+        return false;
+    }
+    if head[3] != 0x82 && head[3] != 0x83 {
+        return false;
+    }
+    checksum_of(head[3] == BIG, (0, 0), &head[..24]) == sum_at(head, 24)
 }
 
-impl<'a> Header<'a> {
-    /// The header of a log, if that has the bytes.
-    pub(crate) fn of(log: &'a [u8]) -> Option<Self> {
-        let bytes = log.get(..HEADER)?;
-        Some(Header { bytes })
-    }
+/// Whether a header is of a log that had no checkpoint yet.
+pub(crate) fn is_begun(head: &[u8]) -> bool
+    requires { 32 ≤ length head.now }
+    ensures { IsTrue result ↔ (be32 head.now 12 ≡ 0xffff_ffff) }
+{
+    number_at(head, 12) == BEGUN
+}
 
-    /// Whether it begins as each log does, and ends with its checksum.
-    pub(crate) fn is_signed(&self) -> bool {
-        let mark = be32(self.bytes, 0);
-        if mark != 0x377f_0682 && mark != 0x377f_0683 {
-            return false;
-        }
-        let front = self.bytes.get(..24).unwrap_or(&[]);
-        checksum_of(self.is_big(), (0, 0), front) == self.sum()
-    }
-
-    /// Whether it is shut: a checkpoint has taken all that the log has.
-    pub(crate) fn is_shut(&self) -> bool {
-        byte(self.bytes, 0) == 0
-    }
-
-    /// Whether it is of a log that had no checkpoint yet.
-    pub(crate) fn is_begun(&self) -> bool {
-        be32(self.bytes, 12) == BEGUN
-    }
-
-    /// Whether checksums read words with the highest byte first.
-    pub(crate) fn is_big(&self) -> bool {
-        byte(self.bytes, 3) == 0x83
-    }
-
-    /// The bytes of a page, if it is a size that pages have.
-    pub(crate) fn page_size(&self) -> Option<usize> {
-        let size = be32(self.bytes, 8);
-        if (512..=65536).contains(&size) && size.is_power_of_two() {
-            Some(size as usize)
-        } else {
-            None
-        }
-    }
-
-    /// The eight bytes of salt that each of its frames has.
-    pub(crate) fn salts(&self) -> &'a [u8] {
-        self.bytes.get(16..24).unwrap_or(&[])
-    }
-
-    /// The checksum that its first frame goes on from.
-    pub(crate) fn sum(&self) -> Sum {
-        let sum = behind(self.bytes, 24);
-        (be32(sum, 0), be32(sum, 4))
-    }
+/// The bytes of a page, if it is a size that pages have.
+pub(crate) fn page_size(head: &[u8]) -> Option<PageSize>
+    requires { 32 ≤ length head.now }
+    ensures valid { IsSome result ↔ IsPageSize (be32 head.now 8) }
+    ensures value { IfSome result (λ size. bytes_of size ≡ be32 head.now 8) }
+{
+    PageSize::new(number_at(head, 8) as usize)
 }

@@ -1,7 +1,13 @@
 //! The look: four rules, in this order.
-use crate::commit::Commit;
-use crate::frames::{Frames, Stop, commits};
-use crate::header::Header;
+ghost use Rattle.std.specs.Prelude.{◌≡◌, ◌↔◌, ◌≤◌, ◌<◌, IsTrue, IfErr, IfOk, OnOk, length};
+ghost use Rattle.sqlite_wal.specs.Recovery.{frame_at};
+ghost use Rattle.wb_log.specs.Look.{BothHold, HasHeader, IsOfLastCommit, IsRefused, MayHaveLost, MayStop, NeedsFile, page_size};
+ghost use Rattle.wb_log.specs.helpers.Stop.{StopsAt};
+
+use crate::bytes::number_at;
+use crate::commit::{COUNT, Commit};
+use crate::frames::{FRAME_HEADER, Stop, commits, first_stop, frame_from, has_salts};
+use crate::header::{HEADER, is_begun, is_signed, page_size};
 use std::fmt;
 use std::fmt::Display;
 
@@ -33,83 +39,111 @@ impl Display for Refusal {
 }
 
 /// Refuses the log beside a file of so many bytes, unless a power cut can have left the two. No byte is 0 bytes of file.
-pub fn look(file: u64, log: &[u8]) -> Result<(), Refusal> {
-    let Some(header) = Header::of(log) else {
-        return Ok(());
-    };
+pub fn look(file: u64, log: &[u8]) -> Result<(), Refusal>
+    ensures taken { OnOk result ((refusal : Refusal) → ¬ IsRefused file log.now refusal) }
+    ensures refused { IfErr result (λ refusal. IsRefused file log.now refusal) }
+{
     if file == 0 {
-        return without_file(header, log);
+        return if needs_file(log) {
+            Err(Refusal::File)
+        } else {
+            Ok(())
+        };
     }
-    if log.len() < LEAST || header.is_shut() {
+    if log.len() < LEAST {
         return Ok(());
     }
-    if !header.is_signed() {
+    if log[0] == 0 {
+        return Ok(());
+    }
+    let head = &log[..HEADER];
+    if !is_signed(head) {
         return Err(Refusal::Header);
     }
-    match header.page_size() {
-        None => Err(Refusal::Header),
-        Some(page) if file < page as u64 => Err(Refusal::File),
-        Some(page) => look_at_frames(Frames::new(header, log, page)),
-    }
-}
-
-/// Without a byte of the file, the log is one of an opening that was cut off before it wrote a frame.
-fn without_file(header: Header<'_>, log: &[u8]) -> Result<(), Refusal> {
-    if log.len() >= LEAST || (header.is_signed() && !header.is_begun()) {
+    let Some(size) = page_size(head) else {
+        return Err(Refusal::Header);
+    };
+    let page = size.bytes();
+    if file < page as u64 {
         return Err(Refusal::File);
     }
-    Ok(())
-}
-
-/// Refuses frames that no power cut can have left.
-fn look_at_frames(frames: Frames<'_>) -> Result<(), Refusal> {
-    match frames.stop() {
-        Some(stop) if !may_stop(&frames, &stop) => Err(Refusal::Frame(frames.place(stop.frame))),
+    match first_stop(log, page) {
+        Some(stop) if !may_stop(log, page, &stop) => Err(Refusal::Frame(stop.at)),
         _ => Ok(()),
     }
 }
 
-/// Whether the first frame that isn't whole may be so: it is behind a shut gate, or of the commit that was being written.
-fn may_stop(frames: &Frames<'_>, stop: &Stop) -> bool {
-    let first = frames.from(stop.frame);
-    if frames.is_open(first) {
-        is_last_commit(frames, stop) && may_have_lost(frames, stop)
+/// Whether a log has what a file must have had: a frame, or the header of a log that had a checkpoint.
+fn needs_file(log: &[u8]) -> bool
+    ensures { IsTrue result ↔ NeedsFile log.now }
+{
+    if log.len() < HEADER {
+        return false;
+    }
+    let head = &log[..HEADER];
+    log.len() >= LEAST || (is_signed(head) && !is_begun(head))
+}
+
+/// Whether the first frame that doesn't pass may be so: it is behind a shut gate, or of the commit that was being written.
+fn may_stop(log: &[u8], page: usize, stop: &Stop) -> bool
+    requires head { 32 ≤ length log.now }
+    requires page { (8 ≤ page) × (page ≤ 65536) }
+    requires stop { StopsAt page log.now stop.now }
+    ensures { IsTrue result ↔ MayStop page log.now (stop.now.frame) }
+{
+    let head = &log[..HEADER];
+    let frame = &log[stop.at..stop.at + (FRAME_HEADER + page)];
+    if frame[8] == head[16] {
+        is_of_last_commit(log, page, stop) && may_have_lost(log, page, stop)
     } else {
-        frames.is_shut(first)
+        frame[8] == 0 || frame[9..16] != head[17..24]
     }
 }
 
-/// Whether no frame with this log's salts stands behind the end of the commit that isn't whole. A commit is synced before the next is written.
-fn is_last_commit(frames: &Frames<'_>, stop: &Stop) -> bool {
+/// Whether no frame from a stop on with the log's salts stands behind one that ends a commit.
+fn is_of_last_commit(log: &[u8], page: usize, stop: &Stop) -> bool
+    requires head { 32 ≤ length log.now }
+    requires page { page ≤ 65536 }
+    requires place { (stop.now.at ≡ frame_at page (stop.now.frame)) × (stop.now.at ≤ length log.now) }
+    ensures { IsTrue result ↔ IsOfLastCommit page log.now (stop.now.frame) }
+{
+    let head = &log[..HEADER];
+    let mut at = stop.at;
     let mut is_behind = false;
-    for frame in frames.from(stop.frame).chunks_exact(frames.length()) {
-        if frames.has_salts(frame) {
+    while let Some(frame) = frame_from(log, page, at) {
+        if has_salts(head, frame) {
             if is_behind {
                 return false;
             }
             is_behind = commits(frame);
         }
+        at += frame.len();
     }
     true
 }
 
-/// Whether the commit that isn't whole is one of one sync, and has lost bytes and nothing else.
-fn may_have_lost(frames: &Frames<'_>, stop: &Stop) -> bool {
-    let mut left = frames.from(stop.commit).chunks_exact(frames.length());
-    let Some(first) = left.next() else {
-        return true;
-    };
-    let Some(mut commit) = Commit::begin(*frames, first, stop.sum) else {
+/// Whether the commit that a stop is in is one of one sync, and lost bytes and nothing else.
+fn may_have_lost(log: &[u8], page: usize, stop: &Stop) -> bool
+    requires head { 32 ≤ length log.now }
+    requires page { (8 ≤ page) × (page ≤ 65536) }
+    requires stop { StopsAt page log.now stop.now }
+    ensures { IsTrue result ↔ MayHaveLost page log.now (stop.now.first) }
+{
+    let head = &log[..HEADER];
+    let mut at = stop.first_at;
+    let mut frame = &log[at..at + (FRAME_HEADER + page)];
+    let number = number_at(frame, 0);
+    if number != COUNT && number != 0 {
         return false;
-    };
-    if commits(first) {
-        return commit.may_have_lost(first);
     }
-    for frame in left {
-        commit.go_on(frame);
-        if commits(frame) {
-            return commit.may_have_lost(frame);
-        }
+    let mut commit = Commit::begin(head, stop.first_sum, frame);
+    while !commits(frame) {
+        at += frame.len();
+        let Some(next) = frame_from(log, page, at) else {
+            return true;
+        };
+        commit = commit.go_on(head, next);
+        frame = next;
     }
-    true
+    commit.ends_lost(frame)
 }
