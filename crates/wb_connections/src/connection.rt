@@ -5,8 +5,8 @@ ghost use Rattle.wb_connections.specs.declared.connection.Stage.TheVariants.{Clo
 ghost use Rattle.wb_connections.specs.declared.limits.TheConstants.{REQUEST_SECONDS};
 
 use crate::limits::{
-    LEAVING_SECONDS, READS_A_TURN, REQUEST_SECONDS, SILENT_SECONDS, UNTAKEN_SECONDS,
-    WHOLE_WITHIN_SECONDS,
+    BYTES_A_SECOND, LEAVING_SECONDS, READS_A_TURN, REQUEST_SECONDS, SHORT_RESPONSE, SILENT_SECONDS,
+    UNTAKEN_SECONDS, WHOLE_WITHIN_SECONDS,
 };
 use crate::ready::{Ready, is_past, read_ready, write_ready};
 use std::alloc::Global;
@@ -29,6 +29,16 @@ pub trait Requests {
     fn as_it_stands(&self, bytes: Vec<u8>) -> Self::Judged;
 }
 
+/// What a socket didn't take at once of a response.
+#[derive(Drop)]
+pub(crate) struct Rest {
+    bytes: Vec<u8>,
+    /// How many of them are written since.
+    written: usize,
+    /// When the response was begun.
+    begun: Instant,
+}
+
 /// What a connection is doing.
 #[derive(Drop)]
 pub(crate) enum Stage<J: Drop> {
@@ -38,8 +48,8 @@ pub(crate) enum Stage<J: Drop> {
     Waits(u64, J),
     /// Its request was handed out.
     Asked,
-    /// Its response goes out: what the socket didn't take at once, and how many bytes of it are written since.
-    Takes(Vec<u8>, usize),
+    /// Its response goes out.
+    Takes(Rest),
     /// Its response is out, and it is shut for writing. What it still sends is read and dropped.
     Leaves,
     /// It is closed before the turn is over.
@@ -63,6 +73,10 @@ pub(crate) enum Why {
     ServiceEnds,
     /// It took nothing of its response for too long.
     TookNothing,
+    /// It took its response too slowly.
+    TookLong,
+    /// Its response is long, and as many wait for their clients as may.
+    Crowded,
     Broken,
     Memory,
 }
@@ -77,6 +91,8 @@ impl Display for Why {
             Why::GaveWay => "it had no whole request, and another came",
             Why::ServiceEnds => "the service ends",
             Why::TookNothing => "it took nothing of its response",
+            Why::TookLong => "it took its response too slowly",
+            Why::Crowded => "its response is long, and others wait for theirs",
             Why::Broken => "it is broken",
             Why::Memory => "want of memory",
         })
@@ -141,7 +157,7 @@ impl<S: Read + Write + OpenStream + Drop, J: Drop> Connection<S, J> {
     /// Goes on with its response, if it has one: writes it, or reads what still comes after it.
     pub(crate) fn go_on(&mut self, now: Instant, room: &mut [u8; REQUEST_ROOM]) {
         match &self.stage {
-            Stage::Takes(_, _) => self.write(now),
+            Stage::Takes(_) => self.write(now),
             Stage::Leaves => self.leave(now, room),
             Stage::Asks | Stage::Waits(_, _) | Stage::Asked | Stage::Closed(_) => {}
         }
@@ -242,8 +258,13 @@ impl<S: Read + Write + OpenStream + Drop, J: Drop> Connection<S, J> {
         Some(requests.as_it_stands(mem::replace(&mut self.request, Vec::new(alloc))))
     }
 
-    /// Takes its response, and writes what the socket takes at once. The rest alone takes memory.
-    pub(crate) fn respond(&mut self, alloc: Global, now: Instant, bytes: &[u8]) {
+    /// Takes its response, and writes what the socket takes at once. The rest alone takes memory. A long response isn't begun while as many wait
+    /// for their clients as may.
+    pub(crate) fn respond(&mut self, alloc: Global, now: Instant, bytes: &[u8], is_crowded: bool) {
+        if is_crowded && bytes.len() > SHORT_RESPONSE {
+            self.close(Why::Crowded);
+            return;
+        }
         self.moved = now;
         let Some(count) = write_ready(&mut self.stream, bytes) else {
             self.close(Why::Broken);
@@ -253,33 +274,38 @@ impl<S: Read + Write + OpenStream + Drop, J: Drop> Connection<S, J> {
             self.shut(now);
             return;
         }
-        match Vec::from_slice(alloc, &bytes[count..]) {
-            Ok(rest) => self.stage = Stage::Takes(rest, 0),
-            Err(_) => self.close(Why::Memory),
-        }
+        self.stage = match Vec::from_slice(alloc, &bytes[count..]) {
+            Ok(bytes) => Stage::Takes(Rest {
+                bytes,
+                written: 0,
+                begun: now,
+            }),
+            Err(_) => Stage::Closed(Why::Memory),
+        };
     }
 
     /// Writes as much of the rest of its response as the socket takes.
     fn write(&mut self, now: Instant) {
-        let Stage::Takes(rest, written) = &mut self.stage else {
+        let Stage::Takes(rest) = &mut self.stage else {
             return;
         };
-        let left = rest.as_slice().get(*written..).unwrap_or(&[]);
+        let left = rest.bytes.as_slice().get(rest.written..).unwrap_or(&[]);
         let length = left.len();
-        match write_ready(&mut self.stream, left) {
-            None => self.close(Why::Broken),
-            Some(0) => {
-                if is_past(self.moved, UNTAKEN_SECONDS, now) {
-                    self.close(Why::TookNothing);
-                }
-            }
-            Some(count) => {
-                *written = written.saturating_add(count);
-                self.moved = now;
-                if count >= length {
-                    self.shut(now);
-                }
-            }
+        let Some(count) = write_ready(&mut self.stream, left) else {
+            self.close(Why::Broken);
+            return;
+        };
+        rest.written = rest.written.saturating_add(count);
+        let is_slow = is_past(rest.begun, seconds_for(rest.bytes.len()), now);
+        if count > 0 {
+            self.moved = now;
+        }
+        if count >= length {
+            self.shut(now);
+        } else if is_slow {
+            self.close(Why::TookLong);
+        } else if is_past(self.moved, UNTAKEN_SECONDS, now) {
+            self.close(Why::TookNothing);
         }
     }
 
@@ -312,4 +338,9 @@ impl<S: Read + Write + OpenStream + Drop, J: Drop> Connection<S, J> {
             self.close(Why::Stayed);
         }
     }
+}
+
+/// In how many seconds the rest of a response of so many bytes is to be taken.
+fn seconds_for(length: usize) -> u64 {
+    UNTAKEN_SECONDS.saturating_add((length / BYTES_A_SECOND) as u64)
 }

@@ -24,5 +24,5 @@ pub use limits::{ENDLESS_LINE, FINISH_SECONDS, LOOK_MILLIS, PAUSE_MILLIS};
 pub use office::Office;
 pub use ready::is_past;
 pub use report::Report;
-pub use source::Source;
+pub use source::{Source, stop_waiting};
 pub use terminal::Terminal;

@@ -16,6 +16,18 @@ pub(crate) const WHOLE_WITHIN_SECONDS: u64 = 10;
 /// 100 kB, so a client that reads 4 kB a second or more is never dropped.
 pub(crate) const UNTAKEN_SECONDS: u64 = 30;
 
+/// A response is dropped too if it wasn't taken whole within as many seconds as above, and one more for each so many bytes of it: a client
+/// that takes less would keep its place, and the memory of its response, from others for as long as it likes. The whole journal of 97,000
+/// entries, 25 MB, may take seven minutes.
+pub(crate) const BYTES_A_SECOND: usize = 65_536;
+
+/// A response of no more bytes goes into its socket at once: the system keeps room for as many.
+pub(crate) const SHORT_RESPONSE: usize = 16_384;
+
+/// How many responses wait for their clients while a longer one than that is begun. So four slow exports at most are kept at once, and a fifth
+/// asks again.
+pub(crate) const WAITING_RESPONSES: usize = 4;
+
 /// After its response, a connection is read to its end for so many seconds at most. Closed over bytes that nobody read it would
 /// send a reset, and the client could lose its answer; one that never closes keeps its place no longer than a silent one.
 pub(crate) const LEAVING_SECONDS: u64 = 5;

@@ -1,6 +1,6 @@
 //! The connections of the office, kept over turns. No call here waits.
 use crate::connection::{Connection, Requests, Stage, Why};
-use crate::limits::{ACCEPTS_A_TURN, CONNECTIONS};
+use crate::limits::{ACCEPTS_A_TURN, CONNECTIONS, WAITING_RESPONSES};
 use crate::ready::{Newcomer, accept_ready};
 use crate::report::Report;
 use std::alloc::{AllocError, Global};
@@ -84,14 +84,23 @@ where
             .connections
             .iter()
             .position(|connection| matches!(connection.stage, Stage::Asked))?;
+        let is_crowded = self.waiting() >= WAITING_RESPONSES;
         let connection = self.connections.get_mut(asked)?;
-        connection.respond(alloc, now, bytes);
+        connection.respond(alloc, now, bytes, is_crowded);
         Some(connection.peer)
     }
 
     /// Whether a response waits for its client.
     pub fn is_responding(&self) -> bool {
-        self.connections.iter().any(|connection| matches!(connection.stage, Stage::Takes(_, _)))
+        self.waiting() > 0
+    }
+
+    /// How many responses wait for their clients.
+    fn waiting(&self) -> usize {
+        self.connections
+            .iter()
+            .filter(|connection| matches!(connection.stage, Stage::Takes(_)))
+            .count()
     }
 
     /// Writes responses, and reads to its end what has one, as far as goes without waiting.

@@ -127,12 +127,11 @@ fn open_file<R: Files<File = File>, S: Read + OpenStream + Drop>(
 /// Opens a FIFO or a device, for writing too, so that opening waits for no writer.
 fn open_device<R: Files<File = File>>(rt: &R, path: &str) -> io::Result<File> {
     let file = OpenOptions::new().read(true).write(true).open(rt, path)?;
-    stop_waiting(&file)?;
+    stop_waiting(OwnedFd::from(file.try_clone()?))?;
     Ok(file)
 }
 
-/// Sets a file to not wait. std sets this mode on sockets alone, but it belongs to the open file, which a second descriptor shares.
-fn stop_waiting(file: &File) -> io::Result<()> {
-    let shared = TcpStream::from(OwnedFd::from(file.try_clone()?));
-    shared.set_nonblocking(true)
+/// Sets the open file that this is a second descriptor of to not wait. std sets this mode on sockets alone, but it belongs to the open file.
+pub fn stop_waiting(second: OwnedFd) -> io::Result<()> {
+    TcpStream::from(second).set_nonblocking(true)
 }

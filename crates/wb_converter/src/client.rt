@@ -1,10 +1,11 @@
 //! The one client that lines are handed to. No call here waits.
 use crate::outbox::{LINE_ROOM, Outbox};
 use arrayvec::ArrayString;
-use std::io;
+use std::fmt::Display;
 use std::io::{ErrorKind, Read, Write};
 use std::net::{OpenListener, OpenStream, SocketAddr};
 use std::time::Instant;
+use std::{fmt, io};
 use wb_connections::{Report, is_past};
 
 /// After so many seconds a line is handed to nobody: the slowest converters send twice a second, and nobody is to be shown an
@@ -14,11 +15,25 @@ const FRESH_SECONDS: u64 = 1;
 /// How many pieces are written in a turn at most: the rest of a line that was begun, and the newest line.
 const PIECES: usize = 2;
 
+/// Who is connected. Who reads a FIFO has no address, and 0.0.0.0, which no client has, stands for it.
+#[derive(Clone, Copy)]
+struct Peer(SocketAddr);
+
+impl Display for Peer {
+    fn fmt<W: fmt::Write>(&self, f: &mut fmt::Formatter<W>) -> fmt::Result {
+        if self.0.ip().is_unspecified() {
+            return f.write_str("FIFO");
+        }
+        f.write_str("client ")?;
+        self.0.fmt(f)
+    }
+}
+
 /// A client that is connected.
 #[derive(Drop)]
 struct Client<S: Drop> {
     stream: S,
-    peer: SocketAddr,
+    peer: Peer,
     waiting: Outbox,
     /// Before the newest line came.
     came: Instant,
@@ -93,7 +108,7 @@ where
             return;
         };
         if client.has_ended() || !client.write(now) {
-            report.line(format_args!("client {}: gone", client.peer));
+            report.line(format_args!("{}: gone", client.peer));
             self.client = None;
         }
     }
@@ -108,14 +123,15 @@ where
 
     /// Accepts a client. An error of the system is no client: a later turn asks again.
     fn accept<R: Eprint>(&mut self, now: Instant, report: &Report<'_, R>) {
-        let Ok((stream, peer)) = self.listener.accept() else {
+        let Ok((stream, address)) = self.listener.accept() else {
             return;
         };
+        let peer = Peer(address);
         if stream.set_nonblocking(true).is_err() || stream.set_nodelay(true).is_err() {
-            report.line(format_args!("client {peer}: gone"));
+            report.line(format_args!("{peer}: gone"));
             return;
         }
-        report.line(format_args!("client {peer}: connected"));
+        report.line(format_args!("{peer}: connected"));
         self.client = Some(Client {
             stream,
             peer,

@@ -15,7 +15,8 @@ const VERSION: &str = "2.0.0";
 
 const RUN_EXAMPLE: &str = "Example:
   modbus --tcp 192.168.1.10 .. | weighbridge-converter run --calibration calibration --listen 127.0.0.1:4000
-hands lines of tenths of e to the program that connects to port 4000, as weighbridge serve --converter tcp:127.0.0.1:4000 does.";
+hands lines of tenths of e to the program that connects to port 4000, as weighbridge serve --converter tcp:127.0.0.1:4000 does.
+With --fifo /run/weighbridge/converter in the place of --listen it hands them to weighbridge serve --converter /run/weighbridge/converter.";
 
 const SHOW_EXAMPLE: &str = "Examples:
   weighbridge-converter show --calibration calibration
@@ -28,13 +29,28 @@ static LISTEN: Text = Text(
     "address on which a client connects: an IPv4 address of 127.0.0.0/8, a colon and a port",
 );
 
+static FIFO: Text = Text(
+    "fifo",
+    "PATH",
+    "FIFO to write the lines into, in the place of a client: whoever may not open it can neither read them nor send others",
+);
+
+/// Where lines are handed to.
+#[derive(Drop)]
+pub enum Receiver {
+    /// The client that connects at this address.
+    Client(String),
+    /// Whoever reads the FIFO of this path.
+    Fifo(String),
+}
+
 /// How lines are handed on.
 #[derive(Drop)]
 pub struct Running {
     /// The file of the calibrations.
     pub calibration: String,
-    /// The address at which a client connects.
-    pub address: String,
+    /// Where they are handed to.
+    pub receiver: Receiver,
     /// The filter that the calibration has to have, if one is given.
     pub filter: Option<Filter>,
     /// Whether what happens is reported on standard error.
@@ -87,8 +103,13 @@ fn asked_of(alloc: Global, name: &str, words: &ArgMatches<'_>) -> Result<Asked, 
 }
 
 fn run_of(alloc: Global, calibration: String, words: &ArgMatches<'_>) -> Result<Asked, AllocError> {
-    let Some(address) = text_of(alloc, words, "listen")? else {
-        return Ok(Asked::Nothing);
+    let receiver = match (
+        text_of(alloc, words, "listen")?,
+        text_of(alloc, words, "fifo")?,
+    ) {
+        (Some(address), _) => Receiver::Client(address),
+        (None, Some(path)) => Receiver::Fifo(path),
+        (None, None) => return Ok(Asked::Nothing),
     };
     let filter = match filter_of(words) {
         FilterWords::Nothing => None,
@@ -97,7 +118,7 @@ fn run_of(alloc: Global, calibration: String, words: &ArgMatches<'_>) -> Result<
     };
     Ok(Asked::Run(Running {
         calibration,
-        address,
+        receiver,
         filter,
         is_verbose: words.get_flag("verbose"),
     }))
@@ -141,7 +162,13 @@ fn run_command<'a>(alloc: Global) -> Result<Command<'a>, AllocError> {
     let about =
         "hands the load of each line of counts on standard input to the client that is connected";
     let run = over_calibration(alloc, "run", about, RUN_EXAMPLE)?;
-    let run = run.arg(text_argument(alloc, &LISTEN))?;
+    let listen = text_argument(alloc, &LISTEN).required(false);
+    let run = run.arg(
+        listen
+            .required_unless_present("fifo")?
+            .conflicts_with("fifo")?,
+    )?;
+    let run = run.arg(text_argument(alloc, &FIFO).required(false))?;
     let help =
         "what the calibration has to make of the last readings, as given to finish; any other is refused";
     let run = run.arg(filter_argument(alloc, help))?;

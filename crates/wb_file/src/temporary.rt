@@ -1,8 +1,8 @@
-//! A copy of a journal's files among the temporary files, for a check or an export, so that these write no byte of the journal or beside it.
+//! A copy of a journal's files among the temporary files, for a check, an export or a migration, so that these write no byte of the journal or beside it.
 //!
 //! The copy's files are opened while they are empty, lose their names and their folder, and are filled then: nothing of them is left, however the
 //! process ends.
-use crate::copies::Copies;
+use crate::copies::{Copies, copy_file};
 use crate::fault::FileFault;
 use crate::log_look::{LOG, look_beside, open_beside, open_locked};
 use crate::sparing::open_filled;
@@ -18,12 +18,6 @@ use wb_store::StoreFault;
 struct Pair {
     from: File,
     to: File,
-}
-
-impl Pair {
-    fn copy(&self) -> io::Result<u64> {
-        io::copy(&mut &self.from, &mut &self.to)
-    }
 }
 
 /// A copy that is still empty.
@@ -127,18 +121,16 @@ impl Copying {
     pub(crate) fn fill(&self, rt: &HostRuntime) -> Option<StoreFault> {
         self.copies.remove(rt);
         match self.copy() {
-            Ok(_) => None,
+            Ok(()) => None,
             Err(error) => Some(StoreFault::from(tell(rt, error))),
         }
     }
 
-    fn copy(&self) -> io::Result<u64> {
-        match &self.log {
-            Some(log) => {
-                log.copy()?;
-            }
-            None => {}
+    fn copy(&self) -> io::Result<()> {
+        if let Some(Pair { from, to }) = &self.log {
+            io::copy(&mut &*from, &mut &*to)?;
         }
-        self.file.copy()
+        let Pair { from, to } = &self.file;
+        copy_file(from, to, self.log.is_some())
     }
 }

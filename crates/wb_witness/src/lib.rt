@@ -9,5 +9,5 @@ mod response;
 mod said;
 
 pub use line::{LINE, Newest, line_of, place_of};
-pub use response::entry_of;
+pub use response::{entry_of, is_stored};
 pub use said::{Said, WITNESS, read};

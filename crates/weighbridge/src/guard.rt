@@ -14,7 +14,7 @@ use wb_program::{PrintFault, ServeEnd};
 use wb_sources::{Converter, REQUEST_ROOM, TERMINAL_ROOM, Taken};
 use wb_station::{Exchange, Sources};
 use wb_store::StoreFault;
-use wb_witness::{Newest, entry_of};
+use wb_witness::{entry_of, is_stored};
 
 /// A file that is open, by its path, its device and its number there. No other file has these two while it is open.
 #[derive(Drop)]
@@ -125,18 +125,20 @@ impl<'a, S: Sources + Drop> Guarded<'a, S> {
         false
     }
 
-    /// Whether an entry that is stored may be answered: its journal is where it was, and its witness has it.
-    fn may_answer(&mut self, entry: &Newest) -> bool {
+    /// Whether a response that tells of a stored entry may leave: its journal is where it was, and its witness has it.
+    fn may_answer(&mut self, response: &[u8]) -> bool {
         if !self.stands() {
             return false;
         }
-        if self.witness.note(entry) {
-            return true;
+        if let Some(entry) = entry_of(response) {
+            if self.witness.note(&entry) {
+                return true;
+            }
         }
         self.is_lost = true;
         let _ = eprintln!(self.rt;
-            "{}-newest: it can't be written; entry {} is stored, and is answered after the next start, if it is asked for again under its key",
-            self.places.file.path, entry.number
+            "{}-newest: it can't be written; what was stored last is answered after the next start, if it is asked for again under its key",
+            self.places.file.path
         );
         false
     }
@@ -181,9 +183,10 @@ impl<S: Sources + Drop> Sources for Guarded<'_, S> {
     }
 
     fn respond(&mut self, bytes: &[u8]) {
-        match entry_of(bytes) {
-            Some(entry) if !self.may_answer(&entry) => self.sources.respond(b""),
-            _ => self.sources.respond(bytes),
+        if is_stored(bytes) && !self.may_answer(bytes) {
+            self.sources.respond(b"");
+        } else {
+            self.sources.respond(bytes);
         }
     }
 }

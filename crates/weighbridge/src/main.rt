@@ -4,10 +4,12 @@
 mod guard;
 mod service;
 mod sources;
+mod streams;
 mod zero_note;
 
 use crate::service::serve_bridge;
 use crate::sources::{KIT, SOURCES};
+use crate::streams::filled;
 use clap::error::ErrorKind;
 use sqlite::Alter;
 use std::io;
@@ -24,6 +26,7 @@ use wb_store::{Store, StoreFault};
 const FAULT: u8 = 1;
 
 fn main(rt: HostRuntime) -> io::Result<ExitCode> {
+    let _streams = filled(&rt);
     let mut words = Vec::new(rt.alloc());
     for word in std::env::args(&rt)? {
         words.push(word)?;

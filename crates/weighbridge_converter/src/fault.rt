@@ -56,6 +56,9 @@ pub(crate) enum Fault {
     /// An address isn't one of this machine alone, or can't be bound.
     #[error("address fault")]
     Address,
+    /// There is no FIFO at the path.
+    #[error("fifo fault: there is no FIFO at that path; mkfifo makes one")]
+    Fifo,
     /// Standard input can't be read without waiting.
     #[error("input fault")]
     Input,

@@ -2,6 +2,7 @@
 #![tactic(auto)]
 
 mod fault;
+mod fifo;
 mod files;
 mod making;
 mod serving;

@@ -6,12 +6,12 @@ use std::fmt::Write;
 use std::process::Abort;
 use std::test::Fail;
 use wb_calibration::Filter;
-use wb_converter_command::{Asked, Load, Running, Sampling, read_words};
+use wb_converter_command::{Asked, Load, Receiver, Running, Sampling, read_words};
 
 /// The words of a command line, and how they are understood (or a part of it).
 struct Row(&'static str, &'static str);
 
-static WORDS: [Row; 10] = [
+static WORDS: [Row; 11] = [
     Row(
         "weighbridge-converter run --calibration F --listen 127.0.0.1:4000",
         "run F 127.0.0.1:4000 no filter, false",
@@ -19,6 +19,10 @@ static WORDS: [Row; 10] = [
     Row(
         "weighbridge-converter run --calibration F --listen 127.0.0.1:4000 --verbose",
         "run F 127.0.0.1:4000 no filter, true",
+    ),
+    Row(
+        "weighbridge-converter run --calibration F --fifo P",
+        "run F into P no filter, false",
     ),
     Row(
         "weighbridge-converter run --calibration F --listen 127.0.0.1:4000 --filter mean 32",
@@ -57,11 +61,16 @@ static WORDS: [Row; 10] = [
 /// The words of a command line that are refused, how that begins with its status, and what it holds.
 struct Refused(&'static str, &'static str, &'static str);
 
-static REFUSED: [Refused; 16] = [
+static REFUSED: [Refused; 17] = [
     Refused(
         "weighbridge-converter run --calibration F",
         "2: ",
         "--listen",
+    ),
+    Refused(
+        "weighbridge-converter run --calibration F --listen 127.0.0.1:4000 --fifo P",
+        "2: ",
+        "--fifo",
     ),
     Refused(
         "weighbridge-converter run --listen 127.0.0.1:4000",
@@ -157,7 +166,11 @@ fn note(asked: &Asked, text: &mut String) -> Result<(), Fail> {
 }
 
 fn note_running(running: &Running, text: &mut String) -> Result<(), Fail> {
-    write!(text, "run {} {} ", running.calibration, running.address)?;
+    write!(text, "run {} ", running.calibration)?;
+    match &running.receiver {
+        Receiver::Client(address) => write!(text, "{address} ")?,
+        Receiver::Fifo(path) => write!(text, "into {path} ")?,
+    }
     note_filter(&running.filter, text)?;
     Ok(write!(text, ", {}", running.is_verbose)?)
 }

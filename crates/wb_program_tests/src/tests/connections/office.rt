@@ -1,5 +1,5 @@
 //! Connections of the office over turns.
-use self::Step::{Answer, EachSends, Turn, WithoutRequest};
+use self::Step::{Answer, EachSends, Long, Turn, WithoutRequest};
 use super::clients::Client::{
     Ends, Fails, Got, IsClosed, IsOpen, Refuses, Sends, SendsMany, SendsPieces, Takes,
 };
@@ -18,6 +18,9 @@ const ASKED: &[u8] = b"GET /indication HTTP/1.1\r\n\r\n";
 
 const ANSWER: &[u8] = b"HTTP/1.1 200 OK\r\n\r\nNO LOAD\n";
 
+/// What is too long to be taken at once.
+static LONG: [u8; 200_000] = [b'x'; 200_000];
+
 /// What happens at an office, and what must be seen then.
 #[derive(Clone, Copy, Drop)]
 enum Step {
@@ -29,6 +32,8 @@ enum Step {
     Turn(u64, usize, usize),
     /// The request that was handed out is answered at so many seconds.
     Answer(u64),
+    /// It is answered at so many seconds by so many bytes.
+    Long(u64, usize),
     /// So many connections were closed without a byte of a request.
     WithoutRequest(u64),
 }
@@ -160,7 +165,7 @@ static SLOW: [Step; 28] = [
     Turn(15, 0, 0),
 ];
 
-static REST: [Step; 16] = [
+static REST: [Step; 15] = [
     Step::Client(0, Takes(4)),
     Step::Client(0, Sends(b"GET /indication HTTP/1.1\r\n\r\n")),
     Step::Client(1, Takes(4)),
@@ -170,14 +175,60 @@ static REST: [Step; 16] = [
     Turn(0, 28, 2),
     Answer(0),
     Step::Client(0, Takes(10)),
+    Turn(28, 0, 2),
+    Step::Client(0, Got(b"HTTP/1.1 200 O", false)),
+    Step::Client(0, Takes(100)),
     Turn(29, 0, 2),
+    Step::Client(0, Got(ANSWER, true)),
     // the other one took nothing for thirty seconds
     Turn(30, 0, 1),
-    Step::Client(0, Got(b"HTTP/1.1 200 O", false)),
     Step::Client(1, Got(b"HTTP", false)),
-    Step::Client(0, Takes(100)),
-    Turn(58, 0, 1),
-    Step::Client(0, Got(ANSWER, true)),
+];
+
+/// A response of 200,000 bytes, to be taken within 33 seconds: one takes it within them, one slowly, and one not at all.
+static PACE: [Step; 20] = [
+    EachSends(ASKED),
+    Step::Client(0, Takes(1_000)),
+    Step::Client(1, Takes(1_000)),
+    Step::Client(2, Takes(1_000)),
+    Turn(0, 28, 3),
+    Long(0, 200_000),
+    Turn(0, 28, 3),
+    Long(0, 200_000),
+    Turn(0, 28, 3),
+    Long(0, 200_000),
+    Step::Client(0, Takes(1_000)),
+    Step::Client(1, Takes(1_000)),
+    Turn(29, 0, 3),
+    Turn(30, 0, 2),
+    Step::Client(0, Takes(198_000)),
+    Turn(32, 0, 2),
+    Step::Client(0, Got(&LONG, true)),
+    Step::Client(1, Takes(197_999)),
+    Turn(33, 0, 1),
+    Step::Client(1, IsClosed),
+];
+
+/// Four that wait for the rest of a long response; a fifth gets none, and one of 16,384 bytes goes out.
+static FIFTH: [Step; 18] = [
+    EachSends(ASKED),
+    Step::Client(0, Takes(4)),
+    Step::Client(1, Takes(4)),
+    Step::Client(2, Takes(4)),
+    Step::Client(3, Takes(4)),
+    Turn(0, 28, 6),
+    Long(0, 16_385),
+    Turn(0, 28, 6),
+    Long(0, 16_385),
+    Turn(0, 28, 6),
+    Long(0, 16_385),
+    Turn(0, 28, 6),
+    Long(0, 16_385),
+    Turn(0, 28, 6),
+    Long(0, 16_385),
+    Turn(0, 28, 5),
+    Long(0, 16_384),
+    Step::Client(4, Got(b"", false)),
 ];
 
 /// One that goes on sending after its response, and one whose connection breaks in the middle of its request.
@@ -265,7 +316,8 @@ impl<'a> Desk<'a> {
                 true
             }
             Turn(seconds, count, kept) => self.turn(*seconds) == (*count, *kept),
-            Answer(seconds) => self.answer(*seconds),
+            Answer(seconds) => self.answer(*seconds, ANSWER),
+            Long(seconds, count) => self.answer(*seconds, &LONG[..*count]),
             WithoutRequest(count) => self.office.without_request() == *count,
         }
     }
@@ -281,9 +333,9 @@ impl<'a> Desk<'a> {
     }
 
     /// Answers the request that was handed out. False if none was.
-    fn answer(&mut self, seconds: u64) -> bool {
+    fn answer(&mut self, seconds: u64, bytes: &[u8]) -> bool {
         let now = after(self.start, seconds);
-        self.office.respond(self.alloc, now, ANSWER).is_some()
+        self.office.respond(self.alloc, now, bytes).is_some()
     }
 }
 
@@ -365,6 +417,16 @@ fn reads_four_times_a_turn(rt: HostRuntime) -> Result<(), Fail> {
 #[test]
 fn keeps_the_rest_of_a_response(rt: HostRuntime) -> Result<(), Fail> {
     play(&rt, 2, &REST)
+}
+
+#[test]
+fn drops_a_response_that_is_taken_too_slowly(rt: HostRuntime) -> Result<(), Fail> {
+    play(&rt, 3, &PACE)
+}
+
+#[test]
+fn begins_no_fifth_long_response(rt: HostRuntime) -> Result<(), Fail> {
+    play(&rt, 6, &FIFTH)
 }
 
 #[test]
