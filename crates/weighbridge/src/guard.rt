@@ -4,6 +4,7 @@
 //! What is stored in a file that was unlinked, replaced or cut is gone after the next start, and its numbers are given again.
 ghost use Rattle.std.specs.Prelude.{None};
 
+use crate::pace::Pace;
 use crate::service::ServiceFault;
 use crate::zero_note::ZeroNote;
 use std::os::unix::fs::MetadataExt;
@@ -78,6 +79,7 @@ pub(crate) struct Guarded<'a, S: Sources + Drop> {
     places: Places,
     witness: Witness,
     zero: ZeroNote<'a>,
+    pace: Pace<'a>,
     pub(crate) sources: S,
     is_lost: bool,
 }
@@ -88,6 +90,7 @@ impl<'a, S: Sources + Drop> Guarded<'a, S> {
         rt: &'a HostRuntime,
         path: &str,
         interval_kg: u32,
+        pace: Pace<'a>,
         sources: S,
     ) -> Result<Self, ServiceFault> {
         match (Places::new(rt, path), Witness::open(rt, path)) {
@@ -96,6 +99,7 @@ impl<'a, S: Sources + Drop> Guarded<'a, S> {
                 places,
                 witness,
                 zero: ZeroNote::open(rt, path, interval_kg),
+                pace,
                 sources,
                 is_lost: false,
             }),
@@ -157,6 +161,7 @@ impl<S: Sources + Drop> Sources for Guarded<'_, S> {
         }
         let given = self.sources.converter();
         self.zero.see(given);
+        self.pace.see(given);
         given
     }
 

@@ -2,8 +2,10 @@
 #![tactic(auto)]
 
 mod guard;
+mod pace;
 mod service;
 mod sources;
+mod start;
 mod streams;
 mod zero_note;
 
@@ -12,8 +14,8 @@ use crate::sources::{KIT, SOURCES};
 use crate::streams::filled;
 use clap::error::ErrorKind;
 use sqlite::Alter;
-use std::io;
 use std::process::ExitCode;
+use std::{io, str};
 use wb_command::{Asked, REFUSED, Service, read_words};
 use wb_file::JournalFile;
 use wb_instrument::Instrument;
@@ -148,8 +150,23 @@ fn print_from<D: Alter>(
     let out = &mut io::writer(rt);
     match print {
         Print::Check => return print_check(rt.alloc(), store, out),
-        Print::Export(what) => print_export(rt.alloc(), store, what, out)?,
+        Print::Export(what) => {
+            print_export(rt.alloc(), store, what, out)?;
+            tell_damage(rt, store);
+        }
         Print::Migrated => print_migrated(store, out)?,
     }
     Ok(true)
+}
+
+/// Tells on standard error that the journal which was exported is damaged. It is exported all the same.
+fn tell_damage<D: Alter>(rt: &HostRuntime, store: &mut Store<D>) {
+    let mut found = Vec::new(rt.alloc());
+    if let Ok(false) = print_check(rt.alloc(), store, &mut found) {
+        let text = str::from_utf8(found.as_slice()).unwrap_or("");
+        let _ = eprintln!(rt;
+            "the journal is damaged, and was exported as it is: {}",
+            text.trim_end()
+        );
+    }
 }

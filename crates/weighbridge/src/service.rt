@@ -1,5 +1,7 @@
 //! The service of a bridge, over files and sockets.
 use crate::guard::Guarded;
+use crate::pace::Pace;
+use crate::start::tell_start;
 use sqlite::Alter;
 use std::net::TcpListener;
 use thiserror::Error;
@@ -73,9 +75,11 @@ fn serve_store<D: Alter + Drop>(
     store: Store<D>,
     service: &Service,
 ) -> Result<ServeEnd, ServiceFault> {
-    let interval_kg = instrument.interval_kg();
+    let mut store = store;
+    tell_start(rt, &instrument, service, &mut store);
+    let (interval_kg, pace) = (instrument.interval_kg(), instrument.pace());
     let mut station = station_over(rt, instrument, store)?;
-    let mut sources = open_guarded(rt, interval_kg, service)?;
+    let mut sources = open_guarded(rt, interval_kg, pace, service)?;
     let end = serve(&mut station, &mut sources, service.turns);
     sources.sources.finish();
     sources.end(end)
@@ -85,12 +89,14 @@ fn serve_store<D: Alter + Drop>(
 fn open_guarded<'a>(
     rt: &'a HostRuntime,
     interval_kg: u32,
+    pace: u32,
     service: &Service,
 ) -> Result<Guarded<'a, Sockets<'a, HostRuntime, TcpListener>>, ServiceFault> {
     Guarded::new(
         rt,
         service.file.as_str(),
         interval_kg,
+        Pace::new(rt, pace, service.is_verbose),
         open_sources(rt, service)?,
     )
 }
