@@ -18,9 +18,6 @@ const ASKED: &[u8] = b"GET /indication HTTP/1.1\r\n\r\n";
 
 const ANSWER: &[u8] = b"HTTP/1.1 200 OK\r\n\r\nNO LOAD\n";
 
-/// What is too long to be taken at once.
-static LONG: [u8; 200_000] = [b'x'; 200_000];
-
 /// What happens at an office, and what must be seen then.
 #[derive(Clone, Copy, Drop)]
 enum Step {
@@ -165,7 +162,7 @@ static SLOW: [Step; 28] = [
     Turn(15, 0, 0),
 ];
 
-static REST: [Step; 15] = [
+static REST: [Step; 16] = [
     Step::Client(0, Takes(4)),
     Step::Client(0, Sends(b"GET /indication HTTP/1.1\r\n\r\n")),
     Step::Client(1, Takes(4)),
@@ -185,7 +182,7 @@ static REST: [Step; 15] = [
     Step::Client(1, Got(b"HTTP", false)),
 ];
 
-/// A response of 200,000 bytes, to be taken within 33 seconds: one takes it within them, one slowly, and one not at all.
+/// A response of 200,000 bytes, to be taken within 33 seconds: one takes it within them, one all but a byte, and one nothing.
 static PACE: [Step; 20] = [
     EachSends(ASKED),
     Step::Client(0, Takes(1_000)),
@@ -203,10 +200,11 @@ static PACE: [Step; 20] = [
     Turn(30, 0, 2),
     Step::Client(0, Takes(198_000)),
     Turn(32, 0, 2),
-    Step::Client(0, Got(&LONG, true)),
+    // it has all of it, and ends
+    Step::Client(0, Ends),
+    Turn(32, 0, 1),
     Step::Client(1, Takes(197_999)),
-    Turn(33, 0, 1),
-    Step::Client(1, IsClosed),
+    Turn(33, 0, 0),
 ];
 
 /// Four that wait for the rest of a long response; a fifth gets none, and one of 16,384 bytes goes out.
@@ -317,7 +315,10 @@ impl<'a> Desk<'a> {
             }
             Turn(seconds, count, kept) => self.turn(*seconds) == (*count, *kept),
             Answer(seconds) => self.answer(*seconds, ANSWER),
-            Long(seconds, count) => self.answer(*seconds, &LONG[..*count]),
+            Long(seconds, count) => match vec![in self.alloc; b'x'; *count] {
+                Ok(bytes) => self.answer(*seconds, bytes.as_slice()),
+                Err(_) => false,
+            },
             WithoutRequest(count) => self.office.without_request() == *count,
         }
     }
