@@ -73,7 +73,7 @@ impl<'a> Pace<'a> {
         }
         self.is_on = false;
         let _ = eprintln!(self.rt;
-            "pace: {} readings came in {} s, and --pace {} states {} a second: what the scale does by time, it does by readings; see operating.md, Setting it up",
+            "pace: {} readings came in {} s, and --pace {} states {} a second: what the scale does by time, it does by readings; see operating.md, Setting up",
             self.count,
             millis / 1_000,
             self.stated,

@@ -73,7 +73,7 @@ pub(crate) fn tell_start<D: Alter>(
     let (window, pace) = (instrument.window(), instrument.pace());
     if window < pace {
         let _ = eprintln!(rt;
-            "warning: a window of {window} readings at {pace} a second is shorter than a second: a load that still moves may be stored; see operating.md, Setting it up"
+            "warning: a window of {window} readings at {pace} a second is shorter than a second: a load that still moves may be stored; see operating.md, Setting up"
         );
     }
 }
