@@ -1,13 +1,10 @@
 //! The program `weighbridge`: the process's own streams and files around what `wb_program` does, as its command line asks.
 #![tactic(auto)]
 
-mod guard;
-mod pace;
 mod service;
 mod sources;
 mod start;
 mod streams;
-mod zero_note;
 
 use crate::service::serve_bridge;
 use crate::sources::{KIT, SOURCES};

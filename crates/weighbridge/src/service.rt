@@ -1,17 +1,16 @@
 //! The service of a bridge, over files and sockets.
-use crate::guard::Guarded;
-use crate::pace::Pace;
 use crate::start::tell_start;
 use sqlite::Alter;
 use std::net::TcpListener;
 use thiserror::Error;
 use wb_command::Service;
 use wb_file::JournalFile;
+use wb_guard::Guarded;
 use wb_instrument::Instrument;
 use wb_program::{PrintFault, ServeEnd, serve};
 use wb_sockets::{AddressFault, Converter, ConverterFault, Sockets, StartFault, listen};
 use wb_station::Station;
-use wb_store::Store;
+use wb_store::{Store, StoreFault};
 use wb_window::DequeWindow;
 
 /// Why a service didn't start, in the order in which it is found.
@@ -82,7 +81,15 @@ fn serve_store<D: Alter + Drop>(
     let mut sources = open_guarded(rt, interval_kg, pace, service)?;
     let end = serve(&mut station, &mut sources, service.turns);
     sources.sources.finish();
-    sources.end(end)
+    if sources.is_lost() {
+        return Err(lost());
+    }
+    Ok(end)
+}
+
+/// The journal isn't where it was, which is a fault of the disk.
+fn lost() -> ServiceFault {
+    ServiceFault::Journal(PrintFault::Store(StoreFault::Disk))
 }
 
 /// The sources of the service, which look where the journal lies.
@@ -92,13 +99,12 @@ fn open_guarded<'a>(
     pace: u32,
     service: &Service,
 ) -> Result<Guarded<'a, Sockets<'a, HostRuntime, TcpListener>>, ServiceFault> {
-    Guarded::new(
-        rt,
-        service.file.as_str(),
-        interval_kg,
-        Pace::new(rt, pace, service.is_verbose),
-        open_sources(rt, service)?,
-    )
+    let stated = if service.is_verbose { Some(pace) } else { None };
+    let sources = open_sources(rt, service)?;
+    match Guarded::new(rt, service.file.as_str(), interval_kg, stated, sources) {
+        Some(guarded) => Ok(guarded),
+        None => Err(lost()),
+    }
 }
 
 /// The sockets and the converter of the service.

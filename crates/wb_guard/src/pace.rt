@@ -10,40 +10,37 @@ const SPAN_MILLIS: u128 = 60_000;
 #[derive(Drop)]
 pub(crate) struct Pace<'a> {
     rt: &'a HostRuntime,
-    /// How many the setup states a second.
-    stated: u32,
+    /// How many the setup states a second. None where nothing is to be told any more.
+    stated: Option<u32>,
     /// When the counting began. None before the first reading, and after one that is lost.
     since: Option<Instant>,
     count: u32,
-    /// Whether it is still to be told that others came.
-    is_on: bool,
 }
 
 impl<'a> Pace<'a> {
-    /// Of a setup that states so many readings a second; nothing is counted unless it is on.
-    pub(crate) fn new(rt: &'a HostRuntime, stated: u32, is_on: bool) -> Self {
+    /// Of a setup that states so many readings a second, if another pace is to be told.
+    pub(crate) fn new(rt: &'a HostRuntime, stated: Option<u32>) -> Self {
         Pace {
             rt,
             stated,
             since: None,
             count: 0,
-            is_on,
         }
     }
 
     /// Sees what the converter gave. Where for a minute more or fewer readings came than are stated, by more than a fifth, that is told once.
     pub(crate) fn see(&mut self, given: Converter) {
-        if !self.is_on {
+        let Some(stated) = self.stated else {
             return;
-        }
+        };
         match given {
-            Converter::Line(Reading::Load(_)) => self.count_one(),
+            Converter::Line(Reading::Load(_)) => self.count_one(stated),
             Converter::Line(Reading::Lost) => self.since = None,
             _ => {}
         }
     }
 
-    fn count_one(&mut self) {
+    fn count_one(&mut self, stated: u32) {
         let Ok(now) = Instant::now(self.rt) else {
             return;
         };
@@ -54,7 +51,7 @@ impl<'a> Pace<'a> {
         self.count = self.count.saturating_add(1);
         let millis = now.saturating_duration_since(since).as_millis();
         if millis >= SPAN_MILLIS {
-            self.judge(millis);
+            self.judge(stated, millis);
             self.begin(now);
         }
     }
@@ -65,19 +62,17 @@ impl<'a> Pace<'a> {
     }
 
     /// Tells of a pace that isn't the one that is stated.
-    fn judge(&mut self, millis: u128) {
+    fn judge(&mut self, stated: u32, millis: u128) {
         let came = u128::from(self.count).saturating_mul(1_000);
-        let stated = u128::from(self.stated).saturating_mul(millis);
-        if came.abs_diff(stated).saturating_mul(5) <= stated {
+        let owed = u128::from(stated).saturating_mul(millis);
+        if came.abs_diff(owed).saturating_mul(5) <= owed {
             return;
         }
-        self.is_on = false;
+        self.stated = None;
         let _ = eprintln!(self.rt;
-            "pace: {} readings came in {} s, and --pace {} states {} a second: what the scale does by time, it does by readings; see operating.md, Setting up",
+            "pace: {} readings came in {} s, and --pace states {stated} a second: what the scale does by time, it does by readings; see operating.md, Setting up",
             self.count,
-            millis / 1_000,
-            self.stated,
-            self.stated
+            millis / 1_000
         );
     }
 }

@@ -1,20 +1,14 @@
-//! A look at where the journal lies while it is served: before a request is handed out, and before a stored entry is answered, which its witness
-//! gets first.
-//!
-//! What is stored in a file that was unlinked, replaced or cut is gone after the next start, and its numbers are given again.
+//! Sources that look where the journal lies.
 ghost use Rattle.std.specs.Prelude.{None};
 
 use crate::pace::Pace;
-use crate::service::ServiceFault;
 use crate::zero_note::ZeroNote;
 use std::os::unix::fs::MetadataExt;
 use std::{fs, io};
 use wb_file::Witness;
 use wb_journal::Moment;
-use wb_program::{PrintFault, ServeEnd};
 use wb_sources::{Converter, REQUEST_ROOM, TERMINAL_ROOM, Taken};
 use wb_station::{Exchange, Sources};
-use wb_store::StoreFault;
 use wb_witness::{entry_of, is_stored};
 
 /// A file that is open, by its path, its device and its number there. No other file has these two while it is open.
@@ -74,42 +68,44 @@ impl Places {
 /// Sources of a service whose journal is looked at. Once it isn't where it was, or an entry can't be witnessed, they end, and no entry is answered
 /// any more.
 #[derive(Drop)]
-pub(crate) struct Guarded<'a, S: Sources + Drop> {
+pub struct Guarded<'a, S: Sources + Drop> {
     rt: &'a HostRuntime,
     places: Places,
     witness: Witness,
     zero: ZeroNote<'a>,
     pace: Pace<'a>,
-    pub(crate) sources: S,
+    /// The sources that are guarded.
+    pub sources: S,
     is_lost: bool,
 }
 
 impl<'a, S: Sources + Drop> Guarded<'a, S> {
-    /// Sources over the journal in the file, which is open, of a bridge of this interval.
-    pub(crate) fn new(
+    /// Sources over the journal in the file, which is open, of a bridge of this interval. Where so many readings a second are stated and others come,
+    /// that is told. None if a file can't be looked at.
+    pub fn new(
         rt: &'a HostRuntime,
         path: &str,
         interval_kg: u32,
-        pace: Pace<'a>,
+        stated: Option<u32>,
         sources: S,
-    ) -> Result<Self, ServiceFault> {
+    ) -> Option<Self> {
         match (Places::new(rt, path), Witness::open(rt, path)) {
-            (Ok(places), Ok(witness)) => Ok(Guarded {
+            (Ok(places), Ok(witness)) => Some(Guarded {
                 rt,
                 places,
                 witness,
                 zero: ZeroNote::open(rt, path, interval_kg),
-                pace,
+                pace: Pace::new(rt, stated),
                 sources,
                 is_lost: false,
             }),
-            (Err(_), _) | (_, Err(_)) => Err(lost()),
+            (Err(_), _) | (_, Err(_)) => None,
         }
     }
 
-    /// How the service ended that ended so: by a fault of the disk, if the journal isn't where it was.
-    pub(crate) fn end(&self, end: ServeEnd) -> Result<ServeEnd, ServiceFault> {
-        if self.is_lost { Err(lost()) } else { Ok(end) }
+    /// Whether they ended since the journal isn't where it was, or can't be witnessed.
+    pub fn is_lost(&self) -> bool {
+        self.is_lost
     }
 
     /// Whether the journal is where it was. If not, that is told once.
@@ -146,10 +142,6 @@ impl<'a, S: Sources + Drop> Guarded<'a, S> {
         );
         false
     }
-}
-
-fn lost() -> ServiceFault {
-    ServiceFault::Journal(PrintFault::Store(StoreFault::Disk))
 }
 
 impl<S: Sources + Drop> Sources for Guarded<'_, S> {
