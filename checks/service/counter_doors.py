@@ -58,6 +58,9 @@ def other_sites(nginx):
     ):
         words = [it for field in fields for it in ("-H", field)]
         same(f"{name} is refused", ["403", "403"], [head_of(nginx, "/weighings", *KNOWN, *weighs, *words)[0], head_of(nginx, "/", *KNOWN, *words)[0]])
+    routes = ("/purge", "/journal.csv", "/tickets.csv", "/check", "/metrics")
+    found = [head_of(nginx, it, *KNOWN, *words)[0] for it in routes for words in ([], weighs)]
+    same("a clerk can't purge, and gets no export", ["404"] * len(found), found)
     own = ["-H", f"Origin: https://{HOST}:{nginx.port}"]
     same("its own Origin is not", "200", head_of(nginx, "/", *KNOWN, *own)[0])
 
