@@ -30,13 +30,14 @@ class Nginx:
         if os.getuid() != 0:
             commands = commands.replace("chown ", "true ").replace("chmod 640", "chmod 644")
         subprocess.run(["sh", "-c", commands], check=True, capture_output=True, cwd=TOP)
+        self.plain = plain
         path = f"{self.folder}/etc/nginx/conf.d/weighbridge-counter.conf"
         with open(path) as file:
             text = file.read()
         for old, new in (
-            ("listen 80;", f"listen {HOST}:{plain};"),
-            ("listen 443 ssl http2;", f"listen {HOST}:{self.port} ssl http2;"),
-            ("server 127.0.0.1:8090;", f"server {HOST}:{counter_port};"),
+            ("listen 80", f"listen {HOST}:{plain}"),
+            ("listen 443", f"listen {HOST}:{self.port}"),
+            ("server 127.0.0.1:882;", f"server {HOST}:{counter_port};"),
             ("/etc/nginx/weighbridge/", f"{self.folder}/etc/nginx/weighbridge/"),
             ("weighbridge.example", HOST),
         ):
@@ -47,8 +48,12 @@ class Nginx:
         with open(f"{self.folder}/nginx.conf", "w") as file:
             file.write("user www-data;\ndaemon off;\nworker_processes 1;\npid nginx.pid;\nevents {}\nhttp {\n    access_log access.log;\n")
             file.write(f"{paths}    include etc/nginx/conf.d/*.conf;\n}}\n")
+        words = ["nginx", "-p", self.folder, "-e", "error.log", "-c", "nginx.conf"]
+        tried = subprocess.run([*words, "-t"], capture_output=True, text=True)
+        if tried.returncode or "warn" in tried.stderr:
+            raise SystemExit(f"counter: nginx doesn't take its setup: {tried.stderr}")
         self.process = subprocess.Popen(
-            ["nginx", "-p", self.folder, "-e", "error.log", "-c", "nginx.conf"],
+            words,
             stdin=subprocess.DEVNULL,
             stdout=subprocess.DEVNULL,
             stderr=subprocess.DEVNULL,

@@ -1,5 +1,7 @@
 """The clerk's page in a real browser, for checks/counter: a day's work by keyboard alone, with what is cut or killed within a press."""
 
+import http.server
+import threading
 import time
 
 from bridge import HOST
@@ -235,6 +237,43 @@ def killed_within_a_press(bridge, clerk):
             becomes("service: and gone once zero is set", lambda: clerk.alarms() == "")
 
 
+def a_page_of_another_site(bridge, clerk, nginx):
+    """It shows the counter in no frame, takes no answer of it, and weighs by no form, also in the browser of a clerk who logged in."""
+    counter = at_of(bridge.http)
+    text = f"""<iframe src="{counter}/"></iframe><form method="post" action="https://{HOST}:{nginx.port}/weighings"><input name="key" value="other-site">
+        <input name="kind" value="first"><input name="plate" value="OTHER-1"></form>"""
+
+    class Answer(http.server.BaseHTTPRequestHandler):
+        def do_GET(self):
+            self.send_response(200)
+            self.send_header("Content-Type", "text/html")
+            self.end_headers()
+            self.wfile.write(text.encode())
+
+        def log_message(self, *words):
+            pass
+
+    with http.server.ThreadingHTTPServer((HOST, 0), Answer) as site:
+        threading.Thread(target=site.serve_forever, daemon=True).start()
+        bridge.next_vehicle(9170)
+        browser = clerk.browser
+        browser.go(f"http://localhost:{site.server_port}/")
+        time.sleep(1)
+        browser.call("POST", "/frame", {"id": 0})
+        same("a page of another site shows the counter in no frame", True, browser.run("return document.getElementById('plate') === null"))
+        browser.call("POST", "/frame", {"id": None})
+        ask = f"return fetch('{counter}/indication', {{ mode: 'no-cors', credentials: 'include' }}).then(() => 'taken', () => 'blocked')"
+        same("takes no answer", "blocked", browser.run(ask))
+        browser.run("document.querySelector('form').submit()")
+        time.sleep(2)
+        same(
+            "and weighs nothing by a form",
+            ("counter other_site", False),
+            (browser.run("return document.body.innerText.trim()"), bridge.has_key("other-site")),
+        )
+        site.shutdown()
+
+
 def behind_nginx(bridge):
     nginx = Nginx(bridge.http)
     clerk = None
@@ -257,6 +296,8 @@ def behind_nginx(bridge):
         )
         kept = open(f"{bridge.folder}/state/tares.json").read()
         holds("who kept a tare is known by the password", '"by": "clerk"' in kept, kept)
+        a_page_of_another_site(bridge, clerk, nginx)
+        clerk.load()
         bridge.put(9170)
         windows = [clerk.browser.call("POST", "/window/new", {"type": "tab"})["handle"] for _ in range(8)]
         for it in windows:

@@ -21,18 +21,19 @@ SMALL_BUFFER = 16384  # bytes in the system on the way to a page
 LOOK_AT_SLOW_PAGE_EVERY = 0.05  # seconds
 READS_NOTHING = 5.0  # seconds: a page that takes nothing for so long is closed, and begins anew
 KEY_WITHIN = 60.0
-NO_STORE = {"Cache-Control": "no-store", "X-Content-Type-Options": "nosniff"}
 POLICY = (
     "default-src 'none'; script-src 'self'; style-src 'self'; img-src 'self'; connect-src 'self'; "
     "base-uri 'none'; form-action 'none'; frame-ancestors 'none'; require-trusted-types-for 'script'"
 )
-PAGE_FIELDS = {
-    "Cache-Control": "no-cache",
+# With each answer: what a browser may do with it.
+FIELDS = {
     "Content-Security-Policy": POLICY,
     "X-Content-Type-Options": "nosniff",
     "Referrer-Policy": "no-referrer",
     "Cross-Origin-Resource-Policy": "same-origin",
 }
+NO_STORE = {"Cache-Control": "no-store", **FIELDS}
+NO_CACHE = {"Cache-Control": "no-cache", **FIELDS}
 Handler = Callable[[web.Request], Awaitable[web.StreamResponse]]
 
 
@@ -104,16 +105,16 @@ class Routes:
     # ---- the page
 
     async def page(self, request: web.Request) -> web.StreamResponse:
-        return web.FileResponse(self.folder / "web" / "index.html", headers=PAGE_FIELDS)
+        return web.FileResponse(self.folder / "web" / "index.html", headers=NO_CACHE)
 
     async def page_file(self, request: web.Request) -> web.StreamResponse:
         path = self.folder / "web" / request.match_info["name"]
         if not path.is_file():
             raise web.HTTPNotFound
-        return web.FileResponse(path, headers=PAGE_FIELDS)
+        return web.FileResponse(path, headers=NO_CACHE)
 
     async def openapi(self, request: web.Request) -> web.StreamResponse:
-        return web.FileResponse(self.folder / "openapi.json")
+        return web.FileResponse(self.folder / "openapi.json", headers=NO_CACHE)
 
     async def time(self, request: web.Request) -> web.StreamResponse:
         return as_json({"now": self.counter.milliseconds()})

@@ -5,10 +5,13 @@ A start is told from a connection that was only cut by the process and the momen
 
 import os
 import subprocess
+import time
+import uuid
 from dataclasses import dataclass
 from pathlib import Path
 
 PROC = Path("/proc")
+BOOT = "WEIGHBRIDGE_BOOT"  # the start of the machine, said by the unit, which shows no file of /proc but those of processes
 VERSION_WITHIN = 5.0  # seconds
 
 
@@ -25,15 +28,19 @@ class Service:
 
     def started_at(self) -> float:
         """Seconds since 1970."""
-        booted = next((int(it.split()[1]) for it in (PROC / "stat").read_text().splitlines() if it.startswith("btime ")), 0)
+        booted = time.time() - time.clock_gettime(time.CLOCK_BOOTTIME)
         return booted + self.started_ticks / os.sysconf("SC_CLK_TCK")
+
+
+def boot_of() -> str:
+    return str(uuid.UUID(os.environ.get(BOOT) or (PROC / "sys/kernel/random/boot_id").read_text().strip()))
 
 
 def listener_user(address: tuple[str, int]) -> int | None:
     """The user whose process listens on the address; None if nobody does, or it can't be seen."""
     wanted = "%s:%04X" % ("".join(f"{int(it):02X}" for it in reversed(address[0].split("."))), address[1])
     try:
-        rows = [it.split() for it in (PROC / "net/tcp").read_text().splitlines()[1:]]
+        rows = [it.split() for it in (PROC / "self/net/tcp").read_text().splitlines()[1:]]
     except OSError:
         return None
     return next((int(it[7]) for it in rows if it[1] == wanted and it[3] == "0A"), None)
@@ -52,7 +59,7 @@ def find_service(terminal: tuple[str, int]) -> Service | None:
             if "serve" not in words or wanted not in words or folder.stat().st_uid != user:
                 continue
             ticks = int((folder / "stat").read_text().rpartition(")")[2].split()[19])
-            return Service(int(folder.name), ticks, (PROC / "sys/kernel/random/boot_id").read_text().strip(), tuple(words))
+            return Service(int(folder.name), ticks, boot_of(), tuple(words))
         except (OSError, IndexError, ValueError):
             continue
     return None
