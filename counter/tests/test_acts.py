@@ -53,7 +53,7 @@ class Bridge:
         self.acts = Acts(self.terminal, self.office, self.files, 20, Counter())
         self.acts.pause = self.pause
         self.texts = []
-        self.acts.on_text.append(self.texts.append)
+        self.acts.on_text.append(lambda text, asked: self.texts.append(text))
         self.played.connect()
         self.played.reading(3)
         self.played.fanout.settle()

@@ -4,14 +4,15 @@ import { OLDEST_WEIGHT } from './feed.js';
 import { choiceOf, plateOf } from './guide.js';
 import { clerk, feed, known, linkNow, nowKnown, plate } from './known.js';
 import { search, showLists } from './lists.js';
-import { keepTare, print, printAgain } from './papers.js';
+import { keepTare, print, showJobs } from './papers.js';
 import { make, part } from './parts.js';
-import { askJson } from './request.js';
+import { ask, askJson } from './request.js';
 import { acts, show } from './show.js';
 import { begin, resume, tell } from './weighing.js';
 import { clockOf, kg, language, number, speak, t, useZone, wantedLanguage } from './words.js';
 
 const THEME = 'weighbridge.theme';
+const GIVEN = ['goods', 'order', 'driver'];     // free lines for the paper, which the office doesn't get
 
 // ---- what the counter tells
 
@@ -20,6 +21,7 @@ feed.hear = (name, what) => {
   if (name === 'state') known.state = what;
   if (name === 'lists') Object.assign(known, { onSite: what.on_site, today: what.today, tares: what.tares });
   if (name === 'tares') known.tares = what;
+  if (name === 'papers') takePapers(what);
   if (name === 'entry') takeEntry(what);
   if (name === 'lists' || name === 'entry') showLists();
   show();
@@ -63,17 +65,32 @@ async function clearTare() {
   focusPlate();
 }
 
-function printResult() {
-  if (clerk.result?.text) print(clerk.result.number, clerk.result.text, known.hello, true);
+async function printNumber(number, byBrowser = false) {
+  const isAtPrinter = await print(number, known.papers.printers, byBrowser);
+  if (isAtPrinter === null) tell('bad', 'not_printed');
+  if (isAtPrinter) tell('ok', 'paper_sent');
   focusPlate();
 }
 
+const printResult = () => printNumber(clerk.result.number);
+
 async function printLast() {
-  if (clerk.result?.text) { printResult(); return; }
-  const last = known.today[0];
-  if (!last) tell('wait', 'nothing_today');
-  else if (!await printAgain(last.number, known.hello)) tell('bad', 'office_silent');
+  const last = clerk.result?.number ?? known.today[0]?.number;
+  if (last === undefined) tell('wait', 'nothing_today');
+  else await printNumber(last);
   focusPlate();
+}
+
+function takePapers(papers) {
+  known.papers = papers;
+  if (part('printing').open) showPapers();
+}
+
+const showPapers = () => showJobs(known.papers, (method, target) => ask(method, target, method === 'POST' ? '' : undefined));
+
+function openPapers() {
+  showPapers();
+  part('printing').showModal();
 }
 
 async function keepTareOf({ plate: of, kg: value }) {
@@ -111,7 +128,7 @@ const isAsking = () => document.querySelector('dialog[open]') !== null;
 const focusPlate = () => { if (!isAsking() && !isTouched()) part('plate').focus(); };
 
 function clearPlate() {
-  part('plate').value = '';
+  for (const it of ['plate', ...GIVEN]) part(it).value = '';
   clerk.oneTare = null;
   clerk.isFirstInstead = false;
   show();
@@ -138,7 +155,7 @@ function typed() {
 }
 
 Object.assign(acts, {
-  set_zero: setZero, clear_tare: clearTare, print: printResult, keep_tare: keepTareOf, tare_from_papers: askTare, first_instead: weighFirstInstead,
+  set_zero: setZero, clear_tare: clearTare, print: printResult, print_number: printNumber, show_papers: openPapers, keep_tare: keepTareOf, tare_from_papers: askTare, first_instead: weighFirstInstead,
   withdraw: of => begin('/voids', { plate: of }), take, clear: clearPlate, focus: focusPlate,
 });
 
@@ -147,7 +164,8 @@ function press(event) {
   show();
   if (part('go').disabled) return;
   const choice = choiceOf(nowKnown());
-  begin('/weighings', { kind: choice.kind, plate: plate(), ...(choice.tare ? { tare: String(choice.tare) } : {}) });
+  const given = Object.fromEntries(GIVEN.map(it => [it, part(it).value.trim()]).filter(([, value]) => value));
+  begin('/weighings', { kind: choice.kind, plate: plate(), ...(choice.tare ? { tare: String(choice.tare) } : {}), ...given });
 }
 
 const KEYS = { F9: 'zero', F8: 'last', F4: 'find' };

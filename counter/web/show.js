@@ -88,14 +88,25 @@ function othersOf({ plate, choice, tareOf }) {
   return others;
 }
 
-function alarmsOf({ link, state }) {
+function alarmsOf({ link, state, papers }) {
   if (state === null || link === 'off') return [];
   const alarms = [];
   if (!state.zero.known && link === 'up') alarms.push({ look: 'wait', text: t(state.zero.at ? 'zero_lost' : 'zero_unknown', { time: state.zero.at ? whenOf(state.zero.at) : '' }), choice: 'set_zero' });
   if (state.tare_left) alarms.push({ look: 'bad', text: t('tare_left') });
   if (state.office === 'store') alarms.push({ look: 'bad', text: t('store_closed') });
   if (state.office === 'no_answer' && link === 'up') alarms.push({ look: 'bad', text: t('office_silent') });
+  if (papers.refused !== null) alarms.push({ look: 'bad', text: t('paper_refused', { number: papers.refused }) });
+  for (const it of papersInTrouble(papers)) alarms.push(it);
   return alarms;
+}
+
+// One bar for each printer at which papers wait with a reason, or failed.
+function papersInTrouble({ jobs }) {
+  const printers = [...new Set(jobs.filter(it => it.why || it.state === 'failed').map(it => it.printer))];
+  return printers.map(printer => {
+    const them = jobs.filter(it => it.printer === printer), why = them.find(it => it.why)?.why;
+    return { look: 'bad', text: t('papers_wait', { printer, number: number(them.length), why: why ? t(`trouble_${why}`) : '' }), choice: 'show_papers' };
+  });
 }
 
 const showAlarms = onlyChanged(alarms => {
