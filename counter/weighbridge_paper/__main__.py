@@ -90,8 +90,8 @@ def known_of(asked: argparse.Namespace, text: Text) -> tuple[dict[int, str], dic
                 keys[int(row[number])], digests[int(row[number])] = row[key], row[digest]
         except (OSError, ValueError, IndexError):
             raise NoText(f"{asked.against} is no export of the journal, so it can't be checked against it") from None
-        if text.own.number not in keys:
-            raise NoText(f"number {text.own.number} isn't in {asked.against}: it was purged, or never stored")
+        if missing := [it.number for it in text.weighings if it.number not in keys]:
+            raise NoText(f"number {missing[0]} isn't in {asked.against}: it was purged, or never stored")
     if asked.key is not None:
         keys[text.own.number] = asked.key
     return keys, digests
