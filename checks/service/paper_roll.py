@@ -9,7 +9,19 @@ from PIL import Image, ImageDraw, ImageFont
 CELL = (12, 24)  # dots of a character of font A
 FONT = "/usr/share/fonts/truetype/dejavu/DejaVuSansMono.ttf"
 # The code tables of ESC t by their number, as far as Python has them.
-TABLES = {0: "cp437", 2: "cp850", 3: "cp860", 16: "cp1252", 17: "cp866", 18: "cp852", 19: "cp858", 39: "iso8859_2", 40: "iso8859_15", 45: "cp1250", 46: "cp1251"}
+TABLES = {
+    0: "cp437",
+    2: "cp850",
+    3: "cp860",
+    16: "cp1252",
+    17: "cp866",
+    18: "cp852",
+    19: "cp858",
+    39: "iso8859_2",
+    40: "iso8859_15",
+    45: "cp1250",
+    46: "cp1251",
+}
 
 
 class Fault(Exception):

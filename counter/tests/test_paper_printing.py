@@ -150,7 +150,8 @@ class AtAPrinter(unittest.TestCase):
     def test_a_slow_one_is_waited_for(self):
         self.played.rate = 8000
         (job,) = self.put(USUAL["second"])
-        self.assertTrue(self.turn())
+        with mock.patch.object(devices, "UNKNOWN_AFTER", 99):
+            self.assertTrue(self.turn())
         self.assertEqual([0], [marks(it) for it in self.played.printed])
 
     def test_one_that_does_not_know_gs_r_is_believed_if_it_is_well(self):

@@ -3,6 +3,7 @@
 import asyncio
 import json
 import socket
+import urllib.parse
 from collections.abc import Awaitable, Callable
 from pathlib import Path
 from typing import Any
@@ -219,9 +220,9 @@ class Routes:
 
     async def print_paper(self, request: web.Request) -> web.StreamResponse:
         """Puts a paper of an entry to a printer: the one that the form names, else the one that prints by itself, else the first."""
-        form = await request.post()
+        form = dict(urllib.parse.parse_qsl((await request.read()).decode("latin-1")))
         papers = self.counter.printing.papers
-        printer = str(form.get("printer") or papers.by_itself or next((it.name for it in papers.printers), ""))
+        printer = form.get("printer") or papers.by_itself or next((it.name for it in papers.printers), "")
         if papers.printer(printer) is None:
             return as_json({"why": "no_printer"}, 422)
         found, status = await self.text_to_print(int(request.match_info["number"]))

@@ -61,6 +61,7 @@ class Wire:
 
     def __init__(self, handle: int, has_status: bool) -> None:
         self.handle, self.has_status, self.has_begun = handle, has_status, False
+        self.is_behind = False  # whether GS r was answered, also while something else was waited for
         os.set_blocking(handle, False)
 
     def trouble(self, name: str) -> Trouble:
@@ -92,6 +93,7 @@ class Wire:
                 raise self.trouble("cut" if fault.errno != errno.EIO or self.has_begun else "gone") from None
             if not byte:
                 raise self.trouble("cut" if self.has_begun else "gone")
+            self.is_behind = self.is_behind or escpos.is_behind(byte[0])
             if is_wanted(byte[0]):
                 return byte[0]
         return None
@@ -118,7 +120,7 @@ class Wire:
 
     def print(self, data: bytes, tell: Tell, give_up: GiveUp) -> None:
         """Sends a paper, and waits until it is printed as far as that can be known."""
-        self.has_begun = True
+        self.has_begun, self.is_behind = True, False
         self.write(data + (escpos.ASK_BEHIND if self.has_status else b""))
         if self.has_status:
             self._wait_until_behind(tell, give_up)
@@ -128,7 +130,7 @@ class Wire:
     def _wait_until_behind(self, tell: Tell, give_up: GiveUp) -> None:
         """A printer that ran out of paper keeps what it got, and goes on when it has some: so it isn't sent again."""
         well, heard_at, name = 0, time.monotonic(), None
-        while self.read(BEHIND_EVERY, escpos.is_behind) is None:
+        while not self.is_behind and self.read(BEHIND_EVERY, escpos.is_behind) is None:
             answers = self.answers()
             if answers is not None:
                 heard_at, name = time.monotonic(), escpos.trouble_of(answers)
@@ -213,7 +215,7 @@ class Queue:
 
     def print(self, data: bytes, title: str, tell: Tell, give_up: GiveUp) -> bool:
         """Hands a PDF over, and waits until it left the queue. False: CUPS has it still, and prints it when it can."""
-        said = self._run("lp", "-d", self.name, "-t", title, "-o", f"media={self.media()}", data=data)
+        said = self._run("lp", "-d", self.name, "-t", title, "-o", f"media={self.media(data)}", "-o", "print-scaling=none", data=data)
         found = re.search(r"request id is (\S+)", said)
         if found is None:
             raise Trouble("gone", True)
@@ -234,10 +236,12 @@ class Queue:
         except Trouble:
             return True
 
-    def media(self) -> str:
-        if FORMS[self.form].height is not None:
+    def media(self, data: bytes) -> str:
+        """The size as lp names it: of a roll as long as what stands on it."""
+        size = re.search(rb"/MediaBox \[ 0 0 ([\d.]+) ([\d.]+) \]", data)
+        if size is None or FORMS[self.form].height is not None:
             return self.form.upper()
-        return f"Custom.{self.form.removeprefix('roll')}x300mm"
+        return f"Custom.{float(size[1]):.0f}x{float(size[2]):.0f}"
 
 
 # ---- a folder

@@ -14,7 +14,7 @@ RESET = b"\x1b@\x1bR\x00"  # and ASCII as it is, in place of a country's own sig
 LEFT, CENTRED = b"\x1ba\x00", b"\x1ba\x01"
 BOLD, NOT_BOLD = b"\x1bE\x01", b"\x1bE\x00"
 WHITE_ON_BLACK, BLACK_ON_WHITE = b"\x1dB\x01", b"\x1dB\x00"
-CUT = b"\x1dVB\x00"  # behind the feed to the knife
+CUT = b"\x1dVB\x00"  # it feeds to the knife itself
 FEED = b"\x1bd\x05"
 ASK_BEHIND = b"\x1dr\x01"  # answered once everything before it was worked on
 LARGEST = 3
@@ -91,7 +91,7 @@ class Roll:
         self.made = [RESET]
         for it in blocks:
             self._put(it)
-        self.made += [FEED, CUT] if self.is_cut else [FEED]
+        self.made.append(CUT if self.is_cut else FEED)
         return b"".join(self.made)
 
     def _lines(self, lines: Sequence[str], before: bytes = b"", after: bytes = b"") -> None:

@@ -41,7 +41,6 @@ FORMS = {
     "a4": Form(210 * mm, 297 * mm, 20 * mm, 10, 10, 16, 28),
     "a5": Form(148 * mm, 210 * mm, 10 * mm, 8, 8, 12, 20, 0.5 * mm),
     "roll80": Form(80 * mm, None, 4 * mm, 8.5, 8, 13, 24),
-    "roll58": Form(58 * mm, None, 4 * mm, 8, 8, 12, 18),
 }
 
 
@@ -71,7 +70,7 @@ class Sheet:
         file = io.BytesIO()
         form = self.form
         height = form.height or sum(it[0] for it in self.pieces) + 2 * form.margin
-        canvas = Canvas(file, pagesize=(form.width, height), invariant=1)
+        canvas = Canvas(file, pagesize=(form.width, height), invariant=1, initialFontName=PLAIN)
         canvas.setTitle(title)
         canvas.setAuthor(author)
         self._draw(canvas, height, marks_of(blocks))
