@@ -11,6 +11,7 @@ from counter_clerk import ENTER, F8, F9, Clerk, at_of
 from countering import HOST, TOP, Bridge, becomes, holds, same
 from paper_forms import beside, large_of
 from paper_roll import Printed, code_of, legal_of
+from PIL import Image
 from papering import Desk, about, code_in_pdf, lines_of_width, picture_of
 
 from tests.papers import LONGEST, USUAL
@@ -150,8 +151,6 @@ def page(program, pictures, looked_at):
     print("---- the page", flush=True)
     by_the_browser(program, pictures, looked_at)
     with_a_printer(program, pictures)
-    if pictures:
-        write_pictures(pictures)
 
 
 def printed_by(browser, size, path):
@@ -219,7 +218,7 @@ def by_the_browser(program, pictures, looked_at):
         if looked_at:
             beside(found, f"{looked_at}/browser.png", 1)
         if pictures:
-            beside([found[0]], f"{pictures}/paper_browser.png", 1)
+            write_pictures(pictures, found[0])
     finally:
         clerk.close()
         bridge.close()
@@ -278,7 +277,7 @@ def with_a_printer(program, pictures):
         played.gone()
 
 
-def write_pictures(folder):
+def write_pictures(folder, of_the_browser):
     """The pictures of docs/counter.md."""
     given = ["--goods", "Gravel 0/16", "--order", "4711"]
     rolls = []
@@ -291,7 +290,9 @@ def write_pictures(folder):
             it = Printed(file.read(), {"escpos80": 576, "escpos58": 384}[form])
         it.save(f"{desk.folder}/{form}.png")
         rolls.append(f"{desk.folder}/{form}.png")
-    beside(rolls, f"{folder}/paper_rolls.png", 0.5)
+    Image.open(of_the_browser).resize((640, 2160)).crop((0, 0, 640, 1720)).save(f"{folder}/browser.png")
+    beside([*rolls, f"{folder}/browser.png"], f"{folder}/paper_rolls.png", 0.5)
+    os.remove(f"{folder}/browser.png")
     sheets = []
     for form, language, sample in (("a4", "en", USUAL["single"]), ("a5", "fr", LONGEST["second"]), ("roll80", "es", USUAL["void"])):
         desk = Desk(language, box=f'to = "file:{{folder}}/made"\nform = "{form}"')

@@ -114,5 +114,5 @@ def beside(paths, target, scale):
         sheet.paste(it, (left, 6))
         left += it.width + 12
     os.makedirs(os.path.dirname(target), exist_ok=True)
-    sheet.save(target)
+    sheet.quantize(8).save(target, optimize=True)
     holds(f"to be looked at: {target}", True)

@@ -2,7 +2,7 @@
 
 import { OLDEST_WEIGHT } from './feed.js';
 import { choiceOf, plateOf } from './guide.js';
-import { clerk, feed, known, linkNow, nowKnown, plate } from './known.js';
+import { clerk, feed, GIVEN, givenOf, known, linkNow, nowKnown, plate } from './known.js';
 import { search, showLists } from './lists.js';
 import { keepTare, print, showJobs } from './papers.js';
 import { make, part } from './parts.js';
@@ -12,7 +12,6 @@ import { begin, resume, tell } from './weighing.js';
 import { clockOf, kg, language, number, speak, t, useZone, wantedLanguage } from './words.js';
 
 const THEME = 'weighbridge.theme';
-const GIVEN = ['goods', 'order', 'driver'];     // free lines for the paper, which the office doesn't get
 
 // ---- what the counter tells
 
@@ -127,8 +126,18 @@ const isTouched = () => matchMedia('(pointer: coarse)').matches;
 const isAsking = () => document.querySelector('dialog[open]') !== null;
 const focusPlate = () => { if (!isAsking() && !isTouched()) part('plate').focus(); };
 
+// Free lines for the paper of this vehicle.
+function askGiven() {
+  part('giving').showModal();
+}
+
+function clearGiven() {
+  for (const it of GIVEN) part(it).value = '';
+}
+
 function clearPlate() {
-  for (const it of ['plate', ...GIVEN]) part(it).value = '';
+  part('plate').value = '';
+  clearGiven();
   clerk.oneTare = null;
   clerk.isFirstInstead = false;
   show();
@@ -151,11 +160,12 @@ function typed() {
   clerk.oneTare = null;
   clerk.isFirstInstead = false;
   if (text) clerk.result = clerk.told = null;
+  else clearGiven();
   show();
 }
 
 Object.assign(acts, {
-  set_zero: setZero, clear_tare: clearTare, print: printResult, print_number: printNumber, show_papers: openPapers, keep_tare: keepTareOf, tare_from_papers: askTare, first_instead: weighFirstInstead,
+  set_zero: setZero, clear_tare: clearTare, print: printResult, print_number: printNumber, show_papers: openPapers, keep_tare: keepTareOf, tare_from_papers: askTare, given_lines: askGiven, first_instead: weighFirstInstead,
   withdraw: of => begin('/voids', { plate: of }), take, clear: clearPlate, focus: focusPlate,
 });
 
@@ -164,7 +174,7 @@ function press(event) {
   show();
   if (part('go').disabled) return;
   const choice = choiceOf(nowKnown());
-  const given = Object.fromEntries(GIVEN.map(it => [it, part(it).value.trim()]).filter(([, value]) => value));
+  const given = Object.fromEntries(GIVEN.map(it => [it, givenOf(it)]).filter(([, value]) => value));
   begin('/weighings', { kind: choice.kind, plate: plate(), ...(choice.tare ? { tare: String(choice.tare) } : {}), ...given });
 }
 

@@ -60,7 +60,7 @@ function inWords(values) {
 function formOf(now, told) {
   const choice = choiceOf(now), isReady = Boolean(told.isReady) && !clerk.waiting, net = netOf(choice, grossOf(now.weight));
   const kept = now.tares[now.plate], like = now.plate ? alike(now.plate, now.onSite).map(it => it.plate) : [];
-  return { plate: now.plate, choice, isReady, isUnlikely: Boolean(told.isUnlikely), net: isReady && net > 0 ? net : null, kept, like, tareOf: clerk.result?.tare, language };
+  return { plate: now.plate, choice, isReady, isUnlikely: Boolean(told.isUnlikely), net: isReady && net > 0 ? net : null, kept, like, tareOf: clerk.result?.tare, given: now.given, language };
 }
 
 const showForm = onlyChanged(form => {
@@ -80,10 +80,11 @@ function hintsOf({ plate, choice, kept, like }) {
   return plate ? [make('span', { textContent: t('not_on_site') })] : [];
 }
 
-function othersOf({ plate, choice, tareOf }) {
+function othersOf({ plate, choice, tareOf, given }) {
   const others = [];
   if (choice.kind === 'single') others.push(button(t('first_instead'), acts.first_instead));
   if (!choice.first && isPlate(plate)) others.push(button(t('tare_from_papers'), acts.tare_from_papers));
+  if (isPlate(plate)) others.push(button(given ? `${t('given_lines')}: ${given}` : t('give_lines'), acts.given_lines));
   if (!plate && tareOf) others.push(button(t('keep_tare_of', { kg: kg(tareOf.kg), plate: tareOf.plate }), () => acts.keep_tare(tareOf)));
   return others;
 }

@@ -222,7 +222,8 @@ class Routes:
         """Puts a paper of an entry to a printer: the one that the form names, else the one that prints by itself, else the first."""
         form = dict(urllib.parse.parse_qsl((await request.read()).decode("latin-1")))
         papers = self.counter.printing.papers
-        printer = form.get("printer") or papers.by_itself or next((it.name for it in papers.printers), "")
+        names = [form.get("printer"), papers.by_itself, *(it.name for it in papers.printers)]
+        printer = next((it for it in names if it), "")
         if papers.printer(printer) is None:
             return as_json({"why": "no_printer"}, 422)
         found, status = await self.text_to_print(int(request.match_info["number"]))

@@ -105,7 +105,7 @@ def print_text(asked: argparse.Namespace, printer: Printer, spool: Spool) -> int
     job = None
     if text is not None:
         job = spool.put(spool.take(text, given_of(vars(asked))), printer.name)
-    until = time.monotonic() + asked.within
+    until: float = time.monotonic() + asked.within
     worker = Worker(spool, printer)
     while True:
         while worker.turn(lambda: time.monotonic() > until):

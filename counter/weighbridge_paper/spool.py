@@ -7,6 +7,7 @@ import contextlib
 import datetime
 import fcntl
 import json
+import os
 import sqlite3
 from collections.abc import Iterator
 from dataclasses import dataclass
@@ -51,6 +52,7 @@ class Job:
 class Spool:
     def __init__(self, folder: Path) -> None:
         self.folder = folder
+        refuse_strange_root(folder)
         folder.mkdir(mode=0o700, parents=True, exist_ok=True)
         with self._open() as database:
             for it in TABLES.split(";"):
@@ -191,6 +193,13 @@ class Spool:
                 yield True
             except BlockingIOError:
                 yield False
+
+
+def refuse_strange_root(folder: Path) -> None:
+    """Files that root makes in another user's folder would keep that user out."""
+    nearest = folder if folder.exists() else folder.parent
+    if os.geteuid() == 0 and nearest.exists() and (owner := nearest.stat().st_uid) != 0:
+        raise PermissionError(f"{nearest} belongs to the user {owner}: run this as that user, by runuser -u")
 
 
 def cut(database: sqlite3.Connection, why: str, which: str, value: int | str) -> None:
