@@ -8,11 +8,12 @@ import sys
 import time
 
 from counter_clerk import ENTER, F8, F9, Clerk, at_of
+from counter_looks import FAINT, WIDE
 from countering import HOST, TOP, Bridge, becomes, holds, same
 from paper_forms import beside, large_of
 from paper_roll import Printed, code_of, legal_of
 from PIL import Image
-from papering import Desk, about, code_in_pdf, lines_of_width, picture_of
+from papering import Desk, about, code_in_pdf, legal_in_pdf, lines_of_width, picture_of
 
 from tests.papers import LONGEST, USUAL
 from tests.played_printer import PlayedPrinter
@@ -50,6 +51,7 @@ def show(program):
     try:
         by_itself(bridge, played)
         told_in_words(bridge, played)
+        by_a_pipe(bridge)
         killed(bridge, played)
         taken_by_verify(bridge, played)
     finally:
@@ -105,6 +107,19 @@ def told_in_words(bridge, played):
     same("then nothing waits", [], jobs(bridge))
     same("and the browser gets the original", True, bridge.json("POST", "/papers/6/browser", body="")["is_original"])
     played.there()
+
+
+def by_a_pipe(bridge):
+    """weigh.sh … | weighbridge-paper, with a setup of its own."""
+    desk = Desk("fr", box='to = "file:{folder}/made"\nform = "roll80"')
+    bridge.next_vehicle(9170)
+    line = f"{TOP}/clients/weigh.sh first PIPE-1 | {' '.join(desk.words('--printer', 'box', '--driver', 'Nom'))}"
+    where = {**os.environ, "WEIGHBRIDGE": f"http://{HOST}:{bridge.http}"}
+    it = subprocess.run(["sh", "-c", line], env=where, capture_output=True, text=True)
+    slip = [slip for row in bridge.entries() if row[3] == "PIPE-1" for slip in [bridge.weigh(row[1], "first", "PIPE-1")[1]]]
+    same("weigh.sh | weighbridge-paper prints the slip", (0, slip), (it.returncode, [legal_in_pdf(made, "roll80") for made in desk.made()]))
+    it = subprocess.run(["sh", "-c", line], env=where, capture_output=True, text=True)
+    same("what the office refuses is no paper", (3, 1, True), (it.returncode, len(desk.made()), "nothing came on standard input" in it.stderr))
 
 
 def killed(bridge, played):
@@ -184,8 +199,11 @@ def by_the_browser(program, pictures, looked_at):
             bridge.next_vehicle(load)
             clerk.sees("Type the plate.")
             clerk.keys("HB-KW-77")
-            clerk.browser.run("document.getElementById('goods').value = 'Kies 0/16'")
             clerk.sees("Ready.")
+            press(clerk, "#others", "Goods, order, driver")
+            same("the dialog asks for the goods", "goods", clerk.focus())
+            clerk.keys("Kies 0/16" + ENTER)
+            becomes("what was given stands on the button", lambda: "For the paper: Kies 0/16" in clerk.browser.text("#others"))
             clerk.keys(ENTER)
             clerk.sees("HB-KW-77" if load == 9170 else "net 10,200 kg", what="it is weighed") if load != 9170 else clerk.sees("Slip 1")
         clerk.keys(F8)
@@ -224,6 +242,11 @@ def by_the_browser(program, pictures, looked_at):
         bridge.close()
 
 
+def press(clerk, part, words):
+    """Presses the button of these words."""
+    clerk.browser.run(f"[...document.querySelectorAll('{part} button')].find(it => it.textContent.startsWith('{words}')).click()")
+
+
 def letter_height(pdf, word):
     """The height of a word on the first page, by pdftotext."""
     it = subprocess.run(["pdftotext", "-bbox", pdf, "-"], capture_output=True, text=True, check=True)
@@ -253,7 +276,7 @@ def with_a_printer(program, pictures):
         played.state = "paper_out"
         clerk.keys(F8)
         becomes("without paper a bar says so", lambda: "Printer yard: There is no paper in it. Papers not printed: 1." in clerk.alarms())
-        clerk.browser.run("[...document.querySelectorAll('#alarms button')].at(-1).click()")
+        press(clerk, "#alarms", "Show them")
         becomes("the list has it", lambda: "Slip 1 · HB-KW-77" in clerk.browser.text("#jobs"))
         if pictures:
             with open(f"{pictures}/paper_waits.png", "wb") as file:
@@ -269,12 +292,32 @@ def with_a_printer(program, pictures):
                 bridge.ask("POST", "/papers/1", body="")
             becomes("it is cut in the middle", lambda: played.cut_after is None)
         becomes("cut three times, it has failed", lambda: "It was not printed." in clerk.browser.text("#jobs"))
-        clerk.browser.run("document.querySelector('#jobs button').click()")
+        looks(bridge, clerk)
+        press(clerk, "#jobs", "Print again")
         becomes("and a press prints it", lambda: len(played.printed) == 4 and clerk.browser.text("#jobs") == "Nothing waits.")
     finally:
         clerk.close()
         bridge.close()
         played.gone()
+
+
+def looks(bridge, clerk):
+    """The bar, the list and the dialog for free lines on a telephone and in the dark: nothing sideways, nothing faint."""
+    found = []
+    for width, is_dark, lang in ((360, False, "de"), (360, True, "fr"), (1280, True, "es")):
+        other = Clerk(at_of(bridge.http), None, width, 740, is_dark, lang)
+        try:
+            becomes(f"{width} px, {lang}: the bar is there", lambda other=other: "yard" in other.alarms())
+            other.keys("NEW-1")
+            time.sleep(0.3)
+            for act in ("[...document.querySelectorAll('#alarms button')].at(-1).click()", "document.getElementById('giving').showModal()"):
+                other.browser.run(act)
+                time.sleep(0.3)
+                found += [f"{width} {lang}: {it}" for it in other.browser.run(WIDE) + other.browser.run(FAINT)]
+                other.browser.run("document.querySelector('dialog[open]').close()")
+        finally:
+            other.close()
+    same("the bar, the list and the dialog: nothing sideways, nothing below a contrast of 4.5", [], found[:5])
 
 
 def write_pictures(folder, of_the_browser):

@@ -25,7 +25,7 @@ from .papers import USUAL, Sample
 from .played_printer import ANSWERS, PlayedPrinter
 
 TEMPLATE = layout.Template(("Kieswerk",), (), "en", zoneinfo.ZoneInfo("Europe/Berlin"))
-FAST = {"ANSWER_WITHIN": 0.3, "STUCK_AFTER": 0.5, "BEHIND_EVERY": 0.3, "BEHIND_WITHIN": 1.5, "CONNECT_WITHIN": 0.5}
+FAST = {"ANSWER_WITHIN": 0.3, "STUCK_AFTER": 0.5, "BEHIND_EVERY": 0.3, "BEHIND_WITHIN": 1.5, "CONNECT_WITHIN": 0.5, "UNKNOWN_AFTER": 99}
 
 
 def marks(data):
@@ -62,6 +62,21 @@ class AtAPrinter(unittest.TestCase):
         self.assertEqual([0, 2, 2], [marks(it) for it in self.played.printed])
         self.assertFalse(self.turn())
         self.assertIn(b"\x1d!\x22\x1bEAB-12".replace(b"\x1bE", b"\x1bE\x01"), self.played.printed[0])
+
+    def test_many_presses_at_one_that_waits_make_one_paper(self):
+        self.played.gone()
+        jobs = [self.put(USUAL["second"])[0] for _ in range(3) if not self.turn()]
+        self.played.there()
+        self.assertTrue(self.turn())
+        self.assertFalse(self.turn())
+        self.assertEqual((1, [0]), (len(set(jobs)), [marks(it) for it in self.played.printed]))
+
+    def test_a_printer_that_another_program_has_is_left_to_it(self):
+        (job,) = self.put(USUAL["second"])
+        with self.spool.holding("yard") as is_mine:
+            self.assertTrue(is_mine)
+            self.assertFalse(self.turn())
+        self.assertEqual((("waits", ""), 0), (self.state(job), self.played.connections))
 
     def test_a_first_that_is_printed_again_is_a_copy(self):
         for it in range(2):
@@ -150,14 +165,14 @@ class AtAPrinter(unittest.TestCase):
     def test_a_slow_one_is_waited_for(self):
         self.played.rate = 8000
         (job,) = self.put(USUAL["second"])
-        with mock.patch.object(devices, "UNKNOWN_AFTER", 99):
-            self.assertTrue(self.turn())
+        self.assertTrue(self.turn())
         self.assertEqual([0], [marks(it) for it in self.played.printed])
 
     def test_one_that_does_not_know_gs_r_is_believed_if_it_is_well(self):
         self.played.knows_behind = False
         (job,) = self.put(USUAL["second"])
-        self.assertTrue(self.turn())
+        with mock.patch.object(devices, "UNKNOWN_AFTER", 3):
+            self.assertTrue(self.turn())
         self.assertEqual(("printed", ""), self.state(job))
 
     def test_one_without_status_is_asked_nothing(self):
@@ -179,9 +194,10 @@ class AtAPrinter(unittest.TestCase):
 
     def test_one_that_is_dropped_is_not_printed_and_leaves_the_original_to_the_next(self):
         self.played.gone()
-        one, other = self.put(USUAL["second"], USUAL["second"])
+        (one,) = self.put(USUAL["second"])
         self.assertFalse(self.turn())
         self.assertTrue(self.spool.drop(one))
+        (other,) = self.put(USUAL["second"])
         self.played.there()
         self.assertTrue(self.turn())
         self.assertFalse(self.turn())
@@ -196,7 +212,8 @@ class AtAPrinter(unittest.TestCase):
         self.assertEqual([2], [marks(it) for it in self.played.printed])
 
     def test_of_many_at_once_one_is_the_original(self):
-        jobs = self.put(*[USUAL["second"]] * 12)
+        paper = self.spool.take(read_text(USUAL["second"].text))
+        jobs = [self.spool.put(paper, f"printer_{it}") for it in range(12)]
         found = []
         threads = [threading.Thread(target=lambda job=job: found.append(self.spool.begin(job, True))) for job in jobs]
         for it in threads:

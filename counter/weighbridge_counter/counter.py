@@ -46,6 +46,7 @@ class Counter:
         self.program: dict[str, str | bool] = {}
         self.bridge = "unknown"  # empty: it was since the last weighing; weighed: a weighing since; restarted: not empty since the service's start
         self.told_state: dict[str, Any] = {}
+        self.told_papers: dict[str, Any] = {}
         self.told_weight: tuple[object, ...] = ()
         self.told_weight_at = 0.0
         self.tasks: set[asyncio.Task[None]] = set()
@@ -57,7 +58,7 @@ class Counter:
         self.terminal.listeners.add(self._take_value)
         self.terminal.fanout.on_zero = lambda: self.zero.was_set("")
         self.acts.on_text += [self.printing.passed, self.books.passed]
-        self.printing.on_change = lambda: self.pages.tell("papers", self.printing.state())
+        self.printing.on_change = self._tell_papers
         self.acts.on_answer = self.books.answered
         self.books.on_lists = lambda: self.pages.tell("lists", self.lists())
         self.books.on_entry = self._take_entry
@@ -187,6 +188,12 @@ class Counter:
         if state != self.told_state:
             self.told_state = state
             self.pages.tell("state", state)
+
+    def _tell_papers(self) -> None:
+        papers = self.printing.state()
+        if papers != self.told_papers:
+            self.told_papers = papers
+            self.pages.tell("papers", papers)
 
     def tell_tares(self) -> None:
         self.pages.tell("tares", self.tares.shown())

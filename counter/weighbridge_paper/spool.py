@@ -100,7 +100,11 @@ class Spool:
     # ---- jobs
 
     def put(self, paper: int, printer: str) -> int:
+        """The job of a paper at a printer: one that waits there already is taken for it, so that many presses make one paper."""
         with self._open() as database:
+            row = database.execute("SELECT id FROM job WHERE (paper, printer, state) = (?, ?, 'waits')", (paper, printer)).fetchone()
+            if row is not None:
+                return int(row[0])
             made = database.execute("INSERT INTO job (paper, printer, state, at) VALUES (?, ?, 'waits', ?)", (paper, printer, moment())).lastrowid
             assert made is not None
             return made
@@ -185,11 +189,11 @@ class Spool:
         return is_original, made.given if made is not None else ()
 
     @contextlib.contextmanager
-    def holding(self, printer: str, is_waited_for: bool = True) -> Iterator[bool]:
+    def holding(self, printer: str) -> Iterator[bool]:
         """One program at a printer. False if another one has it."""
         with open(self.folder / f"{printer}.lock", "w") as file:
             try:
-                fcntl.flock(file, fcntl.LOCK_EX | (0 if is_waited_for else fcntl.LOCK_NB))
+                fcntl.flock(file, fcntl.LOCK_EX | fcntl.LOCK_NB)
                 yield True
             except BlockingIOError:
                 yield False
