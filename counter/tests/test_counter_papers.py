@@ -72,6 +72,22 @@ class InTheCounter(unittest.IsolatedAsyncioTestCase):
         self.assertEqual([0, 2], [it.count(b"DUPLICATE") for it in self.played.printed])
         self.assertFalse((await self.printing.for_browser(USUAL["single"].text))["is_original"])
 
+    async def test_what_can_not_be_noted_is_told_and_ends_nothing(self):
+        await self.becomes(lambda: self.printing.threads)
+        path = self.printing.spool.folder / "papers.db"
+        whole = path.read_bytes()
+        with self.assertLogsOnStandardError() as said:
+            path.write_bytes(b"x" * 5000)
+            with self.assertRaises(OSError):
+                await self.printing.print(USUAL["second"].text, "yard")
+            self.printing.passed(USUAL["second"].text, {"key": "K2"})
+            await self.becomes(lambda: "papers.db: file is not a database: look at the disk" in said.getvalue())
+        self.assertEqual((False, True, []), (self.printing.state()["is_writable"], self.printing.faults(), self.played.printed))
+        path.write_bytes(whole)
+        await self.printing.print(USUAL["second"].text, "yard")
+        await self.becomes(lambda: self.played.printed)
+        self.assertTrue(self.printing.state()["is_writable"])
+
     def assertLogsOnStandardError(self):
         import contextlib
         import io

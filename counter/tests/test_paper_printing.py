@@ -2,6 +2,7 @@
 
 import contextlib
 import io
+import re
 import sqlite3
 import tempfile
 import threading
@@ -272,6 +273,9 @@ class EscPos(unittest.TestCase):
     def test_what_no_page_has_is_alike_or_a_question_mark(self):
         self.assertEqual(b"Zolc - EUR ?", escpos.Letters((("cp437", 0),)).of("Żółc – € 山").replace(b"\x1bt\x00", b"").replace(b"\xa2", b"o"))
 
+    def test_a_picture_begins_at_its_left(self):
+        self.assertEqual(b"\x1dv0\x00\x02\x00\x01\x00\x80\x80", escpos.raster([[True] + [False] * 7 + [True]]))
+
     def test_the_status_says_what_is_wrong(self):
         for name, answers in ANSWERS.items():
             self.assertEqual(None if name in ("", "paper_low") else name, escpos.trouble_of(dict(zip((1, 2, 3, 4), answers))))
@@ -282,10 +286,12 @@ class EscPos(unittest.TestCase):
         for columns in (30, 32, 42, 48):
             for language in words.LANGUAGES:
                 template = layout.Template(("A very long name of a company that needs more than one line",), (), language, TEMPLATE.zone)
-                given = layout.given_of({"goods": "x" * 60, "order": "y z " * 15})
+                given = layout.given_of({"goods": "œ" * 60, "order": "y z " * 15, "driver": "山…€ " * 15})
                 blocks = layout.blocks_of(layout.Paper(read_text(USUAL["single"].text), given), template)
                 data = escpos.Roll(columns, (("cp858", 19),), True).bytes_of(blocks)
                 self.assertTrue(data.startswith(b"\x1b@") and data.endswith(b"\x1dVB\x00"))
+                lines = re.sub(rb"\x1d[!B].|\x1b[tEaR].|\x1b@", b"", data.partition(b"\x1dv0")[0], flags=re.S).split(b"\n")
+                self.assertLessEqual(max(map(len, lines)), columns)
 
 
 class TheCode(unittest.TestCase):

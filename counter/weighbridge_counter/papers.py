@@ -1,6 +1,7 @@
 """Papers in the counter: each weighing prints by itself if a printer is set up, and each paper again at a press. It is noted and printed beside the event loop."""
 
 import asyncio
+import contextlib
 import sys
 import threading
 from collections.abc import Callable, Mapping
@@ -42,6 +43,7 @@ class Printing:
         self.tasks: set[asyncio.Task[None]] = set()
         self.refused: int | None = None  # the number of the last text that wasn't the office's
         self.jobs: list[dict[str, Any]] = []
+        self.fault = ""  # why nothing can be noted
         self.on_change: Callable[[], None] = lambda: None
 
     # ---- what runs
@@ -62,17 +64,20 @@ class Printing:
         while True:
             await changed.wait()
             changed.clear()
-            self.jobs = await self._beside(self._look)
-            self.on_change()
+            await self._show()
 
     def _work(self, worker: Worker, something: threading.Event) -> None:
+        said = ""
         while not self.is_over.is_set():
             something.clear()
             try:
                 while not self.is_over.is_set() and worker.turn(self.is_over.is_set):
                     pass
+                said = ""
             except Exception as fault:  # a printer never ends the counter
-                print(f"counter: printer {worker.printer.name}: {fault!r}", file=sys.stderr, flush=True)
+                if said != (said := f"counter: printer {worker.printer.name}: {fault!r}"):
+                    print(said, file=sys.stderr, flush=True)
+                worker.on_change()
             something.wait(TRY_EVERY)
 
     def end(self) -> None:
@@ -84,7 +89,22 @@ class Printing:
             thread.join(END_WITHIN)
 
     async def _beside(self, work: Callable[[], T]) -> T:
-        return await asyncio.get_running_loop().run_in_executor(self.notes, work)
+        """Does something with the database beside the event loop. Raises OSError, and says so once."""
+        try:
+            found = await asyncio.get_running_loop().run_in_executor(self.notes, work)
+        except OSError as fault:
+            if self.fault != str(fault):
+                print(f"counter: {fault}", file=sys.stderr, flush=True)
+            self.fault = str(fault)
+            self.on_change()
+            raise
+        self.fault = ""
+        return found
+
+    async def _show(self) -> None:
+        with contextlib.suppress(OSError):
+            self.jobs = await self._beside(self._look)
+        self.on_change()
 
     def _look(self) -> list[dict[str, Any]]:
         return [shown(it) for it in self.spool.jobs(*SHOWN)[:MOST_SHOWN]]
@@ -120,13 +140,13 @@ class Printing:
             if is_new and self.papers.by_itself is not None:
                 self.spool.put(paper, self.papers.by_itself)
 
-        await self._noted(note)
+        with contextlib.suppress(OSError):
+            await self._noted(note)
 
     async def _noted(self, note: Callable[[], T]) -> T:
         found = await self._beside(note)
         self._wake()
-        self.jobs = await self._beside(self._look)
-        self.on_change()
+        await self._show()
         return found
 
     async def print(self, letters: str, printer: str) -> int:
@@ -157,10 +177,11 @@ class Printing:
             "by_itself": self.papers.by_itself,
             "jobs": self.jobs,
             "refused": self.refused,
+            "is_writable": not self.fault,
         }
 
     def faults(self) -> bool:
-        return self.refused is not None or any(it["why"] or it["state"] == "failed" for it in self.jobs)
+        return bool(self.fault) or self.refused is not None or any(it["why"] or it["state"] == "failed" for it in self.jobs)
 
 
 def shown(job: Job) -> dict[str, Any]:

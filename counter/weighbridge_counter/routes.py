@@ -105,6 +105,10 @@ class Routes:
             return as_text(b"counter late\n", 503, **{"X-Counter": "not_sent"})
         try:
             return await handler(request)
+        except OSError as fault:
+            if not request.path.startswith(("/papers", "/jobs")):
+                raise
+            return as_json({"why": "no_file"}, 503)
         except web.HTTPException as fault:
             name = {404: "no_route", 405: "wrong_method", 413: "too_large"}.get(fault.status, "malformed")
             return as_text(f"fault {fault.status} {name}\n".encode(), fault.status)

@@ -4,6 +4,7 @@ Debian 12 has no python3-escpos, so the few commands that are needed stand here,
 GS !, GS B, GS v 0, GS V, DLE EOT, GS r. The numbers of the code pages are those of its list of ESC t; a printer whose list is another one has them in the setup.
 """
 
+import dataclasses
 import unicodedata
 from collections.abc import Sequence
 
@@ -61,23 +62,38 @@ class Letters:
     def __init__(self, pages: Sequence[tuple[str, int]]) -> None:
         self.pages, self.now = pages, -1
 
+    def plain(self, text: str) -> str:
+        """The text with something alike for each letter that no page has."""
+        return "".join(self._alike(it) for it in text)
+
+    def _alike(self, letter: str) -> str:
+        if letter.isascii():
+            return letter if letter.isprintable() else " "
+        if any(has(page, letter) for page, _ in self.pages):
+            return letter
+        bare = "".join(it for it in unicodedata.normalize("NFKD", letter) if not unicodedata.combining(it))
+        alike = ALIKE.get(letter, bare if bare != letter else "")
+        return self.plain(alike) if alike else "?"
+
     def of(self, text: str) -> bytes:
-        return b"".join(self._letter(it) for it in text)
+        return b"".join(self._letter(it) for it in self.plain(text))
 
     def _letter(self, letter: str) -> bytes:
         if letter.isascii():
-            return letter.encode() if letter.isprintable() else b" "
-        for page, number in sorted(self.pages, key=lambda it: it[1] != self.now):
-            try:
-                found = letter.encode(page)
-            except UnicodeEncodeError:
-                continue
-            changed = b"" if number == self.now else b"\x1bt" + bytes([number])
-            self.now = number
-            return changed + found
-        bare = "".join(it for it in unicodedata.normalize("NFKD", letter) if not unicodedata.combining(it))
-        alike = ALIKE.get(letter, bare if bare != letter else "")
-        return self.of(alike) if alike else b"?"
+            return letter.encode()
+        now = [it for it in self.pages if it[1] == self.now]
+        page, number = next(it for it in (*now, *self.pages) if has(it[0], letter))
+        changed = b"" if number == self.now else b"\x1bt" + bytes([number])
+        self.now = number
+        return changed + letter.encode(page)
+
+
+def has(page: str, letter: str) -> bool:
+    try:
+        letter.encode(page)
+    except UnicodeEncodeError:
+        return False
+    return True
 
 
 class Roll:
@@ -90,9 +106,14 @@ class Roll:
     def bytes_of(self, blocks: Sequence[layout.Block]) -> bytes:
         self.made = [RESET]
         for it in blocks:
-            self._put(it)
+            self._put(self._plain(it))
         self.made.append(CUT if self.is_cut else FEED)
         return b"".join(self.made)
+
+    def _plain(self, block: layout.Block) -> layout.Block:
+        """The block with what its printer has for each letter, so that its lines are as long as they will be. The legal text stays as it is."""
+        fields = {"Legal": ("wrapped",), "Code": ("name",), "Pair": ("name", "value")}.get(type(block).__name__, ("text",))
+        return dataclasses.replace(block, **{it: self.letters.plain(getattr(block, it)) for it in fields})
 
     def _lines(self, lines: Sequence[str], before: bytes = b"", after: bytes = b"") -> None:
         self.made += [before, *(self.letters.of(it) + b"\n" for it in lines), after]

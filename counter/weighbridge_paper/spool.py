@@ -61,21 +61,27 @@ class Spool:
 
     @contextlib.contextmanager
     def _open(self) -> Iterator[sqlite3.Connection]:
-        """A transaction of its own, on the disk at its end."""
-        database = sqlite3.connect(self.folder / "papers.db", timeout=BUSY_WITHIN, isolation_level=None)
+        """A transaction of its own, on the disk at its end. Raises OSError if the database can't be read or written."""
+        path = self.folder / "papers.db"
         try:
-            database.execute("PRAGMA synchronous = EXTRA")
-            database.execute("BEGIN IMMEDIATE")
-            yield database
-            database.execute("COMMIT")
-        finally:
-            database.close()
+            with contextlib.closing(sqlite3.connect(path, timeout=BUSY_WITHIN, isolation_level=None)) as database:
+                database.execute("PRAGMA synchronous = EXTRA")
+                database.execute("BEGIN IMMEDIATE")
+                yield database
+                database.execute("COMMIT")
+        except sqlite3.Error as fault:
+            raise OSError(f"{path}: {fault}: look at the disk; if the file is broken, move it away") from None
 
     # ---- papers
 
     def is_known(self, text: Text) -> bool:
+        """Whether it was printed, or put to a printer."""
         with self._open() as database:
-            return paper_id(database, text) is not None
+            words = (found := paper_id(database, text), found)
+            return (
+                database.execute("SELECT 1 FROM paper WHERE id = ? AND (is_spent OR EXISTS (SELECT 1 FROM job WHERE paper = ?))", words).fetchone()
+                is not None
+            )
 
     def take(self, text: Text, given: tuple[tuple[str, str], ...] = ()) -> int:
         """The paper of a text. What the clerk gave first stays with it, until something else is given."""

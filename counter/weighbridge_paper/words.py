@@ -23,7 +23,7 @@ WORDS: dict[str, tuple[str, str, str, str]] = {
     "number": ("No", "Nr.", "Nº", "N.º"),
     "given": (
         "Given by the clerk. No part of the weighing.",
-        "Angaben der Waage. Kein Teil der Wägung.",
+        "Angaben des Wägers. Kein Teil der Wägung.",
         "Indiqué par l'opérateur. Ne fait pas partie de la pesée.",
         "Indicado por el operador. No forma parte de la pesada.",
     ),
