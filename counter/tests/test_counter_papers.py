@@ -41,8 +41,8 @@ class InTheCounter(unittest.IsolatedAsyncioTestCase):
     async def test_what_passes_is_printed_once(self):
         for _ in range(3):
             self.printing.passed(USUAL["second"].text, {"key": "K2", "goods": "Kies", "plate": "AB-12"})
-        await self.becomes(lambda: self.played.printed)
-        await asyncio.sleep(0.2)
+            await self.becomes(lambda: self.played.printed and not self.printing.jobs)
+            await asyncio.sleep(0.2)
         self.assertEqual((1, 1, None), (len(self.played.printed), self.played.printed[0].count(b"Kies\n"), self.printing.state()["refused"]))
 
     async def test_what_is_not_the_office_s_is_refused_and_told(self):
@@ -83,6 +83,7 @@ class InTheCounter(unittest.IsolatedAsyncioTestCase):
             self.printing.passed(USUAL["second"].text, {"key": "K2"})
             await self.becomes(lambda: "papers.db: file is not a database: look at the disk" in said.getvalue())
         self.assertEqual((False, True, []), (self.printing.state()["is_writable"], self.printing.faults(), self.played.printed))
+        self.assertFalse(self.running.done())
         path.write_bytes(whole)
         await self.printing.print(USUAL["second"].text, "yard")
         await self.becomes(lambda: self.played.printed)
