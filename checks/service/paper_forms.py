@@ -52,8 +52,21 @@ def show(looked_at=None):
                     sheets.setdefault(form, []).append(picture_of(picture, 75) if form in SIZES else picture)
     same("each form, kind, length and language: letters, large print, marks, QR code, fonts, pages", [], wrong[:5])
     same("papers read back", 80, count)
+    a_full_page()
     for form, pictures in sheets.items():
         beside(pictures, f"{looked_at}/{form}.png", 0.5 if form in DOTS else 1)
+
+
+def a_full_page():
+    """More than a page has room for: the legal text stays together, and each page of a further print is marked."""
+    lines = [f"Line {it} of what the company has to say" for it in range(8)]
+    desk = Desk(box=f'to = "file:{{folder}}/made"\nform = "a5"\nheader = {lines}\nfooter = {lines}')
+    for sample in (LONGEST["second"], USUAL["second"]):
+        desk.run(sample.text, "--printer", "box", *[part for name in GIVEN for part in (f"--{name}", GIVEN["goods"])])
+        desk.run("", "--printer", "box", "--reprint", str(sample.number))
+        for path, count in zip(desk.made()[-2:], (0, 3)):
+            rest = " ".join(" ".join(lines_of(path, "a5")).split())
+            same("a full page", (2, sample.text, count), (about(path)[0], legal_in_pdf(path, "a5"), rest.count("DUPLICATE")))
 
 
 def faults_of_roll(path, form, sample, language, is_further):

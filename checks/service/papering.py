@@ -56,8 +56,8 @@ def lines_of(pdf, form):
 
 
 def lines_of_width(pdf, width):
-    it = subprocess.run(["pdftotext", "-fixed", str(width), "-nopgbrk", pdf, "-"], capture_output=True, text=True, check=True)
-    lines = it.stdout.split("\n")
+    it = subprocess.run(["pdftotext", "-fixed", str(width), pdf, "-"], capture_output=True, text=True, check=True)
+    lines = it.stdout.replace("\f", "\n\n").split("\n")  # a page's end ends what stands on it
     begin = next(it for it in lines if it.lstrip().startswith("WEIGHING "))
     margin = len(begin) - len(begin.lstrip())
     return [it[margin:] if not it[:margin].strip() else it.strip() for it in lines]

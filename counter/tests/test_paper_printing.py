@@ -15,7 +15,8 @@ from weighbridge_paper import devices, escpos, layout, words
 from weighbridge_paper.__main__ import main
 from weighbridge_paper.code import QUIET, modules_of
 from weighbridge_paper.page import page_of, path_of
-from weighbridge_paper.pdf import FORMS, Sheet
+from weighbridge_paper.forms import FORMS
+from weighbridge_paper.pdf import Sheet
 from weighbridge_paper.printers import Printer, read_papers
 from weighbridge_paper.printing import Worker
 from weighbridge_paper.reader import SetupFault

@@ -167,6 +167,9 @@ def main(given: list[str] | None = None) -> int:
     except NoText as fault:
         say(f"this is no text to print: {fault}")
         return 3
+    except ImportError as fault:
+        say(f"{fault}: install python3-reportlab and python3-qrcode")
+        return 2
     except OSError as fault:
         say(str(fault))
         return 1

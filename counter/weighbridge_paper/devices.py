@@ -15,7 +15,7 @@ from collections.abc import Callable, Iterator
 from pathlib import Path
 
 from . import escpos
-from .pdf import FORMS
+from .forms import FORMS
 from .printers import Printer
 
 TROUBLES = {

@@ -3,45 +3,19 @@
 import functools
 import io
 from collections.abc import Callable, Sequence
-from dataclasses import dataclass
 from pathlib import Path
 
-from reportlab.lib.units import mm  # type: ignore[import]
 from reportlab.pdfbase import pdfmetrics  # type: ignore[import]
 from reportlab.pdfbase.ttfonts import TTFont  # type: ignore[import]
 from reportlab.pdfgen.canvas import Canvas  # type: ignore[import]
 
 from . import layout
 from .code import modules_of
+from .forms import Form
 
 FONTS = Path("/usr/share/fonts/truetype/dejavu")
 PLAIN, BOLD, MONO = "WeighbridgeSans", "WeighbridgeSansBold", "WeighbridgeMono"
 FILES = {PLAIN: "DejaVuSans.ttf", BOLD: "DejaVuSans-Bold.ttf", MONO: "DejaVuSansMono.ttf"}
-
-
-@dataclass(frozen=True)
-class Form:
-    """A size of paper. The legal text has 8 points at least: its figures are 2 mm high then."""
-
-    width: float
-    height: float | None  # None: as long as what stands on it
-    margin: float
-    plain: float
-    legal: float
-    title: float
-    large: float
-    module: float = 0.75 * mm  # of the QR code
-
-    @property
-    def within(self) -> float:
-        return self.width - 2 * self.margin
-
-
-FORMS = {
-    "a4": Form(210 * mm, 297 * mm, 20 * mm, 10, 10, 16, 28),
-    "a5": Form(148 * mm, 210 * mm, 10 * mm, 8, 8, 12, 20, 0.5 * mm),
-    "roll80": Form(80 * mm, None, 4 * mm, 8.5, 8, 13, 24),
-}
 
 
 @functools.cache
@@ -192,10 +166,23 @@ class Sheet:
     def _legal(self, legal: layout.Legal) -> None:
         size = self.form.legal
         lines = layout.wrapped(legal.letters, int(self.form.within / width_of("0", MONO, size)))
+        before = len(self.pieces)
         for it in lines:
             self._string(it, MONO, size)
+        self._keep_together(before)
         if any(it.startswith(layout.CONTINUES) for it in lines):
             self._texts(legal.wrapped, PLAIN, self.form.plain * 0.8)
+
+    def _keep_together(self, since: int) -> None:
+        """Makes one piece of those since a place, so that no page ends within."""
+        them = self.pieces[since:]
+
+        def draw(canvas: Canvas, at: float) -> None:
+            for needed, draw_one in them:
+                draw_one(canvas, at)
+                at -= needed
+
+        self.pieces[since:] = [(sum(needed for needed, _ in them), draw)]
 
     def _code(self, code: layout.Code) -> None:
         rows, form = modules_of(code.text), self.form

@@ -6,7 +6,7 @@ from pathlib import Path
 
 from .escpos import PAGES
 from .layout import Template
-from .pdf import FORMS
+from .forms import FORMS
 from .reader import Reader, SetupFault, table_of, tables_in, zone_of
 from .words import LANGUAGES
 

@@ -6,7 +6,7 @@ from pathlib import Path
 from . import layout
 from .devices import GiveUp, Queue, Trouble, put_in_folder, wire_to
 from .escpos import Roll
-from .pdf import FORMS, Sheet
+from .forms import FORMS
 from .printers import Printer
 from .spool import Job, Spool
 
@@ -16,6 +16,8 @@ def data_of(paper: layout.Paper, printer: Printer) -> bytes:
     blocks = layout.blocks_of(paper, printer.template)
     if printer.is_escpos:
         return Roll(printer.columns, printer.pages, printer.is_cut).bytes_of(blocks)
+    from .pdf import Sheet  # reportlab is large, and a printer for ESC/POS needs none
+
     own = paper.text.own
     return Sheet(FORMS[printer.form]).pdf_of(blocks, f"{own.serial} {own.number}", " ".join(printer.template.header[:1]))
 
