@@ -243,6 +243,16 @@ class AtAPrinter(unittest.TestCase):
             self.turn()
         self.assertEqual("waits", self.state(job)[0])
 
+    def test_a_text_that_was_changed_where_it_waits_is_not_printed(self):
+        self.put(USUAL["second"])
+        with contextlib.closing(sqlite3.connect(self.spool.folder / "papers.db")) as database:
+            database.execute("UPDATE paper SET letters = replace(letters, '10200', '10220')")
+            database.commit()
+        for look in (self.turn, lambda: self.spool.jobs("waits"), lambda: self.spool.text_of(2)):
+            with self.assertRaisesRegex(OSError, "a text that was changed"):
+                look()
+        self.assertEqual([], self.played.printed)
+
     def test_the_same_number_of_another_journal_is_another_paper(self):
         other = Sample("second", first=18320)
         self.put(USUAL["second"], other)

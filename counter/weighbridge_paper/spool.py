@@ -14,7 +14,7 @@ from dataclasses import dataclass
 from pathlib import Path
 
 from .layout import Paper
-from .text import Text, read_text
+from .text import NoText, Text, read_text
 
 MOST_TRIES = 3  # that were cut in the middle; then somebody has to press
 KEPT_DAYS = 60  # that a job which came to its end is listed
@@ -101,7 +101,7 @@ class Spool:
         """The newest text of a number, for a further print."""
         with self._open() as database:
             row = database.execute("SELECT letters FROM paper WHERE number = ? ORDER BY id DESC LIMIT 1", (number,)).fetchone()
-        return None if row is None else read_text(row[0])
+        return None if row is None else stored(row[0])
 
     # ---- jobs
 
@@ -229,7 +229,14 @@ def paper_id(database: sqlite3.Connection, text: Text) -> int | None:
 def job_of(row: tuple[int, int, str, str, str, int, int, str, str]) -> Job:
     number, paper, printer, state, why, was_original, is_spent, letters, given = row
     is_original = not is_spent if state in ("waits", "failed") else bool(was_original)
-    return Job(number, paper, printer, state, why, is_original, read_text(letters), tuple((it[0], it[1]) for it in json.loads(given)))
+    return Job(number, paper, printer, state, why, is_original, stored(letters), tuple((it[0], it[1]) for it in json.loads(given)))
+
+
+def stored(letters: str) -> Text:
+    try:
+        return read_text(letters)
+    except NoText as fault:
+        raise OSError(f"papers.db has a text that was changed: {fault}: move the file away") from None
 
 
 def moment(days: int = 0) -> str:
