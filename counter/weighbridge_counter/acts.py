@@ -73,18 +73,18 @@ class Acts:
         return await asyncio.shield(told)
 
     async def _act(self, target: str, body: bytes, told: "asyncio.Future[Told]") -> None:
-        parts = body.split(b"&")
-        asked = dict(urllib.parse.parse_qsl(body.decode("latin-1")))
-        if any(it.startswith(NOT_FOR_THE_OFFICE) for it in parts):
-            parts = [it for it in parts if not it.startswith(NOT_FOR_THE_OFFICE)]
-            body = b"&".join(parts)
-        tares = [it[5:].decode("latin-1") for it in parts if it.startswith(b"tare=")]
         try:
+            asked = dict(urllib.parse.parse_qsl(body.decode("latin-1")))
+            parts = body.split(b"&")
+            if any(it.startswith(NOT_FOR_THE_OFFICE) for it in parts):
+                parts = [it for it in parts if not it.startswith(NOT_FOR_THE_OFFICE)]
+                body = b"&".join(parts)
+            tares = [it[5:].decode("latin-1") for it in parts if it.startswith(b"tare=")]
             if not tares:
                 told.set_result(await self._pass_on(target, body, asked))
             elif len(tares) == 1 and TARE.fullmatch(tares[0]) and b"kind=single" in parts:
                 rest = b"&".join(it for it in parts if not it.startswith(b"tare="))
-                await self._weigh_with_tare(target, rest, asked, told)
+                await self._weigh_with_tare(target, rest, tares[0], asked, told)
             else:
                 told.set_result(not_sent(422, "bad_tare"))
         except NotSent:
@@ -115,11 +115,11 @@ class Acts:
 
     # ---- a tare that belongs to one weighing
 
-    async def _weigh_with_tare(self, target: str, body: bytes, asked: Mapping[str, str], told: "asyncio.Future[Told]") -> None:
+    async def _weigh_with_tare(self, target: str, body: bytes, tare: str, asked: Mapping[str, str], told: "asyncio.Future[Told]") -> None:
         """`TA`, the weighing, `TAC`. The file tells a next start that a tare may be left; who asked is told before it is cleared."""
         async with self.terminal.turn(BEGIN_WITHIN, may_settle=True) as turn:
             try:
-                refusal = await self._set_tare(turn, asked["tare"])
+                refusal = await self._set_tare(turn, tare)
             except Unanswered:
                 self.may_be_left = self.files.has(ACT_FILE)
                 refusal = not_sent(503, "no_terminal")
