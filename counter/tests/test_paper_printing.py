@@ -443,6 +443,23 @@ class TheCommand(unittest.TestCase):
         self.assertEqual(2, self.run_with("", "--drop", "1")[0])
         self.assertEqual((0, ""), self.run_with("", "--list")[:2])
 
+    def test_what_a_killed_command_left_is_printed_by_the_next_call(self):
+        spool = Spool(self.folder / "spool")
+        spool.begin(spool.put(spool.take(read_text(USUAL["second"].text)), "box"), True)
+        self.assertEqual(0, self.run_with("", "--printer", "box")[0])
+        self.assertEqual([2], [marks(it.read_bytes()) for it in (self.folder / "out").iterdir()])
+        self.assertEqual(3, self.run_with("", "--printer", "box")[0])
+
+    def test_what_fails_is_no_success(self):
+        spool = Spool(self.folder / "spool")
+        job = spool.put(spool.take(read_text(USUAL["second"].text)), "box")
+        for _ in range(2):
+            spool.begin(job, False)
+            spool.was_cut(job, "cut")
+        spool.begin(job, False)
+        status, _, err = self.run_with("", "--printer", "box")
+        self.assertEqual((1, True), (status, "failed at box: the program ended in the middle" in err))
+
     def test_words_that_are_refused(self):
         self.assertEqual(2, self.run_with(USUAL["second"].text, "--printer", "none")[0])
         with self.assertRaises(SystemExit) as caught:

@@ -105,7 +105,7 @@ class Routes:
             return as_text(b"counter late\n", 503, **{"X-Counter": "not_sent"})
         try:
             return await handler(request)
-        except OSError as fault:
+        except OSError:
             if not request.path.startswith(("/papers", "/jobs")):
                 raise
             return as_json({"why": "no_file"}, 503)

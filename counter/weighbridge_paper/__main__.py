@@ -99,19 +99,17 @@ def known_of(asked: argparse.Namespace, text: Text) -> tuple[dict[int, str], dic
 
 def print_text(asked: argparse.Namespace, printer: Printer, spool: Spool) -> int:
     text = text_asked_for(asked, spool)
-    if text is None and asked.reprint is None and not spool.next(printer.name):
+    waiting = [it.id for it in spool.jobs("waits", "begun") if it.printer == printer.name]
+    if text is None and not waiting:
         say("nothing came on standard input, and nothing waits: the weighing before may have been refused")
         return 3
-    job = None
-    if text is not None:
-        job = spool.put(spool.take(text, given_of(vars(asked))), printer.name)
+    job = waiting[-1] if text is None else spool.put(spool.take(text, given_of(vars(asked))), printer.name)
     until: float = time.monotonic() + asked.within
     worker = Worker(spool, printer)
     while True:
         while worker.turn(lambda: time.monotonic() > until):
             pass
-        left = spool.next(printer.name)
-        state = spool.job(job) if job is not None else left
+        state = spool.job(job)
         if state is None or state.state not in ("waits", "begun") or time.monotonic() > until:
             return told(state)
         time.sleep(AGAIN_AFTER)
