@@ -164,10 +164,16 @@ class AtAPrinter(unittest.TestCase):
         done.join(5)
         self.assertEqual((("printed", ""), [0], []), (self.state(job), [marks(it) for it in self.played.printed], self.played.begun))
 
+    def test_one_in_trouble_is_given_up_if_nobody_waits_any_more(self):
+        self.played.out_after = 700
+        (job,) = self.put(USUAL["second"])
+        self.assertFalse(self.turn(give_up=lambda: True))
+        self.assertEqual(("waits", "paper_out"), self.state(job))
+
     def test_a_slow_one_is_waited_for(self):
         self.played.rate = 8000
         (job,) = self.put(USUAL["second"])
-        self.assertTrue(self.turn())
+        self.assertTrue(self.turn(give_up=lambda: True))
         self.assertEqual([0], [marks(it) for it in self.played.printed])
 
     def test_one_that_does_not_know_gs_r_is_believed_if_it_is_well(self):

@@ -125,10 +125,10 @@ class Wire:
         if self.has_status:
             self._wait_until_behind(tell, give_up)
         else:
-            self._wait_until_taken(give_up)
+            self._wait_until_taken()
 
     def _wait_until_behind(self, tell: Tell, give_up: GiveUp) -> None:
-        """A printer that ran out of paper keeps what it got, and goes on when it has some: so it isn't sent again."""
+        """A printer that ran out of paper keeps what it got, and goes on when it has some: so it isn't sent again. One that is well isn't given up."""
         well, heard_at, name = 0, time.monotonic(), None
         while not self.is_behind and self.read(BEHIND_EVERY, escpos.is_behind) is None:
             answers = self.answers()
@@ -138,15 +138,15 @@ class Wire:
                 tell(name or "")
             if well >= UNKNOWN_AFTER:
                 return
-            if give_up() or time.monotonic() - heard_at > BEHIND_WITHIN:
+            if (name is not None and give_up()) or time.monotonic() - heard_at > BEHIND_WITHIN:
                 raise self.trouble(name or "stuck")
 
-    def _wait_until_taken(self, give_up: GiveUp) -> None:
+    def _wait_until_taken(self) -> None:
         """Without a status: until the other side has all bytes, which says nothing of paper."""
         try:
             waiting = time.monotonic() + STUCK_AFTER
             while struct.unpack("i", fcntl.ioctl(self.handle, termios.TIOCOUTQ, b"\0\0\0\0"))[0]:
-                if give_up() or time.monotonic() > waiting:
+                if time.monotonic() > waiting:
                     raise self.trouble("stuck")
                 time.sleep(0.02)
         except OSError:
