@@ -1,12 +1,14 @@
 """What the parts of checks/paper share: setups, the command, and a paper read back from its bytes or its PDF."""
 
+import atexit
 import os
 import re
+import shutil
 import subprocess
 import sys
 import tempfile
 
-from countering import TOP
+from countering import TOP, failures
 from paper_roll import Printed, code_in, legal_of
 
 sys.path.insert(0, os.path.join(TOP, "counter"))
@@ -25,6 +27,7 @@ class Desk:
 
     def __init__(self, language="en", **printers):
         self.folder = tempfile.mkdtemp(prefix="paper-")
+        atexit.register(lambda: failures or shutil.rmtree(self.folder, ignore_errors=True))  # what failed stays, to be looked at
         self.setup = f"{self.folder}/paper.toml"
         os.mkdir(f"{self.folder}/made")
         with open(self.setup, "w") as file:
