@@ -27,7 +27,8 @@ class Clerk:
         self.browser.go(f"{self.at}/?lang={lang}")
         # a page that prints would wait for a dialog
         self.browser.run(
-            "window.papers = []; window.print = () => window.papers.push([document.getElementById('paper-copy').textContent, document.getElementById('paper-text').textContent]);"
+            "window.papers = []; const text = it => document.querySelector(it)?.textContent ?? '';"
+            "window.print = () => window.papers.push([text('#paper .mark'), text('#paper .whole')]);"
         )
 
     def words(self):

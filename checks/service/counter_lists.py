@@ -205,6 +205,12 @@ def the_description(bridge):
     answered("/zero", "POST", bridge.http)
     answered("/tare/clear", "POST", bridge.http)
     answered("/lists/refresh", "POST", bridge.http)
+    answered("/papers", "GET", bridge.http)
+    for number in ("1", "999999"):
+        answered("/papers/{number}", "POST", bridge.http, f"/papers/{number}", body="")
+        answered("/papers/{number}/browser", "POST", bridge.http, f"/papers/{number}/browser", body="")
+    answered("/jobs/{job}/again", "POST", bridge.http, "/jobs/999/again", body="")
+    answered("/jobs/{job}", "DELETE", bridge.http, "/jobs/999")
     answered("/search", "GET", bridge.http, "/search?q=A")
     answered("/keys/{key}", "GET", bridge.http, "/keys/describe-1")
     answered("/web/{name}", "GET", bridge.http, "/web/page.js")

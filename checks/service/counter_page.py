@@ -31,7 +31,8 @@ def a_pair_by_keyboard(bridge, clerk):
     same("the plate is free, and has the focus", ("", "plate"), (clerk.plate(), clerk.focus()))
     clerk.keys(F8 + F8)
     text = bridge.weigh(bridge.entries()[0][1], "first", "HB-KW-77", port=bridge.office)[1]
-    same("on paper stands the text letter for letter, once as the first and then as a duplicate", [["", text], ["DUPLICATE", text]], clerk.papers())
+    becomes("it prints twice", lambda: len(clerk.papers()) == 2)
+    same("on paper stands the text letter for letter, once as the original and then as a copy", [["", text], ["COPY", text]], clerk.papers())
     becomes("then it says to let it drive off", lambda: "Slip 1" in clerk.words() or "drive off" in clerk.words())
     bridge.next_vehicle(4070)
     clerk.sees("Type the plate.")

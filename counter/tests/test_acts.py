@@ -53,7 +53,7 @@ class Bridge:
         self.acts = Acts(self.terminal, self.office, self.files, 20, Counter())
         self.acts.pause = self.pause
         self.texts = []
-        self.acts.on_text.append(self.texts.append)
+        self.acts.on_text.append(lambda text, asked: self.texts.append(text))
         self.played.connect()
         self.played.reading(3)
         self.played.fanout.settle()
@@ -93,6 +93,14 @@ class Passing(WithABridge):
         self.assertEqual([b"kind=first&plate=AB%2D12&key=K1&more=%41"], bridge.office.bodies)
         self.assertEqual([TICKET], bridge.texts)
         self.assertEqual(["SIR"], bridge.played.sent)
+
+    async def test_free_lines_for_the_paper_stay_with_the_counter(self):
+        for tare in (b"", b"&tare=5000"):
+            bridge, seen = self.bridge((201, TICKET)), []
+            bridge.acts.on_text.append(lambda text, asked, seen=seen: seen.append((asked["goods"], asked["driver"], asked["key"])))
+            told = await self.weigh(bridge, b"key=K1&kind=single&goods=Kies+0%2F16&plate=AB%2D12&driver=%C5%81" + tare)
+            self.assertEqual((201, [b"key=K1&kind=single&plate=AB%2D12"]), (told.status, bridge.office.bodies))
+            self.assertEqual([("Kies 0/16", "Ł", "K1")], seen)
 
     async def test_no_answer_is_told_as_none_and_as_sent(self):
         told = await self.weigh(self.bridge(None), b"key=K1&kind=first&plate=AB-12")
@@ -144,6 +152,11 @@ class WithATare(WithABridge):
         told = await self.weigh(bridge)
         self.assertEqual((409, b"counter tare_refused\n", False), (told.status, told.body, told.is_sent))
         self.assertFalse(bridge.files.has(ACT_FILE))
+
+    async def test_a_tare_in_disguise_never_goes_out(self):
+        bridge = self.bridge((201, TICKET))
+        await self.weigh(bridge, BODY + b"&%74are=7%0D%0AZ")
+        self.assertEqual(["TA 5000 kg", "TAC"], bridge.played.done)
 
     async def test_what_is_no_tare_of_a_single_never_goes_out(self):
         for body in (b"kind=single&tare=0", b"kind=single&tare=-5", b"kind=single&tare=5&tare=6", b"kind=first&tare=5", b"kind=single&tare=12345678"):

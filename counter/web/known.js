@@ -8,10 +8,13 @@ export const MIN_INTERVALS = 20;     // below so many intervals the bridge is em
 const RESULT_BEFORE_FAULTS = 5000;   // milliseconds that a result is shown before a fault is
 
 export const feed = new Feed();
-export const known = { hello: { interval: 20, zone: 'UTC', tare_days: 90 }, state: null, onSite: [], today: [], tares: {} };
+export const known = { hello: { interval: 20, zone: 'UTC', tare_days: 90 }, state: null, onSite: [], today: [], tares: {}, papers: { printers: [], jobs: [], refused: null } };
 export const clerk = { oneTare: null, isFirstInstead: false, waiting: null, result: null, told: null, newest: null };
 
+export const GIVEN = ['goods', 'order', 'driver'];     // free lines for the paper, which the office doesn't get
+
 export const plate = () => part('plate').value;
+export const givenOf = name => part(name).value.trim();
 
 export function linkNow() {
   if (feed.isGone() || known.state === null) return 'off';
@@ -27,7 +30,7 @@ function newestWeighing() {
 export function nowKnown() {
   const link = linkNow();
   return {
-    link, weight: link === 'up' ? feed.weight : null, state: known.state, plate: plate(), onSite: known.onSite, tares: known.tares,
+    link, weight: link === 'up' ? feed.weight : null, state: known.state, papers: known.papers, given: GIVEN.map(givenOf).filter(Boolean).join(', '), plate: plate(), onSite: known.onSite, tares: known.tares,
     min: MIN_INTERVALS * known.hello.interval, oneTare: clerk.oneTare, isFirstInstead: clerk.isFirstInstead,
     waiting: clerk.waiting, result: clerk.result, told: clerk.told, newest: newestWeighing(),
     isResultNew: clerk.result !== null && performance.now() - clerk.result.madeAt < RESULT_BEFORE_FAULTS,

@@ -36,7 +36,7 @@ export function showLists() {
 
 function open(entry) {
   const isOpenFirst = entry.kind === 'first' && known.onSite.some(it => it.number === entry.number);
-  openEntry(entry, known.hello, isOpenFirst, acts.withdraw);
+  openEntry(entry, known.papers.printers, acts.print_number, isOpenFirst, acts.withdraw);
 }
 
 export async function search() {

@@ -2,11 +2,11 @@
 
 import { OLDEST_WEIGHT } from './feed.js';
 import { choiceOf, plateOf } from './guide.js';
-import { clerk, feed, known, linkNow, nowKnown, plate } from './known.js';
+import { clerk, feed, GIVEN, givenOf, known, linkNow, nowKnown, plate } from './known.js';
 import { search, showLists } from './lists.js';
-import { keepTare, print, printAgain } from './papers.js';
+import { keepTare, print, showJobs } from './papers.js';
 import { make, part } from './parts.js';
-import { askJson } from './request.js';
+import { ask, askJson } from './request.js';
 import { acts, show } from './show.js';
 import { begin, resume, tell } from './weighing.js';
 import { clockOf, kg, language, number, speak, t, useZone, wantedLanguage } from './words.js';
@@ -20,6 +20,7 @@ feed.hear = (name, what) => {
   if (name === 'state') known.state = what;
   if (name === 'lists') Object.assign(known, { onSite: what.on_site, today: what.today, tares: what.tares });
   if (name === 'tares') known.tares = what;
+  if (name === 'papers') takePapers(what);
   if (name === 'entry') takeEntry(what);
   if (name === 'lists' || name === 'entry') showLists();
   show();
@@ -63,17 +64,32 @@ async function clearTare() {
   focusPlate();
 }
 
-function printResult() {
-  if (clerk.result?.text) print(clerk.result.number, clerk.result.text, known.hello, true);
+async function printNumber(number, byBrowser = false) {
+  const isAtPrinter = await print(number, known.papers.printers, byBrowser);
+  if (isAtPrinter === null) tell('bad', 'not_printed');
+  if (isAtPrinter) tell('ok', 'paper_sent');
   focusPlate();
 }
 
+const printResult = () => printNumber(clerk.result.number);
+
 async function printLast() {
-  if (clerk.result?.text) { printResult(); return; }
-  const last = known.today[0];
-  if (!last) tell('wait', 'nothing_today');
-  else if (!await printAgain(last.number, known.hello)) tell('bad', 'office_silent');
+  const last = clerk.result?.number ?? known.today[0]?.number;
+  if (last === undefined) tell('wait', 'nothing_today');
+  else await printNumber(last);
   focusPlate();
+}
+
+function takePapers(papers) {
+  known.papers = papers;
+  if (part('printing').open) showPapers();
+}
+
+const showPapers = () => showJobs(known.papers, (method, target) => ask(method, target, method === 'POST' ? '' : undefined));
+
+function openPapers() {
+  showPapers();
+  part('printing').showModal();
 }
 
 async function keepTareOf({ plate: of, kg: value }) {
@@ -110,8 +126,18 @@ const isTouched = () => matchMedia('(pointer: coarse)').matches;
 const isAsking = () => document.querySelector('dialog[open]') !== null;
 const focusPlate = () => { if (!isAsking() && !isTouched()) part('plate').focus(); };
 
+// Free lines for the paper of this vehicle.
+function askGiven() {
+  part('giving').showModal();
+}
+
+function clearGiven() {
+  for (const it of GIVEN) part(it).value = '';
+}
+
 function clearPlate() {
   part('plate').value = '';
+  clearGiven();
   clerk.oneTare = null;
   clerk.isFirstInstead = false;
   show();
@@ -134,11 +160,12 @@ function typed() {
   clerk.oneTare = null;
   clerk.isFirstInstead = false;
   if (text) clerk.result = clerk.told = null;
+  else clearGiven();
   show();
 }
 
 Object.assign(acts, {
-  set_zero: setZero, clear_tare: clearTare, print: printResult, keep_tare: keepTareOf, tare_from_papers: askTare, first_instead: weighFirstInstead,
+  set_zero: setZero, clear_tare: clearTare, print: printResult, print_number: printNumber, show_papers: openPapers, keep_tare: keepTareOf, tare_from_papers: askTare, given_lines: askGiven, first_instead: weighFirstInstead,
   withdraw: of => begin('/voids', { plate: of }), take, clear: clearPlate, focus: focusPlate,
 });
 
@@ -147,7 +174,8 @@ function press(event) {
   show();
   if (part('go').disabled) return;
   const choice = choiceOf(nowKnown());
-  begin('/weighings', { kind: choice.kind, plate: plate(), ...(choice.tare ? { tare: String(choice.tare) } : {}) });
+  const given = Object.fromEntries(GIVEN.map(it => [it, givenOf(it)]).filter(([, value]) => value));
+  begin('/weighings', { kind: choice.kind, plate: plate(), ...(choice.tare ? { tare: String(choice.tare) } : {}), ...given });
 }
 
 const KEYS = { F9: 'zero', F8: 'last', F4: 'find' };

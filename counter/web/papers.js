@@ -1,22 +1,20 @@
-// The texts of entries: a slip or ticket again, and on paper by the browser. On paper the text stands letter for letter.
+// The texts of entries: a slip or ticket again, and its paper, by a printer of the counter or by the browser. On paper the text stands letter for letter.
 
-import { button, part } from './parts.js';
+import { fillPaper } from './paper.js';
+import { button, make, part } from './parts.js';
 import { ask, askJson } from './request.js';
 import { dayOf, has, kg, t, timeOf } from './words.js';
 
-const shownByMe = new Set();         // numbers whose first paper this page made
-
 export const paperOf = entry => t(entry.kind === 'second' || entry.kind === 'single' ? 'ticket' : 'slip');
 
-// The paper of a text: the first one of a weighing that this page made is no duplicate.
-export function print(number, text, company, isMine) {
-  const isFirst = isMine && !shownByMe.has(number);
-  shownByMe.add(number);
-  part('paper-company').textContent = company.company ?? '';
-  part('paper-address').textContent = (company.address ?? []).join(' · ');
-  part('paper-copy').textContent = isFirst ? '' : t('duplicate');
-  part('paper-text').textContent = text;
+// By a printer that the counter has; without one the browser prints. Whether it is the original is the counter's to say. True: a printer has it; false: the browser.
+export async function print(number, printers, byBrowser = false) {
+  if (printers.length && !byBrowser) return (await askJson('POST', `/papers/${number}`, ''))?.status === 202 ? true : null;
+  const paper = await askJson('POST', `/papers/${number}/browser`, '');
+  if (!paper?.blocks) return null;
+  fillPaper(part('paper'), paper.blocks);
   window.print();
+  return false;
 }
 
 export async function textAgain(number) {
@@ -26,14 +24,8 @@ export async function textAgain(number) {
   return { why: t(refusal && has(`refused_${refusal}`) ? `refused_${refusal}` : 'office_silent') };
 }
 
-export async function printAgain(number, company) {
-  const { text } = await textAgain(number);
-  if (text !== undefined) print(number, text, company, false);
-  return text !== undefined;
-}
-
-// Opens the text of an entry. `canVoid` says whether it is an open first weighing, `withdraw` begins its void.
-export async function openEntry(entry, company, canVoid, withdraw) {
+// Opens the text of an entry. `press` prints its paper, `canVoid` says whether it is an open first weighing, `withdraw` begins its void.
+export async function openEntry(entry, printers, press, canVoid, withdraw) {
   const { text, from, why } = await textAgain(entry.number);
   part('entry-title').textContent = `${paperOf(entry)} ${entry.number} · ${entry.plate}`;
   const net = entry.net === null ? '' : ` · ${t('net_of', { kg: kg(entry.net) })}`;
@@ -41,7 +33,8 @@ export async function openEntry(entry, company, canVoid, withdraw) {
   part('entry-text').textContent = text ?? why;
   part('entry-from').textContent = text === undefined ? '' : `${t(`from_${from}`)} ${t('in_utc')}`;
   const tools = [];
-  if (text !== undefined) tools.push(button(t('print_duplicate'), () => print(entry.number, text, company, false), { autofocus: true }));
+  if (text !== undefined) tools.push(button(t('print_again'), () => press(entry.number), { autofocus: true }));
+  if (text !== undefined && printers.length) tools.push(button(t('print_by_browser'), () => press(entry.number, true)));
   if (canVoid) tools.push(voidButton(entry, withdraw));
   tools.push(button(t('close'), () => part('entry').close()));
   part('entry-tools').replaceChildren(...tools);
@@ -63,3 +56,12 @@ function voidButton(entry, withdraw) {
 }
 
 export const keepTare = (plate, value) => ask('PUT', `/tares/${plate}`, JSON.stringify({ kg: value }));
+
+// What waits for a printer and what failed, each with its reason.
+export function showJobs(papers, again) {
+  part('jobs').replaceChildren(...papers.jobs.map(it => make('li', {}, make('b', { textContent: `${paperOf(it)} ${it.number} · ${it.plate}` }),
+    make('p', { textContent: `${it.printer}: ${t(`job_${it.state}`)}${it.why ? ` ${t(`trouble_${it.why}`)}` : ''}` }),
+    make('div', { className: 'row' }, ...(it.state === 'failed' ? [button(t('print_again'), () => again('POST', `/jobs/${it.job}/again`))] : []),
+      ...(it.state === 'begun' ? [] : [button(t('drop'), () => again('DELETE', `/jobs/${it.job}`))])))));
+  if (!papers.jobs.length) part('jobs').replaceChildren(make('li', { className: 'none', textContent: t('nothing_waits') }));
+}

@@ -60,7 +60,7 @@ function inWords(values) {
 function formOf(now, told) {
   const choice = choiceOf(now), isReady = Boolean(told.isReady) && !clerk.waiting, net = netOf(choice, grossOf(now.weight));
   const kept = now.tares[now.plate], like = now.plate ? alike(now.plate, now.onSite).map(it => it.plate) : [];
-  return { plate: now.plate, choice, isReady, isUnlikely: Boolean(told.isUnlikely), net: isReady && net > 0 ? net : null, kept, like, tareOf: clerk.result?.tare, language };
+  return { plate: now.plate, choice, isReady, isUnlikely: Boolean(told.isUnlikely), net: isReady && net > 0 ? net : null, kept, like, tareOf: clerk.result?.tare, given: now.given, language };
 }
 
 const showForm = onlyChanged(form => {
@@ -80,22 +80,35 @@ function hintsOf({ plate, choice, kept, like }) {
   return plate ? [make('span', { textContent: t('not_on_site') })] : [];
 }
 
-function othersOf({ plate, choice, tareOf }) {
+function othersOf({ plate, choice, tareOf, given }) {
   const others = [];
   if (choice.kind === 'single') others.push(button(t('first_instead'), acts.first_instead));
   if (!choice.first && isPlate(plate)) others.push(button(t('tare_from_papers'), acts.tare_from_papers));
+  if (isPlate(plate)) others.push(button(given ? `${t('given_lines')}: ${given}` : t('give_lines'), acts.given_lines));
   if (!plate && tareOf) others.push(button(t('keep_tare_of', { kg: kg(tareOf.kg), plate: tareOf.plate }), () => acts.keep_tare(tareOf)));
   return others;
 }
 
-function alarmsOf({ link, state }) {
+function alarmsOf({ link, state, papers }) {
   if (state === null || link === 'off') return [];
   const alarms = [];
   if (!state.zero.known && link === 'up') alarms.push({ look: 'wait', text: t(state.zero.at ? 'zero_lost' : 'zero_unknown', { time: state.zero.at ? whenOf(state.zero.at) : '' }), choice: 'set_zero' });
   if (state.tare_left) alarms.push({ look: 'bad', text: t('tare_left') });
   if (state.office === 'store') alarms.push({ look: 'bad', text: t('store_closed') });
   if (state.office === 'no_answer' && link === 'up') alarms.push({ look: 'bad', text: t('office_silent') });
+  if (papers.is_writable === false) alarms.push({ look: 'bad', text: t('papers_unwritable') });
+  if (papers.refused !== null) alarms.push({ look: 'bad', text: t('paper_refused', { number: papers.refused }) });
+  for (const it of papersInTrouble(papers)) alarms.push(it);
   return alarms;
+}
+
+// One bar for each printer at which papers wait with a reason, or failed.
+function papersInTrouble({ jobs }) {
+  const printers = [...new Set(jobs.filter(it => it.why || it.state === 'failed').map(it => it.printer))];
+  return printers.map(printer => {
+    const them = jobs.filter(it => it.printer === printer), why = them.find(it => it.why)?.why;
+    return { look: 'bad', text: t('papers_wait', { printer, number: number(them.length), why: why ? t(`trouble_${why}`) : '' }), choice: 'show_papers' };
+  });
 }
 
 const showAlarms = onlyChanged(alarms => {

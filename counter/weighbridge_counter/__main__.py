@@ -8,10 +8,12 @@ from pathlib import Path
 
 from aiohttp import web
 
+from weighbridge_paper.reader import SetupFault
+
 from .counter import Counter
 from .ports import open_port
 from .routes import Routes
-from .setup import Setup, SetupFault, read_setup
+from .setup import Setup, read_setup
 
 FOLDER = Path(__file__).resolve().parent.parent
 END_OF_ACT_WITHIN = 3.0  # seconds
@@ -48,6 +50,7 @@ async def serve(setup: Setup) -> None:
     await asyncio.wait([running, stopping], return_when=asyncio.FIRST_COMPLETED)
     if counter.acts.tasks:
         await asyncio.wait(counter.acts.tasks, timeout=END_OF_ACT_WITHIN)
+    await asyncio.get_running_loop().run_in_executor(None, counter.printing.end)
     if running.done():
         running.result()
 

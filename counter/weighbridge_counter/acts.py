@@ -6,9 +6,12 @@ Nothing that is stored comes from here: the office judges, and its texts pass by
 import asyncio
 import re
 import sys
+import urllib.parse
 from collections import Counter
-from collections.abc import Awaitable, Callable
+from collections.abc import Awaitable, Callable, Mapping
 from dataclasses import dataclass
+
+from weighbridge_paper.words import FREE_LINES
 
 from .fanout import Turn
 from .files import Files
@@ -22,6 +25,7 @@ CLEAR_TRIES = 3
 TRY_AGAIN_AFTER = 0.3  # seconds
 LOOK_WITHIN = 5.0  # seconds
 TARE = re.compile(r"[1-9]\d{0,6}")
+NOT_FOR_THE_OFFICE = tuple(f"{it}=".encode() for it in FREE_LINES)  # they stand on paper alone
 
 
 @dataclass(frozen=True)
@@ -47,8 +51,8 @@ class Acts:
         self.tasks: set[asyncio.Task[None]] = set()
         self.pause: Callable[[float], Awaitable[None]] = asyncio.sleep
         self.may_be_left = files.has(ACT_FILE)  # a tare of an act that didn't come to its end
-        # Whoever has something to do with each text that the office answered with 201, as it passed: the lists, and whoever prints.
-        self.on_text: list[Callable[[str], None]] = []
+        # Whoever has something to do with each text that the office answered with 201, as it passed, and the request's fields: the lists, and whoever prints.
+        self.on_text: list[Callable[[str, Mapping[str, str]], None]] = []
         self.on_answer: Callable[[int, str], None] = lambda status, text: None
 
     def is_busy(self) -> bool:
@@ -69,14 +73,18 @@ class Acts:
         return await asyncio.shield(told)
 
     async def _act(self, target: str, body: bytes, told: "asyncio.Future[Told]") -> None:
-        parts = body.split(b"&")
-        tares = [it[5:].decode("latin-1") for it in parts if it.startswith(b"tare=")]
         try:
+            asked = dict(urllib.parse.parse_qsl(body.decode("latin-1")))
+            parts = body.split(b"&")
+            if any(it.startswith(NOT_FOR_THE_OFFICE) for it in parts):
+                parts = [it for it in parts if not it.startswith(NOT_FOR_THE_OFFICE)]
+                body = b"&".join(parts)
+            tares = [it[5:].decode("latin-1") for it in parts if it.startswith(b"tare=")]
             if not tares:
-                told.set_result(await self._pass_on(target, body))
+                told.set_result(await self._pass_on(target, body, asked))
             elif len(tares) == 1 and TARE.fullmatch(tares[0]) and b"kind=single" in parts:
                 rest = b"&".join(it for it in parts if not it.startswith(b"tare="))
-                await self._weigh_with_tare(target, rest, tares[0], told)
+                await self._weigh_with_tare(target, rest, tares[0], asked, told)
             else:
                 told.set_result(not_sent(422, "bad_tare"))
         except NotSent:
@@ -90,7 +98,7 @@ class Acts:
                 told.set_result(NO_ANSWER)
             self.one_at_a_time.release()
 
-    async def _pass_on(self, target: str, body: bytes) -> Told:
+    async def _pass_on(self, target: str, body: bytes, asked: Mapping[str, str]) -> Told:
         try:
             answer = await self.office.ask("POST", target, body)
         except NoAnswer:
@@ -102,12 +110,12 @@ class Acts:
         self.on_answer(answer.status, answer.text)
         if answer.status == 201:
             for take in self.on_text:
-                take(answer.text)
+                take(answer.text, asked)
         return Told(answer.status, answer.body)
 
     # ---- a tare that belongs to one weighing
 
-    async def _weigh_with_tare(self, target: str, body: bytes, tare: str, told: "asyncio.Future[Told]") -> None:
+    async def _weigh_with_tare(self, target: str, body: bytes, tare: str, asked: Mapping[str, str], told: "asyncio.Future[Told]") -> None:
         """`TA`, the weighing, `TAC`. The file tells a next start that a tare may be left; who asked is told before it is cleared."""
         async with self.terminal.turn(BEGIN_WITHIN, may_settle=True) as turn:
             try:
@@ -119,7 +127,7 @@ class Acts:
                 told.set_result(refusal)
                 return
             try:
-                told.set_result(await self._pass_on(target, body))
+                told.set_result(await self._pass_on(target, body, asked))
             finally:
                 await self._clear_tare(turn)
 

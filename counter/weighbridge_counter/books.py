@@ -4,7 +4,7 @@ import asyncio
 import time
 import zoneinfo
 from collections import Counter
-from collections.abc import Callable
+from collections.abc import Callable, Mapping
 
 from .lists import Lists
 from .office import NoAnswer, Office
@@ -35,7 +35,7 @@ class Books:
 
     # ---- what passes
 
-    def passed(self, text: str) -> None:
+    def passed(self, text: str, asked: Mapping[str, str]) -> None:
         try:
             entry, is_new = self.lists.passed(text)
         except NoText:

@@ -11,6 +11,7 @@ from .books import Books
 from .files import Files
 from .office import NoAnswer, Office
 from .pages import FASTEST, SLOWEST, Pages
+from .papers import Printing, papers_of
 from .service import Service, find_service, program_of
 from .setup import Setup
 from .slips import Entry
@@ -35,6 +36,7 @@ class Counter:
         self.files = Files(setup.state)
         self.acts = Acts(self.terminal, self.office, self.files, setup.interval, self.counts)
         self.books = Books(self.office, setup.zone, self.counts)
+        self.printing = Printing(papers_of(setup), lambda number: self.books.lists.digest_of(number))
         self.pages = Pages()
         self.tares = Tares(self.files, lambda: self.now().date(), setup.tare_days, setup.max)
         self.zero = Zero(self.files, self.now)
@@ -44,6 +46,7 @@ class Counter:
         self.program: dict[str, str | bool] = {}
         self.bridge = "unknown"  # empty: it was since the last weighing; weighed: a weighing since; restarted: not empty since the service's start
         self.told_state: dict[str, Any] = {}
+        self.told_papers: dict[str, Any] = {}
         self.told_weight: tuple[object, ...] = ()
         self.told_weight_at = 0.0
         self.tasks: set[asyncio.Task[None]] = set()
@@ -54,14 +57,15 @@ class Counter:
         self.terminal.on_change = self.tell_state
         self.terminal.listeners.add(self._take_value)
         self.terminal.fanout.on_zero = lambda: self.zero.was_set("")
-        self.acts.on_text.append(self.books.passed)
+        self.acts.on_text += [self.printing.passed, self.books.passed]
+        self.printing.on_change = self._tell_papers
         self.acts.on_answer = self.books.answered
         self.books.on_lists = lambda: self.pages.tell("lists", self.lists())
         self.books.on_entry = self._take_entry
         self.books.is_empty = self._is_empty
 
     async def run(self) -> None:
-        await asyncio.gather(self.terminal.run(), self.books.run(), self._tell_regularly(), self._look_for_another())
+        await asyncio.gather(self.terminal.run(), self.books.run(), self._tell_regularly(), self._look_for_another(), self.printing.run())
 
     def now(self) -> datetime.datetime:
         return datetime.datetime.now(self.setup.zone)
@@ -184,6 +188,12 @@ class Counter:
         if state != self.told_state:
             self.told_state = state
             self.pages.tell("state", state)
+
+    def _tell_papers(self) -> None:
+        papers = self.printing.state()
+        if papers != self.told_papers:
+            self.told_papers = papers
+            self.pages.tell("papers", papers)
 
     def tell_tares(self) -> None:
         self.pages.tell("tares", self.tares.shown())

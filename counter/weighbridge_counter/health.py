@@ -27,6 +27,7 @@ def faults_of(counter: Counter) -> list[str]:
         "zero": not state["zero"]["known"],
         "tare_left": state["tare_left"],
         "lists": not state["lists_whole"],
+        "papers": counter.printing.faults(),
         "program_changed": counter.program.get("changed_since") is True,
     }
     return [name for name, is_so in found.items() if is_so]
@@ -65,6 +66,7 @@ def metrics_of(counter: Counter) -> str:
         "newest_entry": ("Number of the newest entry.", books.lists.last),
         "on_site": ("Vehicles that were weighed in, and not out.", len(books.lists.open)),
         "export_seconds": ("Time that the last export and its reading took.", books.export_seconds),
+        "papers_waiting": ("Papers that wait for a printer, or failed.", len(counter.printing.jobs)),
         "pages": ("Event streams that are open.", len(counter.pages.open)),
         "service_start_seconds": ("Start of the service, in seconds since 1970.", counter.service.started_at() if counter.service else None),
     }

@@ -76,6 +76,12 @@ class Lists:
             if first is not None:
                 self.partner[entry.number] = first
 
+    def digest_of(self, number: int) -> str | None:
+        """The digest of an entry, as it passed or as the export has it."""
+        if number in self.texts:
+            return self.texts[number].rpartition("DIGEST ")[2][:64]
+        return self.rows[number].split(",")[10] if number in self.rows else None
+
     # ---- what is shown
 
     def slip_again(self, number: int) -> tuple[str | None, str] | None:

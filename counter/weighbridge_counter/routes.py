@@ -3,11 +3,14 @@
 import asyncio
 import json
 import socket
+import urllib.parse
 from collections.abc import Awaitable, Callable
 from pathlib import Path
 from typing import Any
 
 from aiohttp import web
+
+from weighbridge_paper.text import NoText
 
 from .counter import Counter
 from .health import health_of, metrics_of
@@ -71,6 +74,11 @@ class Routes:
                 web.get("/indication", self.hand_on),
                 web.get("/tickets/{number}", self.hand_on),
                 web.get("/entries/" + own, self.entry),
+                web.get("/papers", self.papers),
+                web.post(r"/papers/{number:[1-9]\d{0,9}}", self.print_paper),
+                web.post(r"/papers/{number:[1-9]\d{0,9}}/browser", self.paper_for_browser),
+                web.post(r"/jobs/{job:[1-9]\d{0,9}}/again", self.print_again),
+                web.delete(r"/jobs/{job:[1-9]\d{0,9}}", self.drop_job),
                 web.get("/search", self.search),
                 web.get("/keys/{key:[A-Za-z0-9-]{1,32}}", self.key),
                 web.put("/tares/{plate}", self.keep_tare),
@@ -98,6 +106,10 @@ class Routes:
             return as_text(b"counter late\n", 503, **{"X-Counter": "not_sent"})
         try:
             return await handler(request)
+        except OSError:
+            if not request.path.startswith(("/papers", "/jobs")):
+                raise
+            return as_json({"why": "no_file"}, 503)
         except web.HTTPException as fault:
             name = {404: "no_route", 405: "wrong_method", 413: "too_large"}.get(fault.status, "malformed")
             return as_text(f"fault {fault.status} {name}\n".encode(), fault.status)
@@ -128,7 +140,12 @@ class Routes:
         transport.get_extra_info("socket").setsockopt(socket.SOL_SOCKET, socket.SO_SNDBUF, SMALL_BUFFER)
         page = Page()
         page.put(b"retry: 500\n\n")
-        for name, what in (("hello", self.counter.hello()), ("state", self.counter.state()), ("lists", self.counter.lists())):
+        for name, what in (
+            ("hello", self.counter.hello()),
+            ("state", self.counter.state()),
+            ("lists", self.counter.lists()),
+            ("papers", self.counter.printing.state()),
+        ):
             page.put(frame_of(name, what))
         self.counter.pages.open.add(page)
         try:
@@ -183,21 +200,61 @@ class Routes:
     # ---- entries
 
     async def entry(self, request: web.Request) -> web.StreamResponse:
-        """The text of an entry: of a ticket as the office gives it now, of a slip as it passed or as its row's digest proves it."""
-        number = int(request.match_info["number"])
+        return as_json(*await self.text_of(int(request.match_info["number"])))
+
+    async def text_of(self, number: int) -> tuple[dict[str, str], int]:
+        """The text of an entry: of a ticket as the office gives it now, of a slip as it passed or as its row's digest proves it. Without one, why, and a status."""
         known = self.counter.books.lists.entries.get(number)
         if known is None or known.kind in ("second", "single"):
             try:
                 answer = await self.counter.office.ask("GET", f"/tickets/{number}")
             except NoAnswer:
-                return as_json({"why": "no_answer"}, 502)
+                return {"why": "no_answer"}, 502
             if answer.status == 200:
-                return as_json({"text": answer.text, "from": "office"})
-            return as_json({"why": answer.text.strip()}, answer.status)
+                return {"text": answer.text, "from": "office"}, 200
+            return {"why": answer.text.strip()}, answer.status
         found = self.counter.books.lists.slip_again(number)
         if found is None or found[0] is None:
+            return {"why": "refused 17 damaged"}, 409
+        return {"text": found[0], "from": found[1]}, 200
+
+    # ---- papers
+
+    async def papers(self, request: web.Request) -> web.StreamResponse:
+        return as_json(self.counter.printing.state())
+
+    async def print_paper(self, request: web.Request) -> web.StreamResponse:
+        """Puts a paper of an entry to a printer: the one that the form names, else the one that prints by itself, else the first."""
+        form = dict(urllib.parse.parse_qsl((await request.read()).decode("latin-1")))
+        papers = self.counter.printing.papers
+        names = [form.get("printer"), papers.by_itself, *(it.name for it in papers.printers)]
+        printer = next((it for it in names if it), "")
+        if papers.printer(printer) is None:
+            return as_json({"why": "no_printer"}, 422)
+        found, status = await self.text_to_print(int(request.match_info["number"]))
+        try:
+            return as_json({"job": await self.counter.printing.print(found["text"], printer)}, 202) if status == 200 else as_json(found, status)
+        except NoText:
             return as_json({"why": "refused 17 damaged"}, 409)
-        return as_json({"text": found[0], "from": found[1]})
+
+    async def text_to_print(self, number: int) -> tuple[dict[str, str], int]:
+        """As it passed, if it did: so a paper needs no office."""
+        passed = self.counter.books.lists.texts.get(number)
+        return ({"text": passed}, 200) if passed is not None else await self.text_of(number)
+
+    async def paper_for_browser(self, request: web.Request) -> web.StreamResponse:
+        """What the page prints itself, noted as printed."""
+        found, status = await self.text_to_print(int(request.match_info["number"]))
+        try:
+            return as_json(await self.counter.printing.for_browser(found["text"])) if status == 200 else as_json(found, status)
+        except NoText:
+            return as_json({"why": "refused 17 damaged"}, 409)
+
+    async def print_again(self, request: web.Request) -> web.StreamResponse:
+        return as_json({}, 200 if await self.counter.printing.again(int(request.match_info["job"])) else 404)
+
+    async def drop_job(self, request: web.Request) -> web.StreamResponse:
+        return as_json({}, 200 if await self.counter.printing.drop(int(request.match_info["job"])) else 404)
 
     async def search(self, request: web.Request) -> web.StreamResponse:
         return as_json({"hits": self.counter.books.lists.search(request.query.get("q", "")[:40]), "whole": self.counter.books.is_whole()})

@@ -2,18 +2,14 @@
 
 import json
 import re
-import tomllib
 import zoneinfo
 from dataclasses import dataclass, field
 from pathlib import Path
-from typing import Any
+
+from weighbridge_paper.printers import Papers, read_papers
+from weighbridge_paper.reader import Address, Reader, SetupFault, table_of, tables_in, zone_of
 
 INTERVALS = (1, 2, 5, 10, 20, 50)
-Address = tuple[str, int]
-
-
-class SetupFault(Exception):
-    """Something in the setup that can't be used."""
 
 
 @dataclass(frozen=True)
@@ -40,63 +36,7 @@ class Setup:
     hosts: tuple[str, ...] = ()
     languages: dict[str, str] = field(default_factory=dict)  # the name of each, in itself
     ports: tuple[Port, ...] = field(default=())
-
-
-class Reader:
-    """Takes keys out of a table, each once, and names what is wrong with them."""
-
-    def __init__(self, table: dict[str, Any], place: str) -> None:
-        self.table, self.place = dict(table), place
-
-    def fault(self, key: str, what_to_do: str) -> SetupFault:
-        return SetupFault(f"{self.place}: {key}: {what_to_do}")
-
-    def _take(self, key: str, of: type, default: Any, what: str) -> Any:
-        if key not in self.table:
-            if default is None:
-                raise self.fault(key, f"it is missing: {what}")
-            return default
-        value = self.table.pop(key)
-        if not isinstance(value, of) or isinstance(value, bool):
-            raise self.fault(key, what)
-        return value
-
-    def text(self, key: str, default: str | None, what: str) -> str:
-        found: str = self._take(key, str, default, what)
-        if not found:
-            raise self.fault(key, what)
-        return found
-
-    def texts(self, key: str, what: str) -> tuple[str, ...]:
-        found: list[str] = self._take(key, list, [], what)
-        if not all(isinstance(it, str) and it for it in found):
-            raise self.fault(key, what)
-        return tuple(found)
-
-    def number(self, key: str, default: int, least: int, most: int) -> int:
-        what = f"write a whole number from {least} to {most}"
-        found: int = self._take(key, int, default, what)
-        if not least <= found <= most:
-            raise self.fault(key, what)
-        return found
-
-    def address(self, key: str, default: str | None) -> Address:
-        what = f'write an address of this machine and a port, as "{default or "127.0.0.1:4101"}"'
-        found = re.fullmatch(r"(127(?:\.\d{1,3}){3}):(\d{1,5})", self.text(key, default, what))
-        if found is None or any(int(it) > 255 for it in found[1].split(".")) or not 0 < int(found[2]) < 65536:
-            raise self.fault(key, what)
-        return found[1], int(found[2])
-
-    def choice(self, key: str, default: str | None, allowed: tuple[str, ...]) -> str:
-        what = "write " + " or ".join(f'"{it}"' for it in allowed)
-        found = self.text(key, default, what)
-        if found not in allowed:
-            raise self.fault(key, what)
-        return found
-
-    def end(self) -> None:
-        for key in self.table:
-            raise self.fault(key, "there is no such key: look at its spelling, or take it out")
+    papers: Papers | None = None  # the printers; without them the browser prints
 
 
 def languages(web: Path) -> dict[str, str]:
@@ -112,15 +52,8 @@ def languages(web: Path) -> dict[str, str]:
 
 def read_setup(path: Path, web: Path) -> Setup:
     """The setup of a file. Raises SetupFault."""
-    try:
-        table = tomllib.loads(path.read_text(encoding="utf-8"))
-    except (OSError, UnicodeDecodeError) as fault:
-        raise SetupFault(f"{path}: it can't be read: {fault}") from None
-    except tomllib.TOMLDecodeError as fault:
-        raise SetupFault(f"{path}: it is no TOML: {fault}") from None
-    ports = table.pop("port", [])
-    if not isinstance(ports, list) or not all(isinstance(it, dict) for it in ports):
-        raise SetupFault(f"{path}: port: write each port as a table of its own, below a line [[port]]")
+    table = table_of(path)
+    ports = tables_in(table, "port", path)
     reader, known = Reader(table, str(path)), languages(web)
     setup = Setup(
         state=Path(reader.text("state", None, "write the folder in which the counter keeps its files")),
@@ -137,7 +70,8 @@ def read_setup(path: Path, web: Path) -> Setup:
         wait=reader.number("wait", 20, 1, 600),
         tare_days=reader.number("tare_days", 90, 1, 3660),
         hosts=reader.texts("hosts", 'write the names that browsers ask for, as ["weighbridge.example"]'),
-        ports=tuple(port_of(Reader(it, f"{path}: port {at}")) for at, it in enumerate(ports, 1)),
+        ports=tuple(port_of(it) for it in ports),
+        papers=papers_of(reader),
     )
     if setup.interval not in INTERVALS:
         raise reader.fault("interval", "write 1, 2, 5, 10, 20 or 50, as after --interval of the service")
@@ -146,12 +80,11 @@ def read_setup(path: Path, web: Path) -> Setup:
     return setup
 
 
-def zone_of(reader: Reader) -> zoneinfo.ZoneInfo:
-    what = 'write a time zone, as "Europe/Berlin"; the package tzdata has them'
-    try:
-        return zoneinfo.ZoneInfo(reader.text("zone", "UTC", what))
-    except (zoneinfo.ZoneInfoNotFoundError, ValueError, OSError):
-        raise reader.fault("zone", what) from None
+def papers_of(reader: Reader) -> Papers | None:
+    """The printers, if a file of them is named."""
+    if "papers" not in reader.table:
+        return None
+    return read_papers(Path(reader.text("papers", None, "write the file of the printers, as /etc/weighbridge-paper.toml, or take the key out")))
 
 
 def port_of(reader: Reader) -> Port:

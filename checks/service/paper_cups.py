@@ -1,0 +1,127 @@
+"""A CUPS of its own for checks/paper: a scheduler in a folder, on a port of this machine, with a queue that prints to a file."""
+
+import os
+import shutil
+import subprocess
+import tempfile
+import time
+
+from bridge import HOST, free_port
+
+FILES = """ServerRoot {folder}
+CacheDir {folder}/cache
+StateDir {folder}/state
+RequestRoot {folder}/spool
+TempDir {folder}/spool/tmp
+DocumentRoot {folder}
+ErrorLog {folder}/error_log
+AccessLog {folder}/access_log
+PageLog {folder}/page_log
+FileDevice Yes
+Printcap {folder}/printcap
+SystemGroup root
+"""
+PPD = """*PPD-Adobe: "4.3"
+*FormatVersion: "4.3"
+*FileVersion: "1.0"
+*LanguageVersion: English
+*LanguageEncoding: ISOLatin1
+*PCFileName: "FILE.PPD"
+*Manufacturer: "Check"
+*Product: "(File)"
+*ModelName: "PDF to a file"
+*ShortNickName: "PDF to a file"
+*NickName: "PDF to a file"
+*PSVersion: "(3010.000) 0"
+*LanguageLevel: "3"
+*ColorDevice: False
+*DefaultColorSpace: Gray
+*cupsFilter: "application/vnd.cups-pdf 0 -"
+*OpenUI *PageSize/Media Size: PickOne
+*DefaultPageSize: A4
+*PageSize A4/A4: "<</PageSize[595 842]>>setpagedevice"
+*PageSize A5/A5: "<</PageSize[420 595]>>setpagedevice"
+*CloseUI: *PageSize
+*OpenUI *PageRegion: PickOne
+*DefaultPageRegion: A4
+*PageRegion A4/A4: "<</PageSize[595 842]>>setpagedevice"
+*PageRegion A5/A5: "<</PageSize[420 595]>>setpagedevice"
+*CloseUI: *PageRegion
+*DefaultImageableArea: A4
+*ImageableArea A4/A4: "0 0 595 842"
+*ImageableArea A5/A5: "0 0 420 595"
+*DefaultPaperDimension: A4
+*PaperDimension A4/A4: "595 842"
+*PaperDimension A5/A5: "420 595"
+*VariablePaperSize: True
+*LeadingEdge Short: ""
+*DefaultLeadingEdge: Short
+*MaxMediaWidth: "1000"
+*MaxMediaHeight: "5000"
+*HWMargins: 0 0 0 0
+*CustomPageSize True: "pop pop pop <</PageSize[5 -2 roll]>>setpagedevice"
+*ParamCustomPageSize Width: 1 points 36 1000
+*ParamCustomPageSize Height: 2 points 36 5000
+*ParamCustomPageSize WidthOffset: 3 points 0 0
+*ParamCustomPageSize HeightOffset: 4 points 0 0
+*ParamCustomPageSize Orientation: 5 int 0 3
+"""
+SETUP = """Listen {host}:{port}
+LogLevel info
+Browsing Off
+WebInterface No
+DefaultAuthType None
+JobRetryInterval 1
+<Location />
+  Order allow,deny
+  Allow localhost
+</Location>
+<Policy default>
+  JobPrivateAccess all
+  JobPrivateValues none
+  <Limit All>
+    Order deny,allow
+  </Limit>
+</Policy>
+"""
+
+
+class Cups:
+    def __init__(self):
+        self.folder, self.port = tempfile.mkdtemp(prefix="cups-"), free_port()
+        self.address, self.made = f"{HOST}:{self.port}", f"{self.folder}/made"
+        os.chmod(self.folder, 0o755)
+        for name in ("cache", "state", "spool", "spool/tmp", "ppd"):
+            os.makedirs(f"{self.folder}/{name}")
+        with open(f"{self.folder}/cups-files.conf", "w") as file:
+            file.write(FILES.format(folder=self.folder))
+        with open(f"{self.folder}/cupsd.conf", "w") as file:
+            file.write(SETUP.format(host=HOST, port=self.port))
+        self.scheduler = None
+        self.start()
+
+    def start(self):
+        words = ["cupsd", "-f", "-c", f"{self.folder}/cupsd.conf", "-s", f"{self.folder}/cups-files.conf"]
+        self.scheduler = subprocess.Popen(words, stdin=subprocess.DEVNULL, stdout=subprocess.DEVNULL, stderr=subprocess.DEVNULL)
+        for _ in range(100):
+            if self.tell("lpstat", "-r").startswith("scheduler is running"):
+                return
+            time.sleep(0.1)
+        raise SystemExit(f"paper: cupsd doesn't begin: see {self.folder}/error_log")
+
+    def tell(self, program, *words):
+        return subprocess.run([program, "-h", self.address, *words], capture_output=True, text=True, env={**os.environ, "LC_ALL": "C"}).stdout
+
+    def queue(self, name):
+        """A queue that puts what it gets, through the filters of the distribution, into a file."""
+        with open(f"{self.folder}/file.ppd", "w") as file:
+            file.write(PPD)
+        self.tell("lpadmin", "-p", name, "-E", "-v", f"file:{self.made}", "-P", f"{self.folder}/file.ppd")
+
+    def stop(self):
+        self.scheduler.terminate()
+        self.scheduler.wait()
+
+    def close(self):
+        self.stop()
+        shutil.rmtree(self.folder, ignore_errors=True)

@@ -1,0 +1,100 @@
+"""Papers in the counter: what passes is printed once, what isn't the office's is refused, and nothing of it holds up who asks."""
+
+import asyncio
+import tempfile
+import unittest
+import zoneinfo
+from pathlib import Path
+
+from weighbridge_counter.papers import Printing
+from weighbridge_paper.layout import Template
+from weighbridge_paper.printers import Papers, Printer
+
+from .papers import USUAL, Sample
+from .played_printer import PlayedPrinter
+
+TEMPLATE = Template(("Kieswerk",), (), "en", zoneinfo.ZoneInfo("UTC"))
+
+
+class InTheCounter(unittest.IsolatedAsyncioTestCase):
+    async def asyncSetUp(self):
+        folder = tempfile.TemporaryDirectory()
+        self.addCleanup(folder.cleanup)
+        self.played = PlayedPrinter()
+        self.addCleanup(self.played.gone)
+        printer = Printer("yard", "tcp", "127.0.0.1", str(self.played.port), "escpos80", TEMPLATE, 48, (("cp858", 19),), True)
+        self.printing = Printing(Papers(Path(folder.name), TEMPLATE, (printer,), "yard"), {1: USUAL["second"].digests[1]}.get)
+        self.running = asyncio.ensure_future(self.printing.run())
+
+    async def asyncTearDown(self):
+        self.running.cancel()
+        self.printing.end()
+        self.printing.notes.shutdown()
+
+    async def becomes(self, look):
+        for _ in range(250):
+            if look():
+                return
+            await asyncio.sleep(0.02)
+        raise AssertionError("it doesn't become so")
+
+    async def test_what_passes_is_printed_once(self):
+        for _ in range(3):
+            self.printing.passed(USUAL["second"].text, {"key": "K2", "goods": "Kies", "plate": "AB-12"})
+            await self.becomes(lambda: self.played.printed and not self.printing.jobs)
+            await asyncio.sleep(0.2)
+        self.assertEqual((1, 1, None), (len(self.played.printed), self.played.printed[0].count(b"Kies\n"), self.printing.state()["refused"]))
+
+    async def test_what_is_not_the_office_s_is_refused_and_told(self):
+        for changed in (USUAL["second"].text.replace("8140", "8120").replace("10200", "10220"), USUAL["second"].text.replace("AB-12", "ab-12")):
+            self.printing.refused = None
+            with self.assertLogsOnStandardError() as said:
+                self.printing.passed(changed, {"key": "K2"})
+                await self.becomes(lambda: self.printing.refused == 2)
+            self.assertIn("a text of the office isn't printed", said.getvalue())
+        self.assertTrue(self.printing.faults())
+        self.assertEqual(([], []), (self.played.printed, self.printing.spool.jobs("waits", "begun", "printed")))
+
+    async def test_without_its_key_a_text_is_printed_all_the_same(self):
+        self.printing.passed(Sample("single", number=7).text, {})
+        await self.becomes(lambda: self.played.printed)
+
+    async def test_a_trouble_is_a_fault_and_a_press_asks_for_nothing(self):
+        self.played.state = "cover_open"
+        self.printing.passed(USUAL["single"].text, {})
+        await self.becomes(lambda: [it["why"] for it in self.printing.jobs] == ["cover_open"])
+        self.assertTrue(self.printing.faults())
+        self.played.state = ""
+        await self.becomes(lambda: self.played.printed and not self.printing.jobs)
+        self.assertFalse(self.printing.faults())
+        await self.printing.print(USUAL["single"].text, "yard")
+        await self.becomes(lambda: len(self.played.printed) == 2)
+        self.assertEqual([0, 2], [it.count(b"DUPLICATE") for it in self.played.printed])
+        self.assertFalse((await self.printing.for_browser(USUAL["single"].text))["is_original"])
+
+    async def test_what_can_not_be_noted_is_told_and_ends_nothing(self):
+        await self.becomes(lambda: self.printing.threads)
+        path = self.printing.spool.folder / "papers.db"
+        whole = path.read_bytes()
+        with self.assertLogsOnStandardError() as said:
+            path.write_bytes(b"x" * 5000)
+            with self.assertRaises(OSError):
+                await self.printing.print(USUAL["second"].text, "yard")
+            self.printing.passed(USUAL["second"].text, {"key": "K2"})
+            await self.becomes(lambda: "papers.db: file is not a database: look at the disk" in said.getvalue())
+        self.assertEqual((False, True, []), (self.printing.state()["is_writable"], self.printing.faults(), self.played.printed))
+        self.assertFalse(self.running.done())
+        path.write_bytes(whole)
+        await self.printing.print(USUAL["second"].text, "yard")
+        await self.becomes(lambda: self.played.printed)
+        self.assertTrue(self.printing.state()["is_writable"])
+
+    def assertLogsOnStandardError(self):
+        import contextlib
+        import io
+
+        return contextlib.redirect_stderr(io.StringIO())
+
+
+if __name__ == "__main__":
+    unittest.main()

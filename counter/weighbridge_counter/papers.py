@@ -1,0 +1,196 @@
+"""Papers in the counter: each weighing prints by itself if a printer is set up, and each paper again at a press. It is noted and printed beside the event loop."""
+
+import asyncio
+import contextlib
+import sys
+import threading
+from collections.abc import Callable, Mapping
+from concurrent.futures import ThreadPoolExecutor
+from typing import Any, TypeVar
+
+from weighbridge_paper.layout import Paper, Template, blocks_of, given_of
+from weighbridge_paper.page import page_of
+from weighbridge_paper.printers import Papers
+from weighbridge_paper.printing import Worker
+from weighbridge_paper.spool import Job, Spool
+from weighbridge_paper.text import NoText, check_digests, read_text
+from weighbridge_paper.words import LANGUAGES
+
+from .setup import Setup
+
+TRY_EVERY = 1.0  # seconds
+END_WITHIN = 3.0  # seconds for a paper that is being printed at the end
+MOST_SHOWN = 100
+SHOWN = ("waits", "begun", "failed")
+T = TypeVar("T")
+
+
+def papers_of(setup: Setup) -> Papers:
+    """The printers of the setup; without them the browser prints, with the company's name above."""
+    if setup.papers is not None:
+        return setup.papers
+    language = setup.language if setup.language in LANGUAGES else "en"
+    return Papers(setup.state / "papers", Template((setup.company, *setup.address), (), language, setup.zone))
+
+
+class Printing:
+    def __init__(self, papers: Papers, digest_of: Callable[[int], str | None]) -> None:
+        self.papers, self.digest_of = papers, digest_of
+        self.spool = Spool(papers.spool)
+        self.notes = ThreadPoolExecutor(1, "papers")  # one after another, in the order in which they were asked for
+        self.something, self.is_over = [threading.Event() for _ in papers.printers], threading.Event()
+        self.threads: list[threading.Thread] = []
+        self.tasks: set[asyncio.Task[None]] = set()
+        self.refused: int | None = None  # the number of the last text that wasn't the office's
+        self.jobs: list[dict[str, Any]] = []
+        self.fault = ""  # why nothing can be noted
+        self.on_change: Callable[[], None] = lambda: None
+
+    # ---- what runs
+
+    async def run(self) -> None:
+        loop = asyncio.get_running_loop()
+        changed = asyncio.Event()
+
+        def tell() -> None:
+            if not self.is_over.is_set():
+                loop.call_soon_threadsafe(changed.set)
+
+        for printer, something in zip(self.papers.printers, self.something):
+            worker = Worker(self.spool, printer, tell)
+            self.threads.append(threading.Thread(target=self._work, args=(worker, something), name=printer.name, daemon=True))
+            self.threads[-1].start()
+        changed.set()
+        while True:
+            await changed.wait()
+            changed.clear()
+            await self._show()
+
+    def _work(self, worker: Worker, something: threading.Event) -> None:
+        said = ""
+        while not self.is_over.is_set():
+            something.clear()
+            try:
+                while not self.is_over.is_set() and worker.turn(self.is_over.is_set):
+                    pass
+                said = ""
+            except Exception as fault:  # a printer never ends the counter
+                if said != (said := f"counter: printer {worker.printer.name}: {fault!r}"):
+                    print(said, file=sys.stderr, flush=True)
+                worker.on_change()
+            something.wait(TRY_EVERY)
+
+    def end(self) -> None:
+        """A paper that is being printed comes to its end, if it does so soon."""
+        self.is_over.set()
+        for it in self.something:
+            it.set()
+        for thread in self.threads:
+            thread.join(END_WITHIN)
+
+    async def _beside(self, work: Callable[[], T]) -> T:
+        """Does something with the database beside the event loop. Raises OSError, and says so once."""
+        try:
+            found = await asyncio.get_running_loop().run_in_executor(self.notes, work)
+        except OSError as fault:
+            if self.fault != str(fault):
+                print(f"counter: {fault}", file=sys.stderr, flush=True)
+            self.fault = str(fault)
+            self.on_change()
+            raise
+        self.fault = ""
+        return found
+
+    async def _show(self) -> None:
+        with contextlib.suppress(OSError):
+            self.jobs = await self._beside(self._look)
+        self.on_change()
+
+    def _look(self) -> list[dict[str, Any]]:
+        return [shown(it) for it in self.spool.jobs(*SHOWN)[:MOST_SHOWN]]
+
+    def _wake(self) -> None:
+        for it in self.something:
+            it.set()
+
+    # ---- what is asked
+
+    def passed(self, letters: str, asked: Mapping[str, str]) -> None:
+        """A weighing's text, as the office answered it. One that comes again isn't printed again."""
+        task = asyncio.ensure_future(self._take(letters, asked))
+        self.tasks.add(task)
+        task.add_done_callback(self.tasks.discard)
+
+    async def _take(self, letters: str, asked: Mapping[str, str]) -> None:
+        try:
+            text = read_text(letters)
+            own = text.own.number
+            before = self.digest_of(own - 1)
+            check_digests(text, {own: asked["key"]} if "key" in asked else {}, {} if before is None else {own - 1: before})
+        except NoText as fault:
+            print(f"counter: a text of the office isn't printed: {fault}", file=sys.stderr, flush=True)
+            numbers = [int(it) for it in letters.split()[2:3] if it.isdigit()]
+            self.refused = numbers[0] if numbers else 0
+            self.on_change()
+            return
+
+        def note() -> None:
+            is_new = not self.spool.is_known(text)
+            paper = self.spool.take(text, given_of(asked))
+            if is_new and self.papers.by_itself is not None:
+                self.spool.put(paper, self.papers.by_itself)
+
+        with contextlib.suppress(OSError):
+            await self._noted(note)
+
+    async def _noted(self, note: Callable[[], T]) -> T:
+        found = await self._beside(note)
+        self._wake()
+        await self._show()
+        return found
+
+    async def print(self, letters: str, printer: str) -> int:
+        """The number of the job. Raises NoText."""
+        text = read_text(letters)
+        return await self._noted(lambda: self.spool.put(self.spool.take(text), printer))
+
+    async def for_browser(self, letters: str) -> dict[str, Any]:
+        """What the page puts on paper, once it is noted. Raises NoText."""
+        text = read_text(letters)
+
+        def note() -> dict[str, Any]:
+            paper = self.spool.take(text)
+            is_original, given = self.spool.elsewhere(paper)
+            return {"is_original": is_original, "blocks": page_of(blocks_of(Paper(text, given, is_original), self.papers.template))}
+
+        return await self._noted(note)
+
+    async def again(self, job: int) -> bool:
+        return await self._noted(lambda: self.spool.again(job))
+
+    async def drop(self, job: int) -> bool:
+        return await self._noted(lambda: self.spool.drop(job))
+
+    def state(self) -> dict[str, Any]:
+        return {
+            "printers": [it.name for it in self.papers.printers],
+            "by_itself": self.papers.by_itself,
+            "jobs": self.jobs,
+            "refused": self.refused,
+            "is_writable": not self.fault,
+        }
+
+    def faults(self) -> bool:
+        return bool(self.fault) or self.refused is not None or any(it["why"] or it["state"] == "failed" for it in self.jobs)
+
+
+def shown(job: Job) -> dict[str, Any]:
+    return {
+        "job": job.id,
+        "number": job.text.own.number,
+        "kind": job.text.own.kind,
+        "plate": job.text.plate,
+        "printer": job.printer,
+        "state": job.state,
+        "why": job.why,
+    }

@@ -1,0 +1,177 @@
+"""What stands on a paper, in its order: blocks with no printer in them. What is large is made of the legal text alone."""
+
+import textwrap
+import zoneinfo
+from collections.abc import Mapping
+from dataclasses import dataclass
+
+from . import words
+from .text import Text, Weighing
+
+LONGEST_GIVEN = 60  # characters of a free line
+CONTINUES = ">"  # stands before what goes on the line above; no legal text has it
+
+
+@dataclass(frozen=True)
+class Mark:
+    """Of each further print, at both its ends."""
+
+    text: str
+
+
+@dataclass(frozen=True)
+class Line:
+    text: str
+    look: str = "plain"  # plain, bold, small; title and large are of the legal text alone
+    is_centred: bool = False
+
+
+@dataclass(frozen=True)
+class Pair:
+    """A word at the left, and what it names at the right."""
+
+    name: str
+    value: str
+    is_bold: bool = False
+
+
+@dataclass(frozen=True)
+class Legal:
+    """The legal text. `wrapped` tells what `>` means, and stands only where a line is wrapped."""
+
+    letters: str
+    wrapped: str
+
+
+@dataclass(frozen=True)
+class Code:
+    """A QR code."""
+
+    text: str
+    name: str
+
+
+@dataclass(frozen=True)
+class Rule:
+    """A line across, with a word above what follows."""
+
+    text: str = ""
+
+
+Block = Mark | Line | Pair | Legal | Code | Rule
+
+
+@dataclass(frozen=True)
+class Template:
+    header: tuple[str, ...]
+    footer: tuple[str, ...]
+    language: str
+    zone: zoneinfo.ZoneInfo
+
+
+@dataclass(frozen=True)
+class Paper:
+    """What is printed: a text, what the clerk gave with it, and whether it is the original."""
+
+    text: Text
+    given: tuple[tuple[str, str], ...] = ()  # name and value, of words.FREE_LINES
+    is_original: bool = True
+
+
+def code_of(text: Text) -> str:
+    """Number and digest, as `clients/verify.py --known` takes them. A digest is chained, so that of a Second stands for its First too."""
+    return f"{text.own.number} {text.own.digest}"
+
+
+def blocks_of(paper: Paper, template: Template) -> list[Block]:
+    text, language = paper.text, template.language
+    marks: list[Block] = []
+    if not paper.is_original:
+        marks = [Mark(words.mark("copy" if text.own.kind == "first" else "duplicate", language))]
+    made: list[Block] = [*marks]
+    made += [Line(it, "plain" if at else "bold", True) for at, it in enumerate(template.header)]
+    made += [Rule(), *headline(text, language)]
+    for it in text.weighings:
+        made += [Rule(), *weighing(it, template)]
+    if paper.given:
+        made.append(Rule(words.word("given", language)))
+        made += [Pair(words.word(name, language), value) for name, value in paper.given]
+    made += [Rule(words.word("legal", language)), Legal(text.letters, words.word("wrapped", language))]
+    made += [Rule(), Code(code_of(text), words.word("code", language))]
+    made += [Line(it, "plain", True) for it in template.footer]
+    return made + marks
+
+
+def headline(text: Text, language: str) -> list[Block]:
+    """Kind and number, plate and net."""
+    own, kind = text.own, "ticket" if text.is_ticket else "slip"
+    made: list[Block] = [
+        Line(f"{words.word(kind, language)} {own.number}", "title"),
+        Line(words.word("plate", language), "small"),
+        Line(text.plate, "large"),
+    ]
+    if text.net is not None:
+        made += [Line(words.word("net", language), "small"), Line(words.kg(text.net, language), "large")]
+    elif own.gross is not None:
+        made += [Line(words.word("gross", language), "small"), Line(words.kg(own.gross, language), "large")]
+    else:
+        made.append(Line(words.word("withdrawn", language), "bold"))
+    return made
+
+
+def weighing(it: Weighing, template: Template) -> list[Block]:
+    language = template.language
+    made: list[Block] = [Pair(words.word(it.kind, language), f"{words.word('number', language)} {it.number}", True)]
+    if it.gross is not None:
+        made.append(Pair(words.word("gross", language), words.kg(it.gross, language)))
+    if it.preset is not None:
+        made.append(Pair(words.word("preset", language), words.kg(it.preset, language)))
+    return made + [Pair(words.local(it.at, template.zone, language), words.utc(it.at))]
+
+
+# ---- in columns
+
+
+def wrapped(letters: str, columns: int) -> list[str]:
+    """The lines of a legal text, wrapped between characters alone; what goes on a line begins with the mark."""
+    made = []
+    for line in letters.removesuffix("\n").split("\n"):
+        made.append(line[:columns])
+        rest = line[columns:]
+        while rest:
+            made.append(CONTINUES + rest[: columns - 1])
+            rest = rest[columns - 1 :]
+    return made
+
+
+def joined(lines: list[str]) -> str:
+    """The legal text of its lines on paper: `wrapped`, turned round."""
+    made: list[str] = []
+    for line in lines:
+        if line.startswith(CONTINUES) and made:
+            made[-1] += line[1:]
+        else:
+            made.append(line)
+    return "\n".join(made) + "\n"
+
+
+def filled(text: str, columns: int) -> list[str]:
+    """Words that aren't legal, wrapped between words."""
+    return textwrap.wrap(text, columns, break_on_hyphens=False) or [""]
+
+
+def paired(name: str, value: str, columns: int) -> list[str]:
+    """A word and what it names on one line, or on more if they don't fit."""
+    if len(name) + 1 + len(value) <= columns:
+        return [name + value.rjust(columns - len(name))]
+    return [*filled(name, columns), *(it.rjust(columns) for it in filled(value, columns))]
+
+
+def given_of(fields: Mapping[str, str]) -> tuple[tuple[str, str], ...]:
+    """The free lines among the fields of a request, made harmless: one line each, of characters that are printed."""
+    made = []
+    for name in words.FREE_LINES:
+        value = " ".join("".join(it if it.isprintable() else " " for it in fields.get(name, "")).split())[:LONGEST_GIVEN]
+        if value:
+            made.append((name, value))
+    return tuple(made)

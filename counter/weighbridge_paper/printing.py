@@ -1,0 +1,101 @@
+"""Prints what waits for a printer, one paper after another."""
+
+from collections.abc import Callable
+from pathlib import Path
+
+from . import layout
+from .devices import GiveUp, Queue, Trouble, put_in_folder, wire_to
+from .escpos import Roll
+from .forms import FORMS
+from .printers import Printer
+from .spool import Job, Spool
+
+
+def data_of(paper: layout.Paper, printer: Printer) -> bytes:
+    """A paper in the printer's language."""
+    blocks = layout.blocks_of(paper, printer.template)
+    if printer.is_escpos:
+        return Roll(printer.columns, printer.pages, printer.is_cut).bytes_of(blocks)
+    from .pdf import Sheet  # reportlab is large, and a printer for ESC/POS needs none
+
+    own = paper.text.own
+    return Sheet(FORMS[printer.form]).pdf_of(blocks, f"{own.serial} {own.number}", " ".join(printer.template.header[:1]))
+
+
+class Worker:
+    """Prints at one printer. `on_change` is called when something becomes of a job."""
+
+    def __init__(self, spool: Spool, printer: Printer, on_change: Callable[[], None] = lambda: None) -> None:
+        self.spool, self.printer, self.on_change = spool, printer, on_change
+
+    def turn(self, give_up: GiveUp = lambda: False) -> bool:
+        """Prints the next paper that waits. False if there is none, or if it can't be printed now: then the job says why."""
+        with self.spool.holding(self.printer.name) as is_mine:
+            if not is_mine:
+                return False
+            self.spool.recover(self.printer.name)
+            job = self.spool.next(self.printer.name)
+            return job is not None and self._print(job, give_up)
+
+    def _print(self, job: Job, give_up: GiveUp) -> bool:
+        has_begun = False
+
+        def begin() -> bytes:
+            """The paper as what it is now. It is rendered before it is noted, and noted before a byte of it goes out."""
+            nonlocal has_begun
+            is_original = job.is_original
+            while True:
+                data = data_of(job.what(is_original), self.printer)
+                if self.spool.begin(job.id, is_original):
+                    has_begun = True
+                    self.on_change()
+                    return data
+                now = self.spool.job(job.id)
+                if now is None or now.state != "waits":
+                    raise Dropped
+                is_original = now.is_original
+
+        def tell(why: str) -> None:
+            self.spool.tell(job.id, why)
+            self.on_change()
+
+        try:
+            said = self._hand_over(job, begin, tell, give_up)
+            self.spool.printed(job.id, said)
+        except Dropped:
+            return True
+        except Trouble as trouble:
+            if not has_begun:
+                self.spool.tell(job.id, trouble.name)
+            elif trouble.has_begun:
+                self.spool.was_cut(job.id, trouble.name)
+            else:
+                self.spool.give_back(job.id, trouble.name)
+            return False
+        finally:
+            self.on_change()
+        return True
+
+    def _hand_over(self, job: Job, begin: Callable[[], bytes], tell: Callable[[str], None], give_up: GiveUp) -> str:
+        printer = self.printer
+        if printer.way == "cups":
+            queue = Queue(printer)
+            queue.look()
+            own = job.text.own
+            return "" if queue.print(begin(), f"{own.serial} {own.number}", tell, give_up) else "handed_over"
+        if printer.way == "file":
+            put_in_folder(Path(printer.place), name_of(job, printer), begin())
+            return ""
+        with wire_to(printer) as wire:
+            wire.look()
+            wire.print(begin(), tell, give_up)
+        return ""
+
+
+class Dropped(Exception):
+    """It was dropped while it was about to be printed."""
+
+
+def name_of(job: Job, printer: Printer) -> str:
+    own = job.text.own
+    return f"{own.serial}-{own.number}-{job.id}.{'escpos' if printer.is_escpos else 'pdf'}"
