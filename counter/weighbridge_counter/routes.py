@@ -176,7 +176,7 @@ class Routes:
 
     async def hand_on(self, request: web.Request) -> web.StreamResponse:
         try:
-            answer = await self.counter.office.ask("GET", request.path)
+            answer = await self.counter.office.ask("GET", request.rel_url.raw_path)  # as it was written: request.path has %0D%0A as an end of a line
         except NoAnswer:
             return as_text(b"counter no_answer\n", 502)
         return as_text(answer.body, answer.status, answer.kind)
