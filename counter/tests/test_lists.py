@@ -1,6 +1,7 @@
 """The lists, texts made again, stored tares, the zero since a start, and the setup's mistakes."""
 
 import datetime
+import os
 import tempfile
 import unittest
 import zoneinfo
@@ -8,7 +9,7 @@ from pathlib import Path
 
 from weighbridge_counter.files import Files
 from weighbridge_counter.lists import Lists
-from weighbridge_counter.service import Service
+from weighbridge_counter.service import Service, program_of
 from weighbridge_counter.setup import SetupFault, languages, read_setup
 from weighbridge_counter.slips import HEADER, NoText, entry_of_text, slip_of_row
 from weighbridge_counter.tares import BadTare, Tares
@@ -165,6 +166,28 @@ class Kept(unittest.TestCase):
         zero.was_set("")
         self.assertFalse(zero.connected(None, False))
         self.assertTrue(zero.connected(None, True))
+
+    def test_a_program_that_another_user_could_put_there_is_not_run(self):
+        program, asked = self.files.path("program"), self.files.path("asked")
+        program.write_text(f"#!/bin/sh\necho 1.2.3\ntouch {asked}\n")
+        for folder, own, user, version in (
+            (0o755, 0o755, None, "1.2.3"),
+            (0o755, 0o757, None, ""),
+            (0o757, 0o755, None, ""),
+            (0o755, 0o755, 12345, ""),
+        ):
+            if user is not None and os.geteuid():
+                continue  # root alone can give a file away
+            asked.unlink(missing_ok=True)
+            if user is not None:
+                os.chown(program, user, -1)
+            program.chmod(own)
+            program.parent.chmod(folder)
+            found = program_of(Service(1, 0, "boot", (str(program),)))
+            self.assertEqual((version, bool(version)), (found["version"], asked.exists()))
+        asked.unlink(missing_ok=True)
+        asked.symlink_to(asked)
+        self.assertEqual("", program_of(Service(1, 0, "boot", (str(asked),)))["version"])
 
 
 class TheSetup(unittest.TestCase):
