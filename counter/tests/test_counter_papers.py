@@ -52,6 +52,11 @@ class InTheCounter(unittest.IsolatedAsyncioTestCase):
                 self.printing.passed(changed, {"key": "K2"})
                 await self.becomes(lambda: self.printing.refused == 2)
             self.assertIn("a text of the office isn't printed", said.getvalue())
+        for number in ("²", "9" * 5000):  # int takes neither
+            self.printing.refused = None
+            with self.assertLogsOnStandardError():
+                self.printing.passed(f"WEIGHING SLIP {number}\n", {})
+                await self.becomes(lambda: self.printing.refused == 0)
         self.assertTrue(self.printing.faults())
         self.assertEqual(([], []), (self.played.printed, self.printing.spool.jobs("waits", "begun", "printed")))
 

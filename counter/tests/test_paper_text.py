@@ -96,6 +96,8 @@ class TheText(unittest.TestCase):
             (TICKET.replace("E 20 kg", "E 3 kg"), "interval, Max or moment"),
             (TICKET.replace("MAX 60000", "MAX 600000"), "interval, Max or moment"),
             (TICKET.replace("03-10", "02-30"), "no such moment"),
+            (TICKET.replace("N      10200", "N 1     0200"), "no such weight"),
+            (TICKET.replace("G       8140", "G           "), "no such weight"),
             (TICKET.replace("TICKET 2", "TICKET 3"), "line 1 is 'WEIGHING TICKET 3'"),
             (USUAL["single"].text.replace("18340", " 8140").replace("10200", "    0"), "isn't below its gross"),
         ]
