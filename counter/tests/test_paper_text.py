@@ -159,6 +159,8 @@ class TheLayout(unittest.TestCase):
     def test_free_lines_are_one_line_each_and_harmless(self):
         given = layout.given_of({"goods": "  Kies\n0/16\x1b@ ", "order": "", "driver": "x" * 99, "key": "K1"})
         self.assertEqual((("goods", "Kies 0/16 @"), ("driver", "x" * 60)), given)
+        given = layout.given_of({"goods": "N" + "\u0335\u0336" * 29, "driver": "Zu\u0308rich"})
+        self.assertEqual((("goods", "N\u0335\u0336"), ("driver", "Zürich")), given)
 
     def test_numbers_and_moments_as_the_language_writes_them(self):
         self.assertEqual(
