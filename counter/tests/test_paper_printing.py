@@ -2,6 +2,7 @@
 
 import contextlib
 import io
+import os
 import re
 import sqlite3
 import tempfile
@@ -218,6 +219,41 @@ class AtAPrinter(unittest.TestCase):
         self.assertFalse(self.spool.elsewhere(self.spool.take(read_text(USUAL["second"].text)))[0])
         self.assertTrue(self.turn())
         self.assertEqual([2], [marks(it) for it in self.played.printed])
+
+    def test_that_of_the_browser_is_noted_whole_or_not_at_all(self):
+        paper = self.spool.take(read_text(USUAL["second"].text), (("goods", "Kies"),))
+        with mock.patch.object(self.spool, "_open", wraps=self.spool._open) as transactions:
+            self.assertEqual((True, (("goods", "Kies"),)), self.spool.elsewhere(paper))
+        self.assertEqual(1, transactions.call_count)
+        self.assertEqual(["printed"], [it.state for it in self.spool.jobs("waits", "begun", "printed")])
+
+    def test_root_makes_nothing_in_another_user_s_folder_nor_where_his_link_leads(self):
+        if os.geteuid():
+            self.skipTest("it isn't run by root")
+        theirs, ours = self.spool.folder / "theirs", self.spool.folder / "ours"
+        for it in (theirs, ours):
+            it.mkdir()
+        os.chown(theirs, 12345, 12345)
+        (theirs / "link").symlink_to(ours)
+        for name in ("papers", "link", "more/papers", "link/papers"):
+            with self.assertRaisesRegex(PermissionError, "theirs belongs to the user 12345"):
+                Spool(theirs / name)
+        self.assertEqual((["link"], []), (os.listdir(theirs), os.listdir(ours)))
+
+    def test_a_link_in_a_folder_of_files_is_not_followed(self):
+        box, kept = self.spool.folder / "box", self.spool.folder / "kept"
+        box.mkdir()
+        kept.write_text("kept")
+        (job,) = self.put(USUAL["second"])
+        name = f"WB01-2-{job}.escpos"
+        (box / f".{name}.new").symlink_to(kept)
+        self.printer = Printer("yard", "file", str(box), "", "escpos80", TEMPLATE, 48, (("cp858", 19),))
+        self.assertTrue(self.turn())
+        self.assertEqual(("kept", [name], False), (kept.read_text(), os.listdir(box), (box / name).is_symlink()))
+        self.put(USUAL["first"])
+        with mock.patch("os.replace", side_effect=OSError):
+            self.assertFalse(self.turn())
+        self.assertEqual([name], os.listdir(box))
 
     def test_of_many_at_once_one_is_the_original(self):
         paper = self.spool.take(read_text(USUAL["second"].text))
