@@ -1,12 +1,54 @@
-"""What goes to the office for what was asked of the counter: one request, with the target as it was written."""
+"""What goes to the office for what was asked of the counter: one request, with the target as it was written, and few at a time."""
 
 import asyncio
+import time
 import unittest
+import zoneinfo
+from collections import Counter
+from pathlib import Path
 from types import SimpleNamespace
 
 from aiohttp.test_utils import make_mocked_request
-from weighbridge_counter.office import NoAnswer, Office
-from weighbridge_counter.routes import Routes
+from weighbridge_counter.books import REST, Books
+from weighbridge_counter.office import Answer, NoAnswer, Office
+from weighbridge_counter.routes import MOST_ASKING, Routes
+
+
+def routes_over(office):
+    setup = SimpleNamespace(listen=("127.0.0.1", 1), hosts=())
+    return Routes(SimpleNamespace(office=office, setup=setup), Path("."))
+
+
+class SlowOffice:
+    """Takes a twentieth of a second for each answer, and counts how many it makes at once."""
+
+    def __init__(self):
+        self.now = self.most = self.all = 0
+
+    async def ask(self, method, target, body=None, within=15.0):
+        self.all, self.now = self.all + 1, self.now + 1
+        self.most = max(self.most, self.now)
+        await asyncio.sleep(0.05)
+        self.now -= 1
+        return Answer(200, "text/plain", f"{self.all}".encode())
+
+
+class ManyAskers(unittest.IsolatedAsyncioTestCase):
+    async def test_few_have_a_place_at_the_office_at_once(self):
+        office = SlowOffice()
+        routes = routes_over(office)
+        await asyncio.gather(*(routes.hand_on(make_mocked_request("GET", "/indication")) for _ in range(40)))
+        self.assertEqual((40, MOST_ASKING), (office.all, office.most))
+
+    async def test_one_export_is_for_all_who_wait_and_none_comes_upon_the_other(self):
+        office = SlowOffice()
+        books, began = Books(office, zoneinfo.ZoneInfo("UTC"), Counter()), time.monotonic()
+        first = [asyncio.ensure_future(books.export_of_now()) for _ in range(20)]
+        await asyncio.sleep(0.02)
+        later = [asyncio.ensure_future(books.export_of_now()) for _ in range(20)]
+        self.assertEqual([b"1"] * 20 + [b"2"] * 20, [(await it).body for it in first + later])
+        self.assertEqual((2, 1), (office.all, office.most))
+        self.assertGreater(time.monotonic() - began, (1 + REST + 1) * 0.05)
 
 
 class AtTheOffice(unittest.IsolatedAsyncioTestCase):
@@ -29,8 +71,7 @@ class AtTheOffice(unittest.IsolatedAsyncioTestCase):
         self.assertEqual([], self.came)
 
     async def test_a_target_goes_on_as_it_was_written(self):
-        routes = Routes.__new__(Routes)
-        routes.counter = SimpleNamespace(office=self.office)
+        routes = routes_over(self.office)
         target = "/tickets/1%20HTTP%2F1.1%0D%0A%0D%0APOST%20%2Fpurge"
         self.assertEqual(404, (await routes.hand_on(make_mocked_request("GET", target))).status)
         self.assertEqual([f"GET {target} HTTP/1.1\r\n\r\n".encode()], self.came)

@@ -14,7 +14,7 @@ from weighbridge_paper.text import NoText
 
 from .counter import Counter
 from .health import health_of, metrics_of
-from .office import NoAnswer
+from .office import Answer, NoAnswer
 from .pages import Page, frame_of
 from .tares import BadTare
 from .terminal import NotSent, Unanswered
@@ -23,7 +23,7 @@ LONGEST_BODY = 2048  # bytes; the office takes 1,024
 SMALL_BUFFER = 16384  # bytes in the system on the way to a page
 LOOK_AT_SLOW_PAGE_EVERY = 0.05  # seconds
 READS_NOTHING = 5.0  # seconds: a page that takes nothing for so long is closed, and begins anew
-KEY_WITHIN = 60.0
+MOST_ASKING = 4  # of the office's sixteen places
 POLICY = (
     "default-src 'none'; script-src 'self'; style-src 'self'; img-src 'self'; connect-src 'self'; "
     "base-uri 'none'; form-action 'none'; frame-ancestors 'none'; require-trusted-types-for 'script'"
@@ -52,6 +52,7 @@ class Routes:
     def __init__(self, counter: Counter, folder: Path) -> None:
         self.counter, self.folder = counter, folder
         self.hosts = {"127.0.0.1", "localhost", counter.setup.listen[0], *counter.setup.hosts}
+        self.asking = asyncio.Semaphore(MOST_ASKING)
 
     def application(self) -> web.Application:
         @web.middleware
@@ -174,9 +175,14 @@ class Routes:
         told = await self.counter.acts.carry_out(request.path, await request.read())
         return as_text(told.body, told.status, **({} if told.is_sent else {"X-Counter": "not_sent"}))
 
+    async def ask_office(self, target: str) -> Answer:
+        """Few at a time, so that a weighing finds a place at the office whoever asks. Raises NoAnswer."""
+        async with self.asking:
+            return await self.counter.office.ask("GET", target)
+
     async def hand_on(self, request: web.Request) -> web.StreamResponse:
         try:
-            answer = await self.counter.office.ask("GET", request.rel_url.raw_path)  # as it was written: request.path has %0D%0A as an end of a line
+            answer = await self.ask_office(request.rel_url.raw_path)  # as it was written: request.path has %0D%0A as an end of a line
         except NoAnswer:
             return as_text(b"counter no_answer\n", 502)
         return as_text(answer.body, answer.status, answer.kind)
@@ -207,7 +213,7 @@ class Routes:
         known = self.counter.books.lists.entries.get(number)
         if known is None or known.kind in ("second", "single"):
             try:
-                answer = await self.counter.office.ask("GET", f"/tickets/{number}")
+                answer = await self.ask_office(f"/tickets/{number}")
             except NoAnswer:
                 return {"why": "no_answer"}, 502
             if answer.status == 200:
@@ -262,7 +268,7 @@ class Routes:
     async def key(self, request: web.Request) -> web.StreamResponse:
         """Whether the journal has the key, by an export of now: that stores nothing."""
         try:
-            answer = await self.counter.office.ask("GET", "/journal.csv", within=KEY_WITHIN)
+            answer = await self.counter.books.export_of_now()
         except NoAnswer:
             return as_json({"found": None}, 502)
         if answer.status != 200:
