@@ -1,12 +1,14 @@
 """What goes to the office for what was asked of the counter: one request, with the target as it was written, and few at a time."""
 
 import asyncio
+import math
 import time
 import unittest
 import zoneinfo
 from collections import Counter
 from pathlib import Path
 from types import SimpleNamespace
+from unittest import mock
 
 from aiohttp.test_utils import make_mocked_request
 from weighbridge_counter.books import REST, Books
@@ -49,6 +51,15 @@ class ManyAskers(unittest.IsolatedAsyncioTestCase):
         self.assertEqual([b"1"] * 20 + [b"2"] * 20, [(await it).body for it in first + later])
         self.assertEqual((2, 1), (office.all, office.most))
         self.assertGreater(time.monotonic() - began, (1 + REST + 1) * 0.05)
+
+    async def test_lists_that_are_always_to_be_read_anew_leave_the_office_time(self):
+        office = SlowOffice()
+        books = Books(office, zoneinfo.ZoneInfo("UTC"), Counter())
+        books.is_empty = lambda: True
+        with mock.patch.multiple("weighbridge_counter.books", LOOK_EVERY=0.001, EMPTY_FOR=0.0, NOT_SOONER_THAN=0.0, PROBE_EVERY=math.inf):
+            with self.assertRaises(asyncio.TimeoutError):
+                await asyncio.wait_for(books.run(), 0.6)
+        self.assertIn(office.all, (2, 3))
 
 
 class AtTheOffice(unittest.IsolatedAsyncioTestCase):

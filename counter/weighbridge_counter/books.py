@@ -17,7 +17,7 @@ READ_EVERY = 3600.0  # seconds
 PROBE_EVERY = 20.0  # seconds
 PROBE_WITHIN = 5.0
 EXPORT_WITHIN = 60.0
-REST = 4  # times as long as an export took the office does other things before the next that somebody asks for
+REST = 4  # times as long as an export took the office does other things before the next one
 
 
 class Books:
@@ -65,7 +65,7 @@ class Books:
             empty_since = (empty_since or now) if self.is_empty() else None
             is_quiet = empty_since is not None and now - empty_since > EMPTY_FOR
             is_due = self.wants_export or now - self.read_at > READ_EVERY
-            if is_due and (is_quiet or not self.read_at) and now - self.tried_at > NOT_SOONER_THAN:
+            if is_due and (is_quiet or not self.read_at) and now > max(self.tried_at + NOT_SOONER_THAN, self.rest_until):
                 await self.read_anew()
             elif now - self.probed_at > PROBE_EVERY:
                 await self.probe()
@@ -74,7 +74,7 @@ class Books:
     async def read_anew(self) -> None:
         self.tried_at = began = time.monotonic()
         try:
-            answer = await self.office.ask("GET", "/journal.csv", within=EXPORT_WITHIN)
+            answer = await self.export_of_now()
             self.state = "store" if answer.status == 503 else "ok"
             if answer.status != 200:
                 return
