@@ -147,6 +147,15 @@ class Kept(unittest.TestCase):
             with self.assertRaises(BadTare):
                 self.tares().keep(plate, kg, "")
 
+    def test_so_many_are_kept_and_no_more(self):
+        tares = self.tares()
+        tares.kept = {f"P{it}": {"kg": 1, "until": "2025-03-10", "by": ""} for it in range(2000)}
+        tares.keep("P7", 5000, "")
+        with self.assertRaisesRegex(BadTare, "2000 already"):
+            tares.keep("NEW", 5000, "")
+        tares.drop("P7")
+        tares.keep("NEW", 5000, "")
+
     def test_zero_is_known_until_the_service_is_another_one(self):
         def zero():
             return Zero(self.files, lambda: datetime.datetime(2025, 3, 10, 9, tzinfo=BERLIN))

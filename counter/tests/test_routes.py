@@ -42,6 +42,17 @@ class ManyAskers(unittest.IsolatedAsyncioTestCase):
         await asyncio.gather(*(routes.hand_on(make_mocked_request("GET", "/indication")) for _ in range(40)))
         self.assertEqual((40, MOST_ASKING), (office.all, office.most))
 
+    async def test_many_searches_hold_up_no_value(self):
+        lists = SimpleNamespace(search=lambda words: time.sleep(0.005) or [])
+        routes = routes_over(SlowOffice())
+        routes.counter.books = SimpleNamespace(lists=lists, is_whole=lambda: True)
+        searches = asyncio.gather(*(routes.search(make_mocked_request("GET", f"/search?q={it}")) for it in range(60)))
+        longest, before = 0.0, time.monotonic()
+        while not searches.done():
+            await asyncio.sleep(0)
+            longest, before = max(longest, time.monotonic() - before), time.monotonic()
+        self.assertLess(longest, 0.1)
+
     async def test_one_export_is_for_all_who_wait_and_none_comes_upon_the_other(self):
         office = SlowOffice()
         books, began = Books(office, zoneinfo.ZoneInfo("UTC"), Counter()), time.monotonic()

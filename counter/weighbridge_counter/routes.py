@@ -6,7 +6,7 @@ import socket
 import urllib.parse
 from collections.abc import Awaitable, Callable
 from pathlib import Path
-from typing import Any
+from typing import Any, TypeVar
 
 from aiohttp import web
 
@@ -37,6 +37,7 @@ FIELDS = {
 }
 NO_STORE = {"Cache-Control": "no-store", **FIELDS}
 NO_CACHE = {"Cache-Control": "no-cache", **FIELDS}
+T = TypeVar("T")
 Handler = Callable[[web.Request], Awaitable[web.StreamResponse]]
 
 
@@ -52,7 +53,7 @@ class Routes:
     def __init__(self, counter: Counter, folder: Path) -> None:
         self.counter, self.folder = counter, folder
         self.hosts = {"127.0.0.1", "localhost", counter.setup.listen[0], *counter.setup.hosts}
-        self.asking = asyncio.Semaphore(MOST_ASKING)
+        self.asking, self.thinking = asyncio.Semaphore(MOST_ASKING), asyncio.Lock()
 
     def application(self) -> web.Application:
         @web.middleware
@@ -139,12 +140,12 @@ class Routes:
         if transport is None:
             return response
         transport.get_extra_info("socket").setsockopt(socket.SOL_SOCKET, socket.SO_SNDBUF, SMALL_BUFFER)
-        page = Page()
+        page, lists = Page(), await self.in_turn(self.counter.lists)  # from here on nothing else comes between
         page.put(b"retry: 500\n\n")
         for name, what in (
             ("hello", self.counter.hello()),
             ("state", self.counter.state()),
-            ("lists", self.counter.lists()),
+            ("lists", lists),
             ("papers", self.counter.printing.state()),
         ):
             page.put(frame_of(name, what))
@@ -174,6 +175,12 @@ class Routes:
     async def weigh(self, request: web.Request) -> web.StreamResponse:
         told = await self.counter.acts.carry_out(request.path, await request.read())
         return as_text(told.body, told.status, **({} if told.is_sent else {"X-Counter": "not_sent"}))
+
+    async def in_turn(self, think: Callable[[], T]) -> T:
+        """What takes milliseconds is done once between two looks at what came, so that no weight waits for many of it."""
+        async with self.thinking:
+            await asyncio.sleep(0)
+            return think()
 
     async def ask_office(self, target: str) -> Answer:
         """Few at a time, so that a weighing finds a place at the office whoever asks. Raises NoAnswer."""
@@ -263,7 +270,8 @@ class Routes:
         return as_json({}, 200 if await self.counter.printing.drop(int(request.match_info["job"])) else 404)
 
     async def search(self, request: web.Request) -> web.StreamResponse:
-        return as_json({"hits": self.counter.books.lists.search(request.query.get("q", "")[:40]), "whole": self.counter.books.is_whole()})
+        words = request.query.get("q", "")[:40]
+        return as_json({"hits": await self.in_turn(lambda: self.counter.books.lists.search(words)), "whole": self.counter.books.is_whole()})
 
     async def key(self, request: web.Request) -> web.StreamResponse:
         """Whether the journal has the key, by an export of now: that stores nothing."""
