@@ -5,6 +5,7 @@ import io
 import os
 import re
 import sqlite3
+import subprocess
 import tempfile
 import threading
 import unittest
@@ -501,6 +502,14 @@ class TheCommand(unittest.TestCase):
         spool.begin(job, False)
         status, _, err = self.run_with("", "--printer", "box")
         self.assertEqual((1, True), (status, "failed at box: the program ended in the middle" in err))
+
+    def test_nobody_s_modules_are_taken_but_the_system_s(self):
+        (self.folder / "qrcode.py").write_text("raise SystemExit('another module')")
+        (self.folder / "sitecustomize.py").write_text("raise SystemExit('another module')")
+        for name in ("weighbridge-paper", "weighbridge-counter"):
+            words = [Path(__file__).resolve().parents[1] / name, "--help"]
+            found = subprocess.run(words, cwd=self.folder, env={"PYTHONPATH": str(self.folder)}, capture_output=True, text=True)
+            self.assertEqual((0, ""), (found.returncode, found.stderr))
 
     def test_words_that_are_refused(self):
         self.assertEqual(2, self.run_with(USUAL["second"].text, "--printer", "none")[0])

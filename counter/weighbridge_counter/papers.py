@@ -108,7 +108,7 @@ class Printing:
         self.on_change()
 
     def _look(self) -> list[dict[str, Any]]:
-        return [shown(it) for it in self.spool.jobs(*SHOWN)[:MOST_SHOWN]]
+        return [shown(it) for it in self.spool.jobs(*SHOWN, most=MOST_SHOWN)]
 
     def _wake(self) -> None:
         for it in self.something:

@@ -125,10 +125,11 @@ class Spool:
             row = database.execute(f"{JOB} WHERE job.id = ?", (number,)).fetchone()
         return None if row is None else job_of(row)
 
-    def jobs(self, *states: str) -> list[Job]:
+    def jobs(self, *states: str, most: int = -1) -> list[Job]:
+        """The oldest of them; all, if it isn't said how many."""
         places = ",".join("?" * len(states))
         with self._open() as database:
-            return [job_of(it) for it in database.execute(f"{JOB} WHERE state IN ({places}) ORDER BY job.id", states)]
+            return [job_of(it) for it in database.execute(f"{JOB} WHERE state IN ({places}) ORDER BY job.id LIMIT ?", (*states, most))]
 
     def begin(self, job: int, is_original: bool) -> bool:
         """Notes that a paper is printed now, and as what. False if another one became the original meanwhile, or the job waits no more."""
