@@ -105,7 +105,7 @@ class TheLists(unittest.TestCase):
         lists = Lists.of_export(
             BERLIN, export(row(1, "first", "HB-AB-12", 1000), row(2, "first", "OL-X-1", 1000), row(3, "second", "HB-AB-12", 9000))
         )
-        for words, found in (("2", [2, 3, 1]), ("bab", [3, 1]), ("b-ab", [3, 1]), ("x", [2]), ("", []), ("-", []), ("zz", []), ("9", [])):
+        for words, found in (("2", [2, 3, 1]), ("bab", [3, 1]), ("b-ab", [3, 1]), ("x", [2]), ("", []), ("-", []), ("zz", []), ("9", []), ("²", [])):
             self.assertEqual(found, [it["number"] for it in lists.search(words)], words)
 
     def test_what_is_no_export_is_refused(self):

@@ -1,6 +1,8 @@
 """What goes to the office for what was asked of the counter: one request, with the target as it was written, and few at a time."""
 
 import asyncio
+import contextlib
+import io
 import math
 import time
 import unittest
@@ -91,6 +93,22 @@ class AtTheOffice(unittest.IsolatedAsyncioTestCase):
             with self.assertRaises(NoAnswer):
                 await self.office.ask("GET", target)
         self.assertEqual([], self.came)
+
+    async def test_what_a_request_breaks_is_one_line_without_control_characters(self):
+        async def breaks(request):
+            raise ValueError("\x1b[2J\n" * 1000)
+
+        routes = routes_over(self.office)
+        routes.counter.terminal = SimpleNamespace(is_in_doubt=lambda: False)
+        with contextlib.redirect_stderr(io.StringIO()) as said:
+            answer = await routes.guarded(make_mocked_request("GET", "/x%1b", headers={"Host": "127.0.0.1"}), breaks)
+        self.assertEqual((500, 1, False), (answer.status, said.getvalue().count("\n"), "\x1b" in said.getvalue()))
+        self.assertLess(len(said.getvalue()), 400)
+
+    async def test_a_tare_nested_too_deep_is_none(self):
+        request = make_mocked_request("PUT", "/tares/AB-1", match_info={"plate": "AB-1"})
+        request._read_bytes = b"[" * 2000
+        self.assertEqual(422, (await routes_over(self.office).keep_tare(request)).status)
 
     async def test_a_target_goes_on_as_it_was_written(self):
         routes = routes_over(self.office)

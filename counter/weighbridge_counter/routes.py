@@ -3,6 +3,7 @@
 import asyncio
 import json
 import socket
+import sys
 import urllib.parse
 from collections.abc import Awaitable, Callable
 from pathlib import Path
@@ -115,6 +116,9 @@ class Routes:
         except web.HTTPException as fault:
             name = {404: "no_route", 405: "wrong_method", 413: "too_large"}.get(fault.status, "malformed")
             return as_text(f"fault {fault.status} {name}\n".encode(), fault.status)
+        except Exception as fault:  # a line for each, and no control characters: who sends such requests fills no log by them
+            print(f"counter: {request.method} {request.rel_url.raw_path[:100]}: {repr(fault)[:200]}", file=sys.stderr, flush=True)
+            return as_text(b"fault 500 internal\n", 500)
 
     # ---- the page
 
@@ -293,7 +297,7 @@ class Routes:
         try:
             wish = json.loads(await request.read())
             self.counter.tares.keep(request.match_info["plate"], wish["kg"], request.headers.get("X-Remote-User", ""))
-        except (ValueError, KeyError, TypeError):
+        except (ValueError, KeyError, TypeError, RecursionError):
             return as_json({"why": 'send {"kg": a whole number}'}, 422)
         except BadTare as fault:
             return as_json({"why": str(fault)}, 422)
