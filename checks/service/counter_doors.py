@@ -98,7 +98,12 @@ def guesses(nginx, cookie):
     holds("of 150 guesses without waiting few are looked at", looked_at <= TRIES + took + 1, f"{looked_at} in {took:.1f} s")
     same("the right password is slowed with them", "429", head_of(nginx, "/", *KNOWN)[0])
     same("another cookie doesn't help", "429", head_of(nginx, "/", *KNOWN, "-H", "Cookie: weighbridge=1")[0])
-    same("who logged in before is not", ["200"] * 40, [head_of(nginx, "/time", *KNOWN, "-H", f"Cookie: {cookie}")[0] for _ in range(40)])
+    same(
+        "who logged in before is not, at whatever he guesses",
+        ["401"] * 3,
+        [head_of(nginx, "/", *WRONG, "-H", f"Cookie: {cookie}")[0] for _ in range(3)],
+    )
+    same("nor where he has the password", ["200"] * 40, [head_of(nginx, "/time", *KNOWN, "-H", f"Cookie: {cookie}")[0] for _ in range(40)])
 
 
 def many_open(nginx, cookie):

@@ -27,7 +27,7 @@ def one_text(bridge):
         ("/voids", {"key": "x", "plate": "NONE"}),
     ):
         same(f"a refusal passes: {form}", bridge.ask("POST", target, form, port=bridge.office)[:2], bridge.ask("POST", target, form)[:2])
-    for target in ("/indication", "/tickets/1", "/tickets/x", "/tickets/4294967296"):
+    for target in ("/indication", "/tickets/1", "/tickets/x", "/tickets/4294967296", "/tickets/%C3%A9"):
         same(f"{target} passes", bridge.ask("GET", target, port=bridge.office)[:2], bridge.ask("GET", target)[:2])
     same("whether a key is in the journal", [True, False], [bridge.json("GET", f"/keys/{it}")["found"] for it in ("text-1", "text-2")])
 

@@ -69,6 +69,7 @@ PPD = """*PPD-Adobe: "4.3"
 SETUP = """Listen {host}:{port}
 LogLevel info
 Browsing Off
+PreserveJobFiles No
 WebInterface No
 DefaultAuthType None
 JobRetryInterval 1

@@ -9,7 +9,7 @@ from countering import becomes, same
 from paper_cups import Cups
 from papering import Desk, about, code_in_pdf, fonts_left_out, legal_in_pdf
 
-from tests.papers import LONGEST, USUAL
+from tests.papers import LONGEST, USUAL, Sample
 
 
 def show():
@@ -32,10 +32,22 @@ def show():
                     (f"{sample.number} {sample.digest}", []),
                     (code_in_pdf(made), fonts_left_out(made)),
                 )
+        once(cups)
         stopped(cups)
         gone(cups)
     finally:
         cups.close()
+
+
+def once(cups):
+    """A CUPS that keeps no files, as docs/counter.md has it, prints a paper once, whatever another user asks of it: it would be a second original."""
+    desk = Desk(desk=f'to = "cups:desk@{cups.address}"\nform = "a4"')
+    same("a paper is printed", 0, desk.run(Sample("single", plate="ONCE").text, "--printer", "desk")[0])
+    os.remove(cups.made)
+    for number in range(1, 20):
+        cups.tell("lp", "-U", "root", "-i", f"desk-{number}", "-H", "restart")
+    time.sleep(1)
+    same("and not again, by whoever asks CUPS for it", False, os.path.exists(cups.made))
 
 
 def stopped(cups):

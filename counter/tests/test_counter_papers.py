@@ -5,10 +5,13 @@ import tempfile
 import unittest
 import zoneinfo
 from pathlib import Path
+from unittest import mock
 
-from weighbridge_counter.papers import Printing
+from weighbridge_counter.papers import MOST_SHOWN, Printing
+from weighbridge_paper import spool
 from weighbridge_paper.layout import Template
 from weighbridge_paper.printers import Papers, Printer
+from weighbridge_paper.text import read_text
 
 from .papers import USUAL, Sample
 from .played_printer import PlayedPrinter
@@ -52,6 +55,11 @@ class InTheCounter(unittest.IsolatedAsyncioTestCase):
                 self.printing.passed(changed, {"key": "K2"})
                 await self.becomes(lambda: self.printing.refused == 2)
             self.assertIn("a text of the office isn't printed", said.getvalue())
+        for number in ("²", "9" * 5000):  # int takes neither
+            self.printing.refused = None
+            with self.assertLogsOnStandardError():
+                self.printing.passed(f"WEIGHING SLIP {number}\n", {})
+                await self.becomes(lambda: self.printing.refused == 0)
         self.assertTrue(self.printing.faults())
         self.assertEqual(([], []), (self.played.printed, self.printing.spool.jobs("waits", "begun", "printed")))
 
@@ -71,6 +79,14 @@ class InTheCounter(unittest.IsolatedAsyncioTestCase):
         await self.becomes(lambda: len(self.played.printed) == 2)
         self.assertEqual([0, 2], [it.count(b"DUPLICATE") for it in self.played.printed])
         self.assertFalse((await self.printing.for_browser(USUAL["single"].text))["is_original"])
+
+    async def test_of_many_that_wait_so_many_are_read(self):
+        paper = self.printing.spool.take(read_text(USUAL["second"].text))
+        for it in range(MOST_SHOWN + 5):
+            self.printing.spool.put(paper, f"printer_{it}")
+        with mock.patch.object(spool, "job_of", wraps=spool.job_of) as read:
+            self.assertEqual(MOST_SHOWN, len(self.printing._look()))
+        self.assertEqual(MOST_SHOWN, read.call_count)
 
     async def test_what_can_not_be_noted_is_told_and_ends_nothing(self):
         await self.becomes(lambda: self.printing.threads)

@@ -1,6 +1,7 @@
 """The lists, texts made again, stored tares, the zero since a start, and the setup's mistakes."""
 
 import datetime
+import os
 import tempfile
 import unittest
 import zoneinfo
@@ -8,7 +9,7 @@ from pathlib import Path
 
 from weighbridge_counter.files import Files
 from weighbridge_counter.lists import Lists
-from weighbridge_counter.service import Service
+from weighbridge_counter.service import Service, program_of
 from weighbridge_counter.setup import SetupFault, languages, read_setup
 from weighbridge_counter.slips import HEADER, NoText, entry_of_text, slip_of_row
 from weighbridge_counter.tares import BadTare, Tares
@@ -104,7 +105,7 @@ class TheLists(unittest.TestCase):
         lists = Lists.of_export(
             BERLIN, export(row(1, "first", "HB-AB-12", 1000), row(2, "first", "OL-X-1", 1000), row(3, "second", "HB-AB-12", 9000))
         )
-        for words, found in (("2", [2, 3, 1]), ("bab", [3, 1]), ("b-ab", [3, 1]), ("x", [2]), ("", []), ("-", []), ("zz", []), ("9", [])):
+        for words, found in (("2", [2, 3, 1]), ("bab", [3, 1]), ("b-ab", [3, 1]), ("x", [2]), ("", []), ("-", []), ("zz", []), ("9", []), ("²", [])):
             self.assertEqual(found, [it["number"] for it in lists.search(words)], words)
 
     def test_what_is_no_export_is_refused(self):
@@ -146,6 +147,15 @@ class Kept(unittest.TestCase):
             with self.assertRaises(BadTare):
                 self.tares().keep(plate, kg, "")
 
+    def test_so_many_are_kept_and_no_more(self):
+        tares = self.tares()
+        tares.kept = {f"P{it}": {"kg": 1, "until": "2025-03-10", "by": ""} for it in range(2000)}
+        tares.keep("P7", 5000, "")
+        with self.assertRaisesRegex(BadTare, "2000 already"):
+            tares.keep("NEW", 5000, "")
+        tares.drop("P7")
+        tares.keep("NEW", 5000, "")
+
     def test_zero_is_known_until_the_service_is_another_one(self):
         def zero():
             return Zero(self.files, lambda: datetime.datetime(2025, 3, 10, 9, tzinfo=BERLIN))
@@ -165,6 +175,28 @@ class Kept(unittest.TestCase):
         zero.was_set("")
         self.assertFalse(zero.connected(None, False))
         self.assertTrue(zero.connected(None, True))
+
+    def test_a_program_that_another_user_could_put_there_is_not_run(self):
+        program, asked = self.files.path("program"), self.files.path("asked")
+        program.write_text(f"#!/bin/sh\necho 1.2.3\ntouch {asked}\n")
+        for folder, own, user, version in (
+            (0o755, 0o755, None, "1.2.3"),
+            (0o755, 0o757, None, ""),
+            (0o757, 0o755, None, ""),
+            (0o755, 0o755, 12345, ""),
+        ):
+            if user is not None and os.geteuid():
+                continue  # root alone can give a file away
+            asked.unlink(missing_ok=True)
+            if user is not None:
+                os.chown(program, user, -1)
+            program.chmod(own)
+            program.parent.chmod(folder)
+            found = program_of(Service(1, 0, "boot", (str(program),)))
+            self.assertEqual((version, bool(version)), (found["version"], asked.exists()))
+        asked.unlink(missing_ok=True)
+        asked.symlink_to(asked)
+        self.assertEqual("", program_of(Service(1, 0, "boot", (str(asked),)))["version"])
 
 
 class TheSetup(unittest.TestCase):

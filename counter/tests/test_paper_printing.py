@@ -2,8 +2,10 @@
 
 import contextlib
 import io
+import os
 import re
 import sqlite3
+import subprocess
 import tempfile
 import threading
 import unittest
@@ -218,6 +220,41 @@ class AtAPrinter(unittest.TestCase):
         self.assertFalse(self.spool.elsewhere(self.spool.take(read_text(USUAL["second"].text)))[0])
         self.assertTrue(self.turn())
         self.assertEqual([2], [marks(it) for it in self.played.printed])
+
+    def test_that_of_the_browser_is_noted_whole_or_not_at_all(self):
+        paper = self.spool.take(read_text(USUAL["second"].text), (("goods", "Kies"),))
+        with mock.patch.object(self.spool, "_open", wraps=self.spool._open) as transactions:
+            self.assertEqual((True, (("goods", "Kies"),)), self.spool.elsewhere(paper))
+        self.assertEqual(1, transactions.call_count)
+        self.assertEqual(["printed"], [it.state for it in self.spool.jobs("waits", "begun", "printed")])
+
+    def test_root_makes_nothing_in_another_user_s_folder_nor_where_his_link_leads(self):
+        if os.geteuid():
+            self.skipTest("it isn't run by root")
+        theirs, ours = self.spool.folder / "theirs", self.spool.folder / "ours"
+        for it in (theirs, ours):
+            it.mkdir()
+        os.chown(theirs, 12345, 12345)
+        (theirs / "link").symlink_to(ours)
+        for name in ("papers", "link", "more/papers", "link/papers"):
+            with self.assertRaisesRegex(PermissionError, "theirs belongs to the user 12345"):
+                Spool(theirs / name)
+        self.assertEqual((["link"], []), (os.listdir(theirs), os.listdir(ours)))
+
+    def test_a_link_in_a_folder_of_files_is_not_followed(self):
+        box, kept = self.spool.folder / "box", self.spool.folder / "kept"
+        box.mkdir()
+        kept.write_text("kept")
+        (job,) = self.put(USUAL["second"])
+        name = f"WB01-2-{job}.escpos"
+        (box / f".{name}.new").symlink_to(kept)
+        self.printer = Printer("yard", "file", str(box), "", "escpos80", TEMPLATE, 48, (("cp858", 19),))
+        self.assertTrue(self.turn())
+        self.assertEqual(("kept", [name], False), (kept.read_text(), os.listdir(box), (box / name).is_symlink()))
+        self.put(USUAL["first"])
+        with mock.patch("os.replace", side_effect=OSError):
+            self.assertFalse(self.turn())
+        self.assertEqual([name], os.listdir(box))
 
     def test_of_many_at_once_one_is_the_original(self):
         paper = self.spool.take(read_text(USUAL["second"].text))
@@ -465,6 +502,14 @@ class TheCommand(unittest.TestCase):
         spool.begin(job, False)
         status, _, err = self.run_with("", "--printer", "box")
         self.assertEqual((1, True), (status, "failed at box: the program ended in the middle" in err))
+
+    def test_nobody_s_modules_are_taken_but_the_system_s(self):
+        (self.folder / "qrcode.py").write_text("raise SystemExit('another module')")
+        (self.folder / "sitecustomize.py").write_text("raise SystemExit('another module')")
+        for name in ("weighbridge-paper", "weighbridge-counter"):
+            words = [Path(__file__).resolve().parents[1] / name, "--help"]
+            found = subprocess.run(words, cwd=self.folder, env={"PYTHONPATH": str(self.folder)}, capture_output=True, text=True)
+            self.assertEqual((0, ""), (found.returncode, found.stderr))
 
     def test_words_that_are_refused(self):
         self.assertEqual(2, self.run_with(USUAL["second"].text, "--printer", "none")[0])

@@ -96,6 +96,8 @@ class TheText(unittest.TestCase):
             (TICKET.replace("E 20 kg", "E 3 kg"), "interval, Max or moment"),
             (TICKET.replace("MAX 60000", "MAX 600000"), "interval, Max or moment"),
             (TICKET.replace("03-10", "02-30"), "no such moment"),
+            (TICKET.replace("N      10200", "N 1     0200"), "no such weight"),
+            (TICKET.replace("G       8140", "G           "), "no such weight"),
             (TICKET.replace("TICKET 2", "TICKET 3"), "line 1 is 'WEIGHING TICKET 3'"),
             (USUAL["single"].text.replace("18340", " 8140").replace("10200", "    0"), "isn't below its gross"),
         ]
@@ -157,6 +159,8 @@ class TheLayout(unittest.TestCase):
     def test_free_lines_are_one_line_each_and_harmless(self):
         given = layout.given_of({"goods": "  Kies\n0/16\x1b@ ", "order": "", "driver": "x" * 99, "key": "K1"})
         self.assertEqual((("goods", "Kies 0/16 @"), ("driver", "x" * 60)), given)
+        given = layout.given_of({"goods": "N" + "\u0335\u0336" * 29, "driver": "Zu\u0308rich"})
+        self.assertEqual((("goods", "N\u0335\u0336"), ("driver", "Zürich")), given)
 
     def test_numbers_and_moments_as_the_language_writes_them(self):
         self.assertEqual(

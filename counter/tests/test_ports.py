@@ -2,7 +2,9 @@
 
 import asyncio
 import unittest
+from unittest import mock
 
+from weighbridge_counter import ports
 from weighbridge_counter.ports import CARRIED_OUT_WITHIN, Client
 from weighbridge_counter.terminal import Terminal
 
@@ -24,7 +26,8 @@ class Transport:
 
 class Writer:
     def __init__(self):
-        self.transport, self.written, self.is_closed = Transport(), b"", False
+        self.transport, self.written, self.is_closed, self.takes = Transport(), b"", False, asyncio.Event()
+        self.takes.set()
 
     def write(self, data):
         self.written += data
@@ -36,7 +39,10 @@ class Writer:
         self.is_closed = True
 
     async def drain(self):
-        pass
+        await self.takes.wait()
+
+    async def wait_closed(self):
+        await self.takes.wait()
 
 
 class Ports(unittest.IsolatedAsyncioTestCase):
@@ -115,6 +121,16 @@ class Ports(unittest.IsolatedAsyncioTestCase):
         await self.asked("SIR")
         self.writer.transport.waiting = 19
         await self.readings(60)
+        self.assertTrue(self.writer.transport.is_aborted)
+
+    async def test_who_takes_no_answers_gets_no_more_and_is_hung_up(self):
+        self.begin(may_change=False)
+        self.writer.takes.clear()
+        self.writer.transport.waiting = 4
+        with mock.patch.object(ports, "READS_NOTHING", 0.05):
+            self.assertEqual(["ES"], await self.asked(*["X"] * 50))
+            self.assertFalse(self.writer.transport.is_aborted)
+            await asyncio.sleep(0.2)
         self.assertTrue(self.writer.transport.is_aborted)
 
     async def test_a_line_that_is_too_old_is_never_carried_out(self):

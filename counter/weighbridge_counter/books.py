@@ -7,7 +7,7 @@ from collections import Counter
 from collections.abc import Callable, Mapping
 
 from .lists import Lists
-from .office import NoAnswer, Office
+from .office import Answer, NoAnswer, Office
 from .slips import Entry, NoText
 
 LOOK_EVERY = 0.25  # seconds
@@ -16,6 +16,8 @@ NOT_SOONER_THAN = 2.0  # seconds after the last try
 READ_EVERY = 3600.0  # seconds
 PROBE_EVERY = 20.0  # seconds
 PROBE_WITHIN = 5.0
+EXPORT_WITHIN = 60.0
+REST = 4  # times as long as an export took the office does other things before the next one
 
 
 class Books:
@@ -25,7 +27,9 @@ class Books:
         self.state = "ok"  # of the office: ok, store (its journal can't be read or written), no_answer
         self.wants_export = True
         self.tried_at = self.read_at = self.probed_at = 0.0
-        self.export_seconds = 0.0
+        self.export_seconds = self.rest_until = 0.0
+        self.one_export = asyncio.Lock()
+        self.next_export: asyncio.Future[Answer] | None = None
         self.is_empty: Callable[[], bool] = lambda: False
         self.on_lists: Callable[[], None] = lambda: None
         self.on_entry: Callable[[Entry], None] = lambda entry: None
@@ -61,7 +65,7 @@ class Books:
             empty_since = (empty_since or now) if self.is_empty() else None
             is_quiet = empty_since is not None and now - empty_since > EMPTY_FOR
             is_due = self.wants_export or now - self.read_at > READ_EVERY
-            if is_due and (is_quiet or not self.read_at) and now - self.tried_at > NOT_SOONER_THAN:
+            if is_due and (is_quiet or not self.read_at) and now > max(self.tried_at + NOT_SOONER_THAN, self.rest_until):
                 await self.read_anew()
             elif now - self.probed_at > PROBE_EVERY:
                 await self.probe()
@@ -70,7 +74,7 @@ class Books:
     async def read_anew(self) -> None:
         self.tried_at = began = time.monotonic()
         try:
-            answer = await self.office.ask("GET", "/journal.csv", within=60)
+            answer = await self.export_of_now()
             self.state = "store" if answer.status == 503 else "ok"
             if answer.status != 200:
                 return
@@ -87,6 +91,21 @@ class Books:
         self.export_seconds = self.read_at - began
         self.counts["exports"] += 1
         self.on_lists()
+
+    async def export_of_now(self) -> Answer:
+        """An export that begins after it is asked for: one for all who wait for it, and seldom, since it holds up the office. Raises NoAnswer."""
+        if self.next_export is None:
+            self.next_export = asyncio.ensure_future(self._export())
+        return await asyncio.shield(self.next_export)
+
+    async def _export(self) -> Answer:
+        async with self.one_export:
+            await asyncio.sleep(self.rest_until - time.monotonic())
+            self.next_export, began = None, time.monotonic()  # who asks from now on gets a later one
+            try:
+                return await self.office.ask("GET", "/journal.csv", within=EXPORT_WITHIN)
+            finally:
+                self.rest_until = time.monotonic() + REST * (time.monotonic() - began)
 
     async def probe(self) -> None:
         """Is the office there, is its journal open, and is there a ticket that didn't pass? It costs the office next to nothing."""

@@ -125,7 +125,7 @@ class Lists:
         """Entries by number, or by a part of their plate; the newest first."""
         words = words.upper().replace(" ", "")
         bare = words.replace("-", "")
-        hits = [int(words)] if words.isdigit() and len(words) < 11 and int(words) in self.entries else []
+        hits = [int(words)] if words.isdecimal() and len(words) < 11 and int(words) in self.entries else []
         if bare:
             numbers = [number for plate, all in self.by_plate.items() if bare in plate.replace("-", "") for number in all]
             hits += [it for it in sorted(numbers, reverse=True)[:MOST_HITS] if it not in hits]

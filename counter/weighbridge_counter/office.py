@@ -1,10 +1,12 @@
 """Questions to the office: one on a connection of its own, answered whole or not at all."""
 
 import asyncio
+import re
 from dataclasses import dataclass
 
 WITHIN = 15.0  # seconds; the office carries nothing out that is older than five
 LARGEST_HEAD = 8192
+PLAIN = re.compile("[!-~]+")  # a target
 
 
 class NoAnswer(Exception):
@@ -33,6 +35,8 @@ class Office:
             raise NoAnswer(type(fault).__name__) from None
 
     async def _exchange(self, method: str, target: str, body: bytes | None) -> Answer:
+        if not PLAIN.fullmatch(target):
+            raise ValueError(target)  # an end of a line in it would begin a request of its own
         reader, writer = await asyncio.open_connection(*self.address, limit=LARGEST_HEAD)
         try:
             length = "" if body is None else f"Content-Length: {len(body)}\r\n"

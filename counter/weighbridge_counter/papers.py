@@ -2,6 +2,7 @@
 
 import asyncio
 import contextlib
+import re
 import sys
 import threading
 from collections.abc import Callable, Mapping
@@ -107,7 +108,7 @@ class Printing:
         self.on_change()
 
     def _look(self) -> list[dict[str, Any]]:
-        return [shown(it) for it in self.spool.jobs(*SHOWN)[:MOST_SHOWN]]
+        return [shown(it) for it in self.spool.jobs(*SHOWN, most=MOST_SHOWN)]
 
     def _wake(self) -> None:
         for it in self.something:
@@ -129,7 +130,7 @@ class Printing:
             check_digests(text, {own: asked["key"]} if "key" in asked else {}, {} if before is None else {own - 1: before})
         except NoText as fault:
             print(f"counter: a text of the office isn't printed: {fault}", file=sys.stderr, flush=True)
-            numbers = [int(it) for it in letters.split()[2:3] if it.isdigit()]
+            numbers = [int(it) for it in letters.split()[2:3] if re.fullmatch("[0-9]{1,10}", it)]
             self.refused = numbers[0] if numbers else 0
             self.on_change()
             return

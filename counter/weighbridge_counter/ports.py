@@ -41,7 +41,15 @@ class Client:
         finally:
             self._repeat(False)
             reading.cancel()
-            self.writer.close()
+            await self._close()
+
+    async def _close(self) -> None:
+        """What a client doesn't take isn't kept, nor is its connection."""
+        self.writer.close()
+        try:
+            await asyncio.wait_for(self.writer.wait_closed(), READS_NOTHING)
+        except (OSError, asyncio.TimeoutError):
+            self.writer.transport.abort()
 
     async def _answer_all(self) -> None:
         while (found := await self.lines.get()) is not None:
@@ -49,7 +57,8 @@ class Client:
             if self.terminal.clock() - came > CARRIED_OUT_WITHIN:
                 return
             await self._answer(line, came)
-        await asyncio.wait_for(self.writer.drain(), READS_NOTHING)
+            if self.writer.transport.get_write_buffer_size():
+                await asyncio.wait_for(self.writer.drain(), READS_NOTHING)
 
     # ---- lines
 

@@ -3,10 +3,11 @@
 import asyncio
 import json
 import socket
+import sys
 import urllib.parse
 from collections.abc import Awaitable, Callable
 from pathlib import Path
-from typing import Any
+from typing import Any, TypeVar
 
 from aiohttp import web
 
@@ -14,7 +15,7 @@ from weighbridge_paper.text import NoText
 
 from .counter import Counter
 from .health import health_of, metrics_of
-from .office import NoAnswer
+from .office import Answer, NoAnswer
 from .pages import Page, frame_of
 from .tares import BadTare
 from .terminal import NotSent, Unanswered
@@ -23,7 +24,7 @@ LONGEST_BODY = 2048  # bytes; the office takes 1,024
 SMALL_BUFFER = 16384  # bytes in the system on the way to a page
 LOOK_AT_SLOW_PAGE_EVERY = 0.05  # seconds
 READS_NOTHING = 5.0  # seconds: a page that takes nothing for so long is closed, and begins anew
-KEY_WITHIN = 60.0
+MOST_ASKING = 4  # of the office's sixteen places
 POLICY = (
     "default-src 'none'; script-src 'self'; style-src 'self'; img-src 'self'; connect-src 'self'; "
     "base-uri 'none'; form-action 'none'; frame-ancestors 'none'; require-trusted-types-for 'script'"
@@ -37,6 +38,7 @@ FIELDS = {
 }
 NO_STORE = {"Cache-Control": "no-store", **FIELDS}
 NO_CACHE = {"Cache-Control": "no-cache", **FIELDS}
+T = TypeVar("T")
 Handler = Callable[[web.Request], Awaitable[web.StreamResponse]]
 
 
@@ -52,6 +54,7 @@ class Routes:
     def __init__(self, counter: Counter, folder: Path) -> None:
         self.counter, self.folder = counter, folder
         self.hosts = {"127.0.0.1", "localhost", counter.setup.listen[0], *counter.setup.hosts}
+        self.asking, self.thinking = asyncio.Semaphore(MOST_ASKING), asyncio.Lock()
 
     def application(self) -> web.Application:
         @web.middleware
@@ -113,6 +116,9 @@ class Routes:
         except web.HTTPException as fault:
             name = {404: "no_route", 405: "wrong_method", 413: "too_large"}.get(fault.status, "malformed")
             return as_text(f"fault {fault.status} {name}\n".encode(), fault.status)
+        except Exception as fault:  # a line for each, and no control characters: who sends such requests fills no log by them
+            print(f"counter: {request.method} {request.rel_url.raw_path[:100]}: {repr(fault)[:200]}", file=sys.stderr, flush=True)
+            return as_text(b"fault 500 internal\n", 500)
 
     # ---- the page
 
@@ -138,12 +144,12 @@ class Routes:
         if transport is None:
             return response
         transport.get_extra_info("socket").setsockopt(socket.SOL_SOCKET, socket.SO_SNDBUF, SMALL_BUFFER)
-        page = Page()
+        page, lists = Page(), await self.in_turn(self.counter.lists)  # from here on nothing else comes between
         page.put(b"retry: 500\n\n")
         for name, what in (
             ("hello", self.counter.hello()),
             ("state", self.counter.state()),
-            ("lists", self.counter.lists()),
+            ("lists", lists),
             ("papers", self.counter.printing.state()),
         ):
             page.put(frame_of(name, what))
@@ -174,9 +180,20 @@ class Routes:
         told = await self.counter.acts.carry_out(request.path, await request.read())
         return as_text(told.body, told.status, **({} if told.is_sent else {"X-Counter": "not_sent"}))
 
+    async def in_turn(self, think: Callable[[], T]) -> T:
+        """What takes milliseconds is done once between two looks at what came, so that no weight waits for many of it."""
+        async with self.thinking:
+            await asyncio.sleep(0)
+            return think()
+
+    async def ask_office(self, target: str) -> Answer:
+        """Few at a time, so that a weighing finds a place at the office whoever asks. Raises NoAnswer."""
+        async with self.asking:
+            return await self.counter.office.ask("GET", target)
+
     async def hand_on(self, request: web.Request) -> web.StreamResponse:
         try:
-            answer = await self.counter.office.ask("GET", request.path)
+            answer = await self.ask_office(request.rel_url.raw_path)  # as it was written: request.path has %0D%0A as an end of a line
         except NoAnswer:
             return as_text(b"counter no_answer\n", 502)
         return as_text(answer.body, answer.status, answer.kind)
@@ -207,7 +224,7 @@ class Routes:
         known = self.counter.books.lists.entries.get(number)
         if known is None or known.kind in ("second", "single"):
             try:
-                answer = await self.counter.office.ask("GET", f"/tickets/{number}")
+                answer = await self.ask_office(f"/tickets/{number}")
             except NoAnswer:
                 return {"why": "no_answer"}, 502
             if answer.status == 200:
@@ -257,12 +274,13 @@ class Routes:
         return as_json({}, 200 if await self.counter.printing.drop(int(request.match_info["job"])) else 404)
 
     async def search(self, request: web.Request) -> web.StreamResponse:
-        return as_json({"hits": self.counter.books.lists.search(request.query.get("q", "")[:40]), "whole": self.counter.books.is_whole()})
+        words = request.query.get("q", "")[:40]
+        return as_json({"hits": await self.in_turn(lambda: self.counter.books.lists.search(words)), "whole": self.counter.books.is_whole()})
 
     async def key(self, request: web.Request) -> web.StreamResponse:
         """Whether the journal has the key, by an export of now: that stores nothing."""
         try:
-            answer = await self.counter.office.ask("GET", "/journal.csv", within=KEY_WITHIN)
+            answer = await self.counter.books.export_of_now()
         except NoAnswer:
             return as_json({"found": None}, 502)
         if answer.status != 200:
@@ -279,7 +297,7 @@ class Routes:
         try:
             wish = json.loads(await request.read())
             self.counter.tares.keep(request.match_info["plate"], wish["kg"], request.headers.get("X-Remote-User", ""))
-        except (ValueError, KeyError, TypeError):
+        except (ValueError, KeyError, TypeError, RecursionError):
             return as_json({"why": 'send {"kg": a whole number}'}, 422)
         except BadTare as fault:
             return as_json({"why": str(fault)}, 422)

@@ -4,6 +4,7 @@ A start is told from a connection that was only cut by the process and the momen
 """
 
 import os
+import stat
 import subprocess
 import time
 import uuid
@@ -65,12 +66,28 @@ def find_service(terminal: tuple[str, int]) -> Service | None:
     return None
 
 
+def is_safe(path: Path) -> bool:
+    """Whether nobody but root and this user can put another program there."""
+    for it in (path, *path.parents):
+        found = it.stat()
+        shared = found.st_mode & (stat.S_IWOTH if found.st_gid in (0, os.getegid()) else stat.S_IWOTH | stat.S_IWGRP)
+        if found.st_uid not in (0, os.geteuid()) or (shared and (it == path or not found.st_mode & stat.S_ISVTX)):
+            return False
+    return True
+
+
 def program_of(service: Service) -> dict[str, str | bool]:
-    """What the program's file says of itself, and whether it was changed since the service was started, so that another one runs."""
+    """What the program's file says of itself, and whether it was changed since the service was started, so that another one runs.
+
+    A process names its program as it likes, and one that was taken over as its user can: one that isn't safe isn't run.
+    """
     path = Path(service.words[0])
     try:
-        said = subprocess.run([str(path), "--version"], capture_output=True, text=True, timeout=VERSION_WITHIN, stdin=subprocess.DEVNULL).stdout
+        program = path.resolve(strict=True)
+        if not is_safe(program):
+            raise PermissionError(program)
+        said = subprocess.run([program, "--version"], capture_output=True, text=True, timeout=VERSION_WITHIN, stdin=subprocess.DEVNULL).stdout
         changed = path.stat().st_mtime > service.started_at() or path.stat().st_ctime > service.started_at()
-    except (OSError, subprocess.SubprocessError):
+    except (OSError, RuntimeError, subprocess.SubprocessError):  # RuntimeError: links in a circle
         return {"path": str(path), "version": "", "changed_since": False}
     return {"path": str(path), "version": said.strip(), "changed_since": changed}

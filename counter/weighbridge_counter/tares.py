@@ -8,6 +8,7 @@ from typing import Any
 from .files import Files
 
 FILE = "tares.json"
+MOST = 2000  # each page gets all of them with each change
 PLATE = re.compile(r"[A-Z0-9-]{1,12}")
 
 
@@ -26,6 +27,8 @@ class Tares:
             raise BadTare("plate: 1 to 12 of A-Z, 0-9 and -")
         if not isinstance(kg, int) or isinstance(kg, bool) or not 0 < kg < self.most:
             raise BadTare(f"kg: a whole number from 1 to {self.most - 1}")
+        if plate not in self.kept and len(self.kept) >= MOST:
+            raise BadTare(f"there are {MOST} already: drop one")
         until = self.today() + timedelta(days=self.days)
         self._replace({**self.kept, plate: {"kg": kg, "until": until.isoformat(), "by": by}})
 

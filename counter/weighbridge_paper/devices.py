@@ -248,13 +248,16 @@ class Queue:
 
 
 def put_in_folder(folder: Path, name: str, data: bytes) -> None:
-    """A file that is there whole or not at all."""
+    """A file that is there whole or not at all. Where others may write too, it follows no link of theirs."""
+    new = folder / f".{name}.new"
     try:
-        new = folder / f".{name}.new"
-        with open(new, "wb") as file:
+        new.unlink(missing_ok=True)
+        with open(new, "xb") as file:
             file.write(data)
             file.flush()
             os.fsync(file.fileno())
         os.replace(new, folder / name)
     except OSError:
+        with contextlib.suppress(OSError):
+            new.unlink()
         raise Trouble("file", False) from None

@@ -1,6 +1,7 @@
 """What stands on a paper, in its order: blocks with no printer in them. What is large is made of the legal text alone."""
 
 import textwrap
+import unicodedata
 import zoneinfo
 from collections.abc import Mapping
 from dataclasses import dataclass
@@ -9,6 +10,7 @@ from . import words
 from .text import Text, Weighing
 
 LONGEST_GIVEN = 60  # characters of a free line
+MOST_MARKS = 2  # accents and the like on one letter
 CONTINUES = ">"  # stands before what goes on the line above; no legal text has it
 
 
@@ -167,11 +169,20 @@ def paired(name: str, value: str, columns: int) -> list[str]:
     return [*filled(name, columns), *(it.rjust(columns) for it in filled(value, columns))]
 
 
+def with_few_marks(text: str) -> str:
+    """A text without heaps of accents, which a browser would print over the lines above and below."""
+    made, marks = "", 0
+    for it in unicodedata.normalize("NFC", text):
+        marks = marks + 1 if unicodedata.category(it).startswith("M") else 0
+        made += it if marks <= MOST_MARKS else ""
+    return made
+
+
 def given_of(fields: Mapping[str, str]) -> tuple[tuple[str, str], ...]:
     """The free lines among the fields of a request, made harmless: one line each, of characters that are printed."""
     made = []
     for name in words.FREE_LINES:
-        value = " ".join("".join(it if it.isprintable() else " " for it in fields.get(name, "")).split())[:LONGEST_GIVEN]
+        value = " ".join("".join(it if it.isprintable() else " " for it in with_few_marks(fields.get(name, ""))).split())[:LONGEST_GIVEN]
         if value:
             made.append((name, value))
     return tuple(made)

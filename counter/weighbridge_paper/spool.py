@@ -125,10 +125,11 @@ class Spool:
             row = database.execute(f"{JOB} WHERE job.id = ?", (number,)).fetchone()
         return None if row is None else job_of(row)
 
-    def jobs(self, *states: str) -> list[Job]:
+    def jobs(self, *states: str, most: int = -1) -> list[Job]:
+        """The oldest of them; all, if it isn't said how many."""
         places = ",".join("?" * len(states))
         with self._open() as database:
-            return [job_of(it) for it in database.execute(f"{JOB} WHERE state IN ({places}) ORDER BY job.id", states)]
+            return [job_of(it) for it in database.execute(f"{JOB} WHERE state IN ({places}) ORDER BY job.id LIMIT ?", (*states, most))]
 
     def begin(self, job: int, is_original: bool) -> bool:
         """Notes that a paper is printed now, and as what. False if another one became the original meanwhile, or the job waits no more."""
@@ -186,13 +187,12 @@ class Spool:
 
     def elsewhere(self, paper: int) -> tuple[bool, tuple[tuple[str, str], ...]]:
         """Notes a print that somebody else makes, as a browser. Whether it is the original, and what the clerk gave."""
-        job = self.put(paper, BROWSER)
-        is_original = self.begin(job, True)
-        if not is_original:
-            self.begin(job, False)
-        self.printed(job)
-        made = self.job(job)
-        return is_original, made.given if made is not None else ()
+        with self._open() as database:
+            is_spent, given = database.execute("SELECT is_spent, given FROM paper WHERE id = ?", (paper,)).fetchone()
+            words = (paper, BROWSER, not is_spent, moment())
+            database.execute("INSERT INTO job (paper, printer, state, is_original, at) VALUES (?, ?, 'printed', ?, ?)", words)
+            database.execute("UPDATE paper SET is_spent = 1 WHERE id = ?", (paper,))
+        return not is_spent, given_in(given)
 
     @contextlib.contextmanager
     def holding(self, printer: str) -> Iterator[bool]:
@@ -206,10 +206,10 @@ class Spool:
 
 
 def refuse_strange_root(folder: Path) -> None:
-    """Files that root makes in another user's folder would keep that user out."""
-    nearest = folder if folder.exists() else folder.parent
-    if os.geteuid() == 0 and nearest.exists() and (owner := nearest.stat().st_uid) != 0:
-        raise PermissionError(f"{nearest} belongs to the user {owner}: run this as that user, by runuser -u")
+    """Files that root makes in another user's folder would keep that user out, or be made where that user's links lead."""
+    for it in (folder.absolute(), *folder.absolute().parents):
+        if os.geteuid() == 0 and os.path.lexists(it) and (owner := it.lstat().st_uid) != 0:
+            raise PermissionError(f"{it} belongs to the user {owner}: run this as that user, by runuser -u")
 
 
 def cut(database: sqlite3.Connection, why: str, which: str, value: int | str) -> None:
@@ -229,7 +229,11 @@ def paper_id(database: sqlite3.Connection, text: Text) -> int | None:
 def job_of(row: tuple[int, int, str, str, str, int, int, str, str]) -> Job:
     number, paper, printer, state, why, was_original, is_spent, letters, given = row
     is_original = not is_spent if state in ("waits", "failed") else bool(was_original)
-    return Job(number, paper, printer, state, why, is_original, stored(letters), tuple((it[0], it[1]) for it in json.loads(given)))
+    return Job(number, paper, printer, state, why, is_original, stored(letters), given_in(given))
+
+
+def given_in(column: str) -> tuple[tuple[str, str], ...]:
+    return tuple((it[0], it[1]) for it in json.loads(column))
 
 
 def stored(letters: str) -> Text:

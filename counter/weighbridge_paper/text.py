@@ -68,7 +68,7 @@ def read_text(letters: str) -> Text:
     if head is None or not blocks:
         raise NoText(f"it doesn't have the form of a slip or ticket; it begins with {letters.split(chr(10))[0][:40]!r}")
     net = NET.match(letters, blocks[-1].end())
-    found = Text(letters, head[3], tuple(weighing_of(it) for it in blocks), int(net[1]) if net else None)
+    found = Text(letters, head[3], tuple(weighing_of(it) for it in blocks), kg_of(net[1]) if net else None)
     if (wrong := fault_of(found)) is not None:
         raise NoText(wrong)
     if letters != written(found):
@@ -76,12 +76,19 @@ def read_text(letters: str) -> Text:
     return found
 
 
+def kg_of(text: str) -> int:
+    try:
+        return int(text)
+    except ValueError:
+        raise NoText(f"there is no such weight: {text!r}") from None
+
+
 def weighing_of(block: re.Match[str]) -> Weighing:
     try:
         at = datetime.datetime.strptime(block[3], "%Y-%m-%d %H:%M:%S").replace(tzinfo=datetime.timezone.utc)
-        gross, preset = (int(block[it]) if block[it] else None for it in (4, 5))
     except ValueError:
-        raise NoText(f"there is no such moment, or no such weight: {block[3]}") from None
+        raise NoText(f"there is no such moment: {block[3]}") from None
+    gross, preset = (kg_of(block[it]) if block[it] else None for it in (4, 5))
     return Weighing(block[1].lower(), int(block[2]), at, gross, preset, int(block[6]), int(block[7]), block[8], block[9])
 
 

@@ -1,0 +1,121 @@
+"""What goes to the office for what was asked of the counter: one request, with the target as it was written, and few at a time."""
+
+import asyncio
+import contextlib
+import io
+import math
+import time
+import unittest
+import zoneinfo
+from collections import Counter
+from pathlib import Path
+from types import SimpleNamespace
+from unittest import mock
+
+from aiohttp.test_utils import make_mocked_request
+from weighbridge_counter.books import REST, Books
+from weighbridge_counter.office import Answer, NoAnswer, Office
+from weighbridge_counter.routes import MOST_ASKING, Routes
+
+
+def routes_over(office):
+    setup = SimpleNamespace(listen=("127.0.0.1", 1), hosts=())
+    return Routes(SimpleNamespace(office=office, setup=setup), Path("."))
+
+
+class SlowOffice:
+    """Takes a twentieth of a second for each answer, and counts how many it makes at once."""
+
+    def __init__(self):
+        self.now = self.most = self.all = 0
+
+    async def ask(self, method, target, body=None, within=15.0):
+        self.all, self.now = self.all + 1, self.now + 1
+        self.most = max(self.most, self.now)
+        await asyncio.sleep(0.05)
+        self.now -= 1
+        return Answer(200, "text/plain", f"{self.all}".encode())
+
+
+class ManyAskers(unittest.IsolatedAsyncioTestCase):
+    async def test_few_have_a_place_at_the_office_at_once(self):
+        office = SlowOffice()
+        routes = routes_over(office)
+        await asyncio.gather(*(routes.hand_on(make_mocked_request("GET", "/indication")) for _ in range(40)))
+        self.assertEqual((40, MOST_ASKING), (office.all, office.most))
+
+    async def test_many_searches_hold_up_no_value(self):
+        lists = SimpleNamespace(search=lambda words: time.sleep(0.005) or [])
+        routes = routes_over(SlowOffice())
+        routes.counter.books = SimpleNamespace(lists=lists, is_whole=lambda: True)
+        searches = asyncio.gather(*(routes.search(make_mocked_request("GET", f"/search?q={it}")) for it in range(60)))
+        longest, before = 0.0, time.monotonic()
+        while not searches.done():
+            await asyncio.sleep(0)
+            longest, before = max(longest, time.monotonic() - before), time.monotonic()
+        self.assertLess(longest, 0.1)
+
+    async def test_one_export_is_for_all_who_wait_and_none_comes_upon_the_other(self):
+        office = SlowOffice()
+        books, began = Books(office, zoneinfo.ZoneInfo("UTC"), Counter()), time.monotonic()
+        first = [asyncio.ensure_future(books.export_of_now()) for _ in range(20)]
+        await asyncio.sleep(0.02)
+        later = [asyncio.ensure_future(books.export_of_now()) for _ in range(20)]
+        self.assertEqual([b"1"] * 20 + [b"2"] * 20, [(await it).body for it in first + later])
+        self.assertEqual((2, 1), (office.all, office.most))
+        self.assertGreater(time.monotonic() - began, (1 + REST + 1) * 0.05)
+
+    async def test_lists_that_are_always_to_be_read_anew_leave_the_office_time(self):
+        office = SlowOffice()
+        books = Books(office, zoneinfo.ZoneInfo("UTC"), Counter())
+        books.is_empty = lambda: True
+        with mock.patch.multiple("weighbridge_counter.books", LOOK_EVERY=0.001, EMPTY_FOR=0.0, NOT_SOONER_THAN=0.0, PROBE_EVERY=math.inf):
+            with self.assertRaises(asyncio.TimeoutError):
+                await asyncio.wait_for(books.run(), 0.6)
+        self.assertIn(office.all, (2, 3))
+
+
+class AtTheOffice(unittest.IsolatedAsyncioTestCase):
+    async def asyncSetUp(self):
+        self.came: list[bytes] = []
+
+        async def answer(reader, writer):
+            self.came.append(await reader.read(1000))
+            writer.write(b"HTTP/1.1 404 X\r\nContent-Type: text/plain\r\nContent-Length: 2\r\n\r\nno")
+            writer.close()
+
+        listener = await asyncio.start_server(answer, "127.0.0.1", 0)
+        self.addCleanup(listener.close)
+        self.office = Office(listener.sockets[0].getsockname())
+
+    async def test_an_end_of_a_line_in_a_target_begins_no_request(self):
+        for target in ("/tickets/1 HTTP/1.1\r\n\r\nPOST /purge", "/tickets/1\n", "/tickets/ 1", "/tickets/é"):
+            with self.assertRaises(NoAnswer):
+                await self.office.ask("GET", target)
+        self.assertEqual([], self.came)
+
+    async def test_what_a_request_breaks_is_one_line_without_control_characters(self):
+        async def breaks(request):
+            raise ValueError("\x1b[2J\n" * 1000)
+
+        routes = routes_over(self.office)
+        routes.counter.terminal = SimpleNamespace(is_in_doubt=lambda: False)
+        with contextlib.redirect_stderr(io.StringIO()) as said:
+            answer = await routes.guarded(make_mocked_request("GET", "/x%1b", headers={"Host": "127.0.0.1"}), breaks)
+        self.assertEqual((500, 1, False), (answer.status, said.getvalue().count("\n"), "\x1b" in said.getvalue()))
+        self.assertLess(len(said.getvalue()), 400)
+
+    async def test_a_tare_nested_too_deep_is_none(self):
+        request = make_mocked_request("PUT", "/tares/AB-1", match_info={"plate": "AB-1"})
+        request._read_bytes = b"[" * 2000
+        self.assertEqual(422, (await routes_over(self.office).keep_tare(request)).status)
+
+    async def test_a_target_goes_on_as_it_was_written(self):
+        routes = routes_over(self.office)
+        target = "/tickets/1%20HTTP%2F1.1%0D%0A%0D%0APOST%20%2Fpurge"
+        self.assertEqual(404, (await routes.hand_on(make_mocked_request("GET", target))).status)
+        self.assertEqual([f"GET {target} HTTP/1.1\r\n\r\n".encode()], self.came)
+
+
+if __name__ == "__main__":
+    unittest.main()
