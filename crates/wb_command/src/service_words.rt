@@ -27,6 +27,8 @@ pub struct Service {
     pub turns: u64,
     /// Whether what happens is reported on standard error.
     pub is_verbose: bool,
+    /// Whether it is only looked at whether it would start.
+    pub is_look: bool,
 }
 
 /// A text that has to be given: its name, what it stands for, and its help.
@@ -84,6 +86,15 @@ fn verbose_argument<'a>(alloc: Global) -> Arg<'a> {
         .help("report connections, requests and faults on standard error")
 }
 
+fn look_argument<'a>(alloc: Global) -> Arg<'a> {
+    Arg::new(alloc, "check")
+        .long("check")
+        .action(ArgAction::SetTrue)
+        .help(
+            "start nothing, and tell whether it would start: status 0, 1 if not now, 2 if never so",
+        )
+}
+
 /// The subcommand `serve`.
 pub(crate) fn serve_command<'a>(alloc: Global) -> Result<Command<'a>, AllocError> {
     let serve = Command::new(alloc, "serve")
@@ -93,6 +104,7 @@ pub(crate) fn serve_command<'a>(alloc: Global) -> Result<Command<'a>, AllocError
     let serve = with_texts(alloc, serve)?;
     let serve = serve.arg(turns_argument(alloc))?;
     let serve = serve.arg(verbose_argument(alloc))?;
+    let serve = serve.arg(look_argument(alloc))?;
     with_setup(alloc, serve)
 }
 
@@ -118,5 +130,6 @@ pub(crate) fn service_of(
         converter: String::from_str(alloc, converter)?,
         turns,
         is_verbose: words.get_flag("verbose"),
+        is_look: words.get_flag("check"),
     }))
 }

@@ -3,6 +3,7 @@ ghost use Rattle.std.specs.Prelude.{IfSome};
 ghost use Rattle.wb_sources.specs.Converted.{IsConverted};
 ghost use Rattle.wb_window.specs.Reading.{IsReading};
 
+use crate::cause::Cause;
 use crate::converter_lines::Lines;
 use crate::limits::{ENDLESS_LINE, FRESH_SECONDS, LOOK_MILLIS};
 use crate::ready::{Ready, is_past};
@@ -15,10 +16,10 @@ use thiserror::Error;
 use wb_sources::Converter as Said;
 use wb_window::Reading;
 
-/// A converter that can't be opened.
+/// A converter that can't be opened, with the cause.
 #[derive(Clone, Copy, Debug, PartialEq, Eq, Error)]
 #[error("converter fault")]
-pub struct ConverterFault;
+pub struct ConverterFault(pub Cause);
 
 /// Where readings come from. What was read of a line survives a silent second.
 #[derive(Drop)]
@@ -43,12 +44,13 @@ impl<S: Read + OpenStream + Drop> Converter<S> {
         rt: &R,
         text: &str,
     ) -> Result<Self, ConverterFault> {
-        let Some(source) = Source::open(rt, text) else {
-            return Err(ConverterFault);
+        let source = match Source::open(rt, text) {
+            Ok(source) => source,
+            Err(cause) => return Err(ConverterFault(cause)),
         };
         match Instant::now(rt) {
             Ok(now) => Ok(Converter::over(source, now)),
-            Err(_) => Err(ConverterFault),
+            Err(error) => Err(ConverterFault(Cause::of(&error))),
         }
     }
 

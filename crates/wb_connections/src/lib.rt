@@ -5,6 +5,7 @@
 #![tactic(auto)]
 
 mod address;
+mod cause;
 mod connection;
 mod converter;
 mod converter_lines;
@@ -17,6 +18,7 @@ mod terminal;
 mod waiting;
 
 pub use address::{AddressFault, listen, loopback};
+pub use cause::Cause;
 pub use connection::Requests;
 pub use converter::{Converter, ConverterFault};
 pub use converter_lines::{CONVERTER_ROOM, Lines};

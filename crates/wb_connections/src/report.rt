@@ -14,6 +14,11 @@ impl<'a, R: Eprint> Report<'a, R> {
         Report { rt, is_on }
     }
 
+    /// Whether anything is told.
+    pub fn is_on(&self) -> bool {
+        self.is_on
+    }
+
     /// Writes a line. An error of standard error is ignored: it is no fault of the service.
     pub fn line<D: Display + Drop>(&self, line: D) {
         if self.is_on {

@@ -2,6 +2,7 @@
 ghost use Rattle.wb_connections.specs.Ready.{FitsRoom};
 
 use crate::address::loopback;
+use crate::cause::Cause;
 use crate::converter_lines::CONVERTER_ROOM;
 use crate::limits::{CONNECT_SECONDS, PAUSE_MILLIS};
 use crate::ready::{Ready, read_ready};
@@ -25,14 +26,21 @@ pub enum Source<S: Read + OpenStream + Drop> {
 }
 
 impl<S: Read + OpenStream + Drop> Source<S> {
-    /// Opens what a text names: `tcp:` and an address, or the path of a file. None if it can't be opened.
+    /// Opens what a text names: `tcp:` and an address, or the path of a file.
+    ///
+    /// # Errors
+    ///
+    /// What can't be opened, by its cause.
     pub(crate) fn open<R: Files<File = File> + Net<Stream = S>>(
         rt: &R,
         text: &str,
-    ) -> Option<Self> {
-        match text.strip_prefix("tcp:") {
-            Some(address) => Some(Source::Stream(connect(rt, loopback(address)?)?)),
-            None => open_file(rt, text),
+    ) -> Result<Self, Cause> {
+        let Some(address) = text.strip_prefix("tcp:") else {
+            return open_file(rt, text);
+        };
+        match loopback(address) {
+            Some(address) => Ok(Source::Stream(connect(rt, address)?)),
+            None => Err(Cause::NotLoopback),
         }
     }
 
@@ -81,15 +89,21 @@ impl<S: Read + OpenStream + Drop> Source<S> {
     }
 }
 
-/// Connects to an address. None after some seconds, and where the stream's two ends are the same: to a port of this machine on which
+/// Connects to an address. It gives up after some seconds, and where the stream's two ends are the same: to a port of this machine on which
 /// nobody listens, a stream can connect from that port itself.
-fn connect<R: Net>(rt: &R, address: SocketAddrV4) -> Option<R::Stream> {
+fn connect<R: Net>(rt: &R, address: SocketAddrV4) -> Result<R::Stream, Cause> {
     let patience = Duration::from_secs(CONNECT_SECONDS);
-    let stream = TcpStream::connect_timeout(rt, &SocketAddr::V4(address), patience).ok()?;
-    if stream.local_addr().ok()? == stream.peer_addr().ok()? {
-        None
-    } else {
-        Some(stream)
+    match TcpStream::connect_timeout(rt, &SocketAddr::V4(address), patience) {
+        Ok(stream) => other_end(stream),
+        Err(error) => Err(Cause::of(&error)),
+    }
+}
+
+/// The stream, if its two ends aren't the same.
+fn other_end<S: OpenStream + Drop>(stream: S) -> Result<S, Cause> {
+    match (stream.local_addr(), stream.peer_addr()) {
+        (Ok(own), Ok(peer)) if own != peer => Ok(stream),
+        _ => Err(Cause::NobodyListens),
     }
 }
 
@@ -109,19 +123,33 @@ fn set_to_wait<S: OpenStream>(stream: &S, left: Duration) -> io::Result<()> {
     stream.set_read_timeout(Some(left.max(Duration::from_millis(1))))
 }
 
-/// Opens a file by its path. None if it is a directory, or can't be opened.
+/// Opens a file by its path, but no directory.
 fn open_file<R: Files<File = File>, S: Read + OpenStream + Drop>(
     rt: &R,
     path: &str,
-) -> Option<Source<S>> {
-    let kind = fs::metadata(rt, path).ok()?.file_type();
-    if kind.is_dir() {
-        None
-    } else if kind.is_fifo() || kind.is_char_device() {
-        Some(Source::Device(open_device(rt, path).ok()?))
-    } else {
-        Some(Source::Plain(File::open(rt, path).ok()?))
+) -> Result<Source<S>, Cause> {
+    match try_open(rt, path) {
+        Ok(Some(source)) => Ok(source),
+        Ok(None) => Err(Cause::Folder),
+        Err(error) => Err(Cause::of(&error)),
     }
+}
+
+/// The same. None if it is a directory.
+fn try_open<R: Files<File = File>, S: Read + OpenStream + Drop>(
+    rt: &R,
+    path: &str,
+) -> io::Result<Option<Source<S>>> {
+    let kind = fs::metadata(rt, path)?.file_type();
+    if kind.is_dir() {
+        return Ok(None);
+    }
+    let source = if kind.is_fifo() || kind.is_char_device() {
+        Source::Device(open_device(rt, path)?)
+    } else {
+        Source::Plain(File::open(rt, path)?)
+    };
+    Ok(Some(source))
 }
 
 /// Opens a FIFO or a device, for writing too, so that opening waits for no writer.

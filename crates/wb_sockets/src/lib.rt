@@ -6,7 +6,8 @@
 mod clients;
 mod requests;
 mod sockets;
+mod telling;
 
 pub use requests::StationRequests;
 pub use sockets::{Sockets, StartFault};
-pub use wb_connections::{AddressFault, Converter, ConverterFault, listen, loopback};
+pub use wb_connections::{AddressFault, Cause, Converter, ConverterFault, listen, loopback};

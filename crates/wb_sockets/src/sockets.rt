@@ -3,11 +3,12 @@ ghost use Rattle.std.specs.Prelude.{None};
 ghost use Rattle.wb_sources.specs.Converted.{IsConverted};
 
 use crate::clients::Clients;
+use crate::telling::{Answered, Asked, asked};
 use std::alloc::AllocError;
 use std::io::{Read, Write};
 use std::net::{OpenListener, OpenStream, SocketAddr};
+use std::thread;
 use std::time::{Clock, Duration, Instant, SystemTime, UNIX_EPOCH};
-use std::{str, thread};
 use thiserror::Error;
 use wb_connections::{
     Converter, ENDLESS_LINE, FINISH_SECONDS, LOOK_MILLIS, Office, PAUSE_MILLIS, Report, Terminal,
@@ -59,6 +60,8 @@ where
     now: Instant,
     /// When the request that isn't answered yet was handed out.
     asked: Option<Instant>,
+    /// What that request asks, if what happens is told.
+    request: Asked,
 }
 
 impl<'a, R: Clock + Eprint + AllocGlobal, L: OpenListener + Drop> Sockets<'a, R, L>
@@ -92,6 +95,7 @@ where
                 clients,
                 now,
                 asked: None,
+                request: Asked::new(),
             }),
             Err(error) => Err(StartFault::from(error)),
         }
@@ -161,6 +165,9 @@ where
         let now = self.look_at_clock();
         let request = self.clients.office.take(now)?;
         self.asked = Some(now);
+        if self.report.is_on() {
+            self.request = asked(request.bytes());
+        }
         Some(request)
     }
 
@@ -168,6 +175,12 @@ where
     fn end_exchange(&mut self) -> Duration {
         let now = self.look_at_clock();
         now.duration_since(self.asked.take().unwrap_or(now))
+    }
+
+    /// Tells what was asked and answered, to whom, and how long that took.
+    fn tell_exchange(&self, peer: SocketAddr, response: &[u8], took: Duration) {
+        let (asked, answered, millis) = (&self.request, Answered(response), took.as_millis());
+        self.report.line(format_args!("office {peer}: {asked}: {answered} in {millis} ms"));
     }
 
     /// Whether what came may be handed out now: the reading that was handed in last holds, and no line waits behind it. Asked after
@@ -231,7 +244,7 @@ where
         let peer = self.clients.office.respond(self.rt.alloc(), now, bytes);
         let took = self.end_exchange();
         if let Some(peer) = peer {
-            tell_response(&self.report, peer, bytes, took);
+            self.tell_exchange(peer, bytes, took);
         }
     }
 }
@@ -241,24 +254,4 @@ fn tell_listener<R: Eprint, L: OpenListener>(report: &Report<'_, R>, whose: &str
     if let Ok(address) = listener.local_addr() {
         report.line(format_args!("{whose}: listens on {address}"));
     }
-}
-
-/// Tells to whom a response goes, its status, and how long the exchange took.
-fn tell_response<R: Eprint>(
-    report: &Report<'_, R>,
-    peer: SocketAddr,
-    response: &[u8],
-    took: Duration,
-) {
-    let millis = took.as_millis();
-    let status = status_of(response);
-    report.line(format_args!("office {peer}: {status} in {millis} ms"));
-}
-
-/// The three digits of a response's status.
-fn status_of(response: &[u8]) -> &str {
-    let status = response
-        .strip_prefix(b"HTTP/1.1 ")
-        .and_then(|rest| rest.get(..3));
-    str::from_utf8(status.unwrap_or(b"")).unwrap_or("")
 }

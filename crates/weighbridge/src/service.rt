@@ -1,7 +1,8 @@
 //! The service of a bridge, over files and sockets.
 use crate::start::tell_start;
 use sqlite::Alter;
-use std::net::TcpListener;
+use std::fmt::Display;
+use std::net::{TcpListener, TcpStream};
 use thiserror::Error;
 use wb_command::Service;
 use wb_file::JournalFile;
@@ -23,25 +24,27 @@ pub(crate) enum ServiceFault {
     #[error("want of memory")]
     Memory,
     /// An address isn't one of this machine alone, or can't be bound.
-    #[error("address fault")]
-    Address,
+    #[error("{0}")]
+    Address(AddressFault),
     /// The converter can't be opened.
-    #[error("converter fault")]
-    Converter,
+    #[error("{0}")]
+    Converter(ConverterFault),
     /// The clock can't be read.
     #[error("clock fault")]
     Clock,
 }
 
-impl From<AddressFault> for ServiceFault {
-    fn from(_fault: AddressFault) -> Self {
-        ServiceFault::Address
-    }
-}
-
-impl From<ConverterFault> for ServiceFault {
-    fn from(_fault: ConverterFault) -> Self {
-        ServiceFault::Converter
+impl ServiceFault {
+    /// Whether no later start can go better with these words and this file.
+    pub(crate) fn is_for_good(self) -> bool {
+        match self {
+            ServiceFault::Journal(PrintFault::Store(fault)) => {
+                matches!(fault, StoreFault::Foreign | StoreFault::OldVersion)
+            }
+            ServiceFault::Address(AddressFault(cause)) => cause.is_for_good(),
+            ServiceFault::Converter(ConverterFault(cause)) => cause.is_for_good(),
+            ServiceFault::Journal(_) | ServiceFault::Memory | ServiceFault::Clock => false,
+        }
     }
 }
 
@@ -62,7 +65,7 @@ pub(crate) fn serve_bridge(
 ) -> Result<ServeEnd, ServiceFault> {
     match JournalFile::open(rt, service.file.as_str()) {
         Ok(journal) => serve_store(rt, instrument, journal.into_store(), service),
-        Err(fault) => Err(ServiceFault::Journal(PrintFault::Store(fault))),
+        Err(fault) => Err(journal_fault(rt, service, fault)),
     }
 }
 
@@ -112,11 +115,77 @@ fn open_sources<'a>(
     rt: &'a HostRuntime,
     service: &Service,
 ) -> Result<Sockets<'a, HostRuntime, TcpListener>, ServiceFault> {
-    let terminal = listen(rt, service.terminal.as_str())?;
-    let office = listen(rt, service.office.as_str())?;
-    let converter = Converter::open(rt, service.converter.as_str())?;
+    let terminal = listen_at(rt, service, "terminal", &service.terminal)?;
+    let office = listen_at(rt, service, "office", &service.office)?;
+    let converter = open_converter(rt, service)?;
     let sources = Sockets::new(rt, terminal, office, converter, service.is_verbose)?;
     Ok(sources)
+}
+
+/// Listens for the terminal or the office. A fault is told with its cause.
+fn listen_at(
+    rt: &HostRuntime,
+    service: &Service,
+    whose: &str,
+    address: &str,
+) -> Result<TcpListener, ServiceFault> {
+    match listen(rt, address) {
+        Ok(listener) => Ok(listener),
+        Err(fault) => {
+            tell_cause(rt, service, whose, address, fault.0);
+            Err(ServiceFault::Address(fault))
+        }
+    }
+}
+
+/// Opens the converter. A fault is told with its cause.
+fn open_converter(
+    rt: &HostRuntime,
+    service: &Service,
+) -> Result<Converter<TcpStream>, ServiceFault> {
+    match Converter::open(rt, service.converter.as_str()) {
+        Ok(converter) => Ok(converter),
+        Err(fault) => {
+            tell_cause(rt, service, "converter", &service.converter, fault.0);
+            Err(ServiceFault::Converter(fault))
+        }
+    }
+}
+
+/// Tells which file or address a fault is of, and why, if what happens is told.
+pub(crate) fn tell_cause<C: Display + Drop>(
+    rt: &HostRuntime,
+    service: &Service,
+    whose: &str,
+    which: &str,
+    cause: C,
+) {
+    if service.is_verbose || service.is_look {
+        let _ = eprintln!(rt; "{whose} {which}: {cause}");
+    }
+}
+
+/// The journal can't be opened, which is told with its cause.
+pub(crate) fn journal_fault(
+    rt: &HostRuntime,
+    service: &Service,
+    fault: StoreFault,
+) -> ServiceFault {
+    tell_cause(rt, service, "journal", &service.file, cause_of(fault));
+    ServiceFault::Journal(PrintFault::Store(fault))
+}
+
+/// Why a journal isn't opened, in words.
+fn cause_of(fault: StoreFault) -> &'static str {
+    match fault {
+        StoreFault::Memory => "want of memory",
+        StoreFault::Disk => "it can't be read or written whole, or another program has it",
+        StoreFault::Size => "it is larger than a journal can be",
+        StoreFault::Foreign => "it is no journal of this program",
+        StoreFault::OldVersion =>
+            "it is a journal of version 1: weighbridge migrate brings it over",
+        _ => "it isn't open",
+    }
 }
 
 /// A station over the store.

@@ -13,6 +13,7 @@ use wb_store::Store;
 struct Start<'a> {
     instrument: &'a Instrument,
     service: &'a Service,
+    /// The newest entry of the journal.
     newest: Option<Entry>,
 }
 
@@ -20,7 +21,7 @@ impl Display for Start<'_> {
     fn fmt<W: fmt::Write>(&self, f: &mut fmt::Formatter<W>) -> fmt::Result {
         write!(
             f,
-            "start: weighbridge {VERSION}, sources {SOURCES}, proved by {KIT}; "
+            "weighbridge {VERSION}, sources {SOURCES}, proved by {KIT}; "
         )?;
         self.write_setup(f)?;
         write!(f, "; {}, ", self.service.file)?;
@@ -69,7 +70,28 @@ pub(crate) fn tell_start<D: Alter>(
         service,
         newest: store.newest().unwrap_or(None),
     };
-    let _ = eprintln!(rt; "{start}");
+    let _ = eprintln!(rt; "start: {start}");
+    warn(rt, instrument);
+}
+
+/// Prints the same on standard output.
+pub(crate) fn print_start(
+    rt: &HostRuntime,
+    instrument: &Instrument,
+    service: &Service,
+    newest: Option<Entry>,
+) {
+    let start = Start {
+        instrument,
+        service,
+        newest,
+    };
+    let _ = println!(rt; "start: {start}");
+    warn(rt, instrument);
+}
+
+/// Warns of a stability window that is shorter than a second.
+fn warn(rt: &HostRuntime, instrument: &Instrument) {
     let (window, pace) = (instrument.window(), instrument.pace());
     if window < pace {
         let _ = eprintln!(rt;

@@ -97,7 +97,7 @@ static FAULTS: [Row; 10] = [
     ),
 ];
 
-static SERVICES: [Row; 4] = [
+static SERVICES: [Row; 5] = [
     Row(
         "weighbridge serve --file f.db --terminal 127.0.0.1:1 --office 127.0.0.1:2 --converter tcp:127.0.0.1:3",
         "serve: WB01 20 60000 4 2 10 20 90 1000, f.db 127.0.0.1:1 127.0.0.1:2 tcp:127.0.0.1:3 1000000 quiet",
@@ -113,6 +113,10 @@ static SERVICES: [Row; 4] = [
     Row(
         "weighbridge serve --file f.db --terminal 127.0.0.1:1 --office 127.0.0.1:2 --converter tcp:127.0.0.1:3 --verbose --interval 10",
         "serve: WB01 10 60000 4 2 10 20 90 1000, f.db 127.0.0.1:1 127.0.0.1:2 tcp:127.0.0.1:3 1000000 verbose",
+    ),
+    Row(
+        "weighbridge serve --check --file f.db --terminal 127.0.0.1:1 --office 127.0.0.1:2 --converter c",
+        "serve: WB01 20 60000 4 2 10 20 90 1000, f.db 127.0.0.1:1 127.0.0.1:2 c 1000000 quiet, looked at",
     ),
 ];
 
@@ -146,9 +150,9 @@ static MIGRATIONS: [Row; 2] = [
 static VERSIONS: [Row; 2] = [
     Row(
         "weighbridge --version",
-        "words, status 0: weighbridge 2.0.0\n",
+        "words, status 0: weighbridge 2.1.0\n",
     ),
-    Row("weighbridge -V", "words, status 0: weighbridge 2.0.0\n"),
+    Row("weighbridge -V", "words, status 0: weighbridge 2.1.0\n"),
 ];
 
 /// Words, and what their refusal holds.
@@ -221,7 +225,7 @@ static REFUSALS: [Row; 32] = [
 ];
 
 /// Words, and what their help holds.
-static HELP: [Row; 39] = [
+static HELP: [Row; 40] = [
     Row(
         "weighbridge --help",
         "terminal and office of a public weighbridge",
@@ -253,6 +257,7 @@ static HELP: [Row; 39] = [
     Row("weighbridge serve --help", "--turns"),
     Row("weighbridge serve --help", "1000000]"),
     Row("weighbridge serve --help", "--verbose"),
+    Row("weighbridge serve --help", "--check"),
     Row("weighbridge serve --help", "--capacity"),
     Row(
         "weighbridge serve --help",
@@ -317,7 +322,8 @@ fn write_service(service: &Service, text: &mut String) -> Result<(), Fail> {
     } else {
         "quiet"
     };
-    Ok(write!(text, " {} {reports}", service.turns)?)
+    let looks = if service.is_look { ", looked at" } else { "" };
+    Ok(write!(text, " {} {reports}{looks}", service.turns)?)
 }
 
 fn write_setup(what: &str, instrument: &Instrument, text: &mut String) -> Result<(), Fail> {

@@ -20,7 +20,7 @@ const ANSWER: &[u8] = b"HTTP/1.1 200 OK\r\n\r\nSOUND 0\n";
 const TOLD: &str = "terminal 127.0.0.1:0: accepted
 office 127.0.0.1:0: accepted
 office 127.0.0.1:1: accepted
-office 127.0.0.1:0: 200 in 7 ms
+office 127.0.0.1:0: GET /check: 200 SOUND 0 in 7 ms
 terminal 127.0.0.1:0: hung up, it ended
 terminal 127.0.0.1:1: accepted
 office 127.0.0.1:1: closed, the service ends

@@ -1,0 +1,81 @@
+//! What is printed of a journal in a file.
+use crate::start::print_start;
+use sqlite::Alter;
+use std::{io, str};
+use wb_command::Service;
+use wb_file::JournalFile;
+use wb_instrument::Instrument;
+use wb_program::{PrintFault, What, print_check, print_export, print_migrated};
+use wb_store::{Store, StoreFault};
+
+/// Where a journal is that something is printed of.
+#[derive(Clone, Copy)]
+pub(crate) enum Source<'a> {
+    /// In the file.
+    Kept(&'a str),
+    /// In the second file, once that of version 1 in the first one was brought there.
+    Migrated(&'a str, &'a str),
+}
+
+impl Source<'_> {
+    fn open(self, rt: &HostRuntime) -> Result<JournalFile, StoreFault> {
+        match self {
+            Source::Kept(path) => JournalFile::open_copy(rt, path),
+            Source::Migrated(from, to) => JournalFile::migrate(rt, from, to),
+        }
+    }
+}
+
+/// What is printed of a journal.
+#[derive(Clone, Copy)]
+pub(crate) enum Print<'a> {
+    Check,
+    Export(What),
+    /// How many entries it has.
+    Migrated,
+    /// What a service over it would tell at its start.
+    Start(&'a Instrument, &'a Service),
+}
+
+/// Prints this of the journal. Answers false where a check finds damage.
+pub(crate) fn print_journal(
+    rt: &HostRuntime,
+    source: Source<'_>,
+    print: Print<'_>,
+) -> Result<bool, PrintFault> {
+    match source.open(rt) {
+        Ok(mut journal) => print_from(rt, journal.store(), print),
+        Err(fault) => Err(PrintFault::Store(fault)),
+    }
+}
+
+/// Prints this of the store's journal.
+fn print_from<D: Alter>(
+    rt: &HostRuntime,
+    store: &mut Store<D>,
+    print: Print<'_>,
+) -> Result<bool, PrintFault> {
+    let out = &mut io::writer(rt);
+    match print {
+        Print::Check => return print_check(rt.alloc(), store, out),
+        Print::Export(what) => {
+            print_export(rt.alloc(), store, what, out)?;
+            tell_damage(rt, store, ", and was exported as it is");
+        }
+        Print::Migrated => print_migrated(store, out)?,
+        Print::Start(instrument, service) => {
+            print_start(rt, instrument, service, store.newest().unwrap_or(None));
+            tell_damage(rt, store, ", and would be served as it is");
+        }
+    }
+    Ok(true)
+}
+
+/// Tells on standard error that the journal is damaged, if it is, and what is done all the same.
+fn tell_damage<D: Alter>(rt: &HostRuntime, store: &mut Store<D>, done: &str) {
+    let mut found = Vec::new(rt.alloc());
+    if let Ok(false) = print_check(rt.alloc(), store, &mut found) {
+        let text = str::from_utf8(found.as_slice()).unwrap_or("");
+        let _ = eprintln!(rt; "the journal is damaged{done}: {}", text.trim_end());
+    }
+}
