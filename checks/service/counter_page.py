@@ -1,6 +1,7 @@
 """The clerk's page in a real browser, for checks/counter: a day's work by keyboard alone, with what is cut or killed within a press."""
 
 import http.server
+import subprocess
 import threading
 import time
 
@@ -111,6 +112,24 @@ def search_and_withdraw_by_keyboard(bridge, clerk):
     same("the focus returns", "plate", clerk.focus())
     clerk.keys(F4 + ESCAPE)
     same("and from a dialog that is closed", "plate", clerk.focus())
+
+
+def which_program_weighs(bridge, clerk):
+    """The serial opens what an inspector asks for: program, kit, sources, setup, and the newest entry with its digest."""
+    facts = lambda: clerk.browser.run("return document.getElementById('facts').innerText")
+    newest = bridge.entries()[-1]
+    clerk.browser.click("#serial")
+    becomes("the version is there", lambda: "weighbridge " in facts())
+    said = subprocess.run([bridge.program, "--version"], capture_output=True, text=True).stdout.splitlines()
+    same("all three lines of it", [], [line for line in said if line not in facts().splitlines()])
+    setup = f"--terminal 127.0.0.1:{bridge.terminal}"
+    same(
+        "the setup, and the newest entry with its digest",
+        (True, True, True),
+        (setup in facts(), newest[0] in facts().splitlines(), newest[10] in facts()),
+    )
+    clerk.keys(ESCAPE)
+    same("and the focus returns", "plate", clerk.focus())
 
 
 def another_language(bridge, clerk):
@@ -327,6 +346,7 @@ def show(program):
         a_pair_by_keyboard(bridge, clerk)
         a_tare_by_keyboard(bridge, clerk)
         search_and_withdraw_by_keyboard(bridge, clerk)
+        which_program_weighs(bridge, clerk)
         another_language(bridge, clerk)
         refusals(bridge, clerk)
         no_request_twice(bridge, clerk)

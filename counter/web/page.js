@@ -7,6 +7,7 @@ import { search, showLists } from './lists.js';
 import { keepTare, print, showJobs } from './papers.js';
 import { make, part } from './parts.js';
 import { ask, askJson } from './request.js';
+import { showRuns } from './runs.js';
 import { acts, show } from './show.js';
 import { begin, resume, tell } from './weighing.js';
 import { clockOf, kg, language, number, speak, t, useZone, wantedLanguage } from './words.js';
@@ -224,6 +225,7 @@ function listenToHands() {
   part('query').addEventListener('input', search);
   part('language').addEventListener('change', () => change(part('language').value, true).then(focusPlate));
   part('theme').addEventListener('click', turnTheme);
+  part('serial').addEventListener('click', showRuns);
   for (const it of document.querySelectorAll('.close')) it.addEventListener('click', () => it.closest('dialog').close());
   for (const it of document.querySelectorAll('dialog')) it.addEventListener('close', focusPlate);
   document.addEventListener('keydown', keyed);
@@ -234,7 +236,7 @@ function showMoments() {
   const age = feed.age();
   part('age').textContent = linkNow() === 'up' ? t('remote', { seconds: number(Math.max(0.1, age / 1000), 1) }) : '';
   part('clock').textContent = clockOf(Date.now());
-  part('serial').textContent = known.state?.serial ?? '';
+  part('serial').textContent = known.state?.serial || 'ⓘ';
 }
 
 async function main() {

@@ -7,8 +7,16 @@ import { dayOf, has, kg, t, timeOf } from './words.js';
 
 export const paperOf = entry => t(entry.kind === 'second' || entry.kind === 'single' ? 'ticket' : 'slip');
 
+// Papers come in the order in which they were pressed: so the first one is the original.
+let before = Promise.resolve();
+export function print(...paper) {
+  const mine = before.then(() => printOne(...paper));
+  before = mine.catch(() => null);
+  return mine;
+}
+
 // By a printer that the counter has; without one the browser prints. Whether it is the original is the counter's to say. True: a printer has it; false: the browser.
-export async function print(number, printers, byBrowser = false) {
+async function printOne(number, printers, byBrowser = false) {
   if (printers.length && !byBrowser) return (await askJson('POST', `/papers/${number}`, ''))?.status === 202 ? true : null;
   const paper = await askJson('POST', `/papers/${number}/browser`, '');
   if (!paper?.blocks) return null;

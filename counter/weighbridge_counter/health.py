@@ -17,6 +17,13 @@ def service_of(counter: Counter) -> dict[str, Any] | None:
     return {"process": service.process, "started": started, "words": list(service.words), "program": counter.program}
 
 
+def newest_of(counter: Counter) -> dict[str, Any] | None:
+    """The number and the digest of the newest entry on the lists."""
+    number = counter.books.lists.last
+    digest = counter.books.lists.digest_of(number)
+    return None if digest is None else {"number": number, "digest": digest}
+
+
 def faults_of(counter: Counter) -> list[str]:
     state, fanout = counter.state(), counter.terminal.fanout
     has_weight = fanout.is_fresh() and fanout.value is not None and fanout.value.state != "I"
@@ -44,6 +51,7 @@ def health_of(counter: Counter) -> dict[str, Any]:
         "value_age_seconds": None if age is None else round(age, 3),
         "state": counter.state(),
         "service": service_of(counter),
+        "newest": newest_of(counter),
     }
 
 
