@@ -1,12 +1,15 @@
 //! What a station over files is asked before a stop, at it and after it, and whether it is answered as is wanted.
 use super::days::{Step, is_response, is_told, station, take};
 use sqlite::{Alter, Connection, FileStore, Files, Options};
-use sqlite_disk::Disk;
+use sqlite_disk::{Disk, Fuse, Memory};
 use std::alloc::Global;
 use std::test::Fail;
 use wb_station::Station;
 use wb_store::Store;
 use wb_window::{RingWindow, Window};
+
+/// Disks in memory, each of which may fail.
+pub(super) type Fused = Files<Fuse<Memory>>;
 
 /// The first second in which both entries are of age.
 pub(super) const OF_AGE: u64 = 1_749_427_200;
@@ -210,8 +213,17 @@ fn asked_over<D: Alter + Drop>(
 
 /// A station on these disks is asked: the disks as they were left, and what was said.
 ///
-/// No other function holds a connection over files: each is dear to prove, however little it does.
-pub(super) fn asked_on<D: Disk + Drop>(
+/// All others call this, and it alone what is generic over the disks: each such call is dear to prove, however little is done there.
+pub(super) fn asked_on(
+    alloc: Global,
+    disks: Fused,
+    cache_pages: usize,
+    asked: Asked<'_>,
+) -> Result<(Fused, Option<bool>), Fail> {
+    asked_on_any(alloc, disks, cache_pages, asked)
+}
+
+fn asked_on_any<D: Disk + Drop>(
     alloc: Global,
     disks: Files<D>,
     cache_pages: usize,

@@ -1,13 +1,11 @@
 //! Stops at each call of either file's disk while a whole station is asked. Opened again, a fresh station answers as it would if the
 //! stopped request was made, or if it wasn't. Not opened again, it answers 503, and its scale goes on.
 use super::days::Step;
-use super::over_files::{Asked, CHECK, OF_AGE, SECOND, Stop, asked_on};
+use super::over_files::{Asked, CHECK, Fused, OF_AGE, SECOND, Stop, asked_on};
 use sqlite::Files;
 use sqlite_disk::{Crash, Disk, Fuse, Memory};
 use std::alloc::Global;
 use std::test::Fail;
-
-type Fused = Files<Fuse<Memory>>;
 
 /// So few that a stopped request reads from the files.
 const ONE_PAGE: usize = 1;

@@ -1,12 +1,13 @@
 //! Files that hold no store.
 use self::Step::{Adds, Opens, Purges, Removes, Says, Writes};
 use super::{FIRST, entry};
+use sqlite::Alter;
 use std::fs;
 use std::os::unix::fs::MetadataExt;
 use std::process::Abort;
 use std::test::Fail;
 use wb_file::JournalFile;
-use wb_store::StoreFault;
+use wb_store::{Store, StoreFault};
 
 const FOLDER: &str = "weighbridge_test";
 
@@ -134,17 +135,17 @@ fn is_refused(rt: &HostRuntime) -> bool {
         && JournalFile::open(rt, JOURNAL).err() == Some(StoreFault::Disk)
 }
 
-fn adds(rt: &HostRuntime) -> Result<bool, Fail> {
+fn changes(rt: &HostRuntime, step: &Step) -> Result<bool, Fail> {
     let mut journal = JournalFile::open(rt, JOURNAL)?;
-    Ok(match entry(&FIRST) {
-        Some(entry) => journal.store().append(&entry).is_ok(),
-        None => false,
-    })
+    Ok(is_changed(journal.store(), step))
 }
 
-fn purges(rt: &HostRuntime) -> Result<bool, Fail> {
-    let mut journal = JournalFile::open(rt, JOURNAL)?;
-    Ok(journal.store().purge(2) == Ok(1))
+fn is_changed<D: Alter>(store: &mut Store<D>, step: &Step) -> bool {
+    match (step, entry(&FIRST)) {
+        (Adds, Some(entry)) => store.append(&entry).is_ok(),
+        (Purges, _) => store.purge(2) == Ok(1),
+        _ => false,
+    }
 }
 
 fn says(rt: &HostRuntime, line: &str) -> Result<bool, Fail> {
@@ -156,8 +157,7 @@ fn is_done(rt: &HostRuntime, step: &Step) -> Result<bool, Fail> {
     match step {
         Opens(true) => Ok(is_opened(rt)),
         Opens(false) => Ok(is_refused(rt)),
-        Adds => adds(rt),
-        Purges => purges(rt),
+        Adds | Purges => changes(rt, step),
         Writes(text) => Ok(fs::write(rt, WITNESS, *text).is_ok()),
         Removes => Ok(fs::remove_file(rt, WITNESS).is_ok()),
         Says(line) => says(rt, line),

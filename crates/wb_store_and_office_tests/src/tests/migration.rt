@@ -201,7 +201,16 @@ struct Migration {
 type Gave = Option<Result<usize, StoreFault>>;
 
 /// The disks of both databases after a migration, and what it gave.
-fn migrated_on<D: Disk + Drop>(
+fn migrated_on(
+    alloc: Global,
+    old: Disks,
+    new: Disks,
+    migration: &Migration,
+) -> (Disks, Disks, Gave) {
+    migrated_over(alloc, old, new, migration)
+}
+
+fn migrated_over<D: Disk + Drop>(
     alloc: Global,
     old: Files<D>,
     new: Files<D>,

@@ -73,7 +73,18 @@ pub(super) fn closed<D: Disk + Drop>(conn: Connection<FileStore<D>>) -> Files<D>
 
 /// Runs the steps on the disks up to the first that isn't as wanted. Answers the disks and how many things were as wanted: the
 /// connection, and then each step and each call of a store. A log of so many pages is copied into the database.
-pub(super) fn run<D: Disk + Drop>(
+///
+/// All others call this, and it alone what is generic over the disks: each such call is dear to prove.
+pub(super) fn run(
+    alloc: Global,
+    disks: Disks,
+    checkpoint_frames: usize,
+    steps: &[Step<'_>],
+) -> (Disks, usize) {
+    run_over(alloc, disks, checkpoint_frames, steps)
+}
+
+fn run_over<D: Disk + Drop>(
     alloc: Global,
     disks: Files<D>,
     checkpoint_frames: usize,
