@@ -1,6 +1,6 @@
 """What a document's page names in this repository: rules of docs/rules.md, definitions, tests, traces, wrong bodies, and clauses of public calls.
 
-The public calls, and which of their clauses are promised, are those of docs/promises.md; what clauses a call has stands in its source. It needs
+The public calls, and which of their clauses are promised, are those of the READMEs of the crates; what clauses a call has stands in its source. It needs
 python3 alone.
 """
 import functools
@@ -160,12 +160,15 @@ def words_of_specs(crate):
 
 
 def promised_rows():
-    """Of each row of docs/promises.md that names calls: its crates, the calls, and the clauses."""
-    crates, is_table, named = [], False, ""
-    for line in read("docs/promises.md").splitlines():
-        if line.startswith("## "):
-            crates, is_table = re.findall(r"wb_\w+|weighbridge", line), False
-        elif line.startswith("|"):
+    """Of each row of a crate's README that names calls: the crates that its title names, the calls, and the clauses."""
+    for path in sorted(paths("crates/*/README.md")):
+        yield from rows_of_promises(read(path))
+
+
+def rows_of_promises(page):
+    crates, is_table, named = re.findall(r"wb_\w+|weighbridge\w*", page.split("\n", 1)[0]), False, ""
+    for line in page.partition("\n## Promises\n")[2].partition("\n## ")[0].splitlines():
+        if line.startswith("|"):
             cells = [it.strip() for it in line.strip("|").split("|")]
             if cells[0] in ("Call", "Law"):
                 is_table, named = True, ""
@@ -196,7 +199,7 @@ def owners_of(crate, names):
 
 @functools.cache
 def promised():
-    """The clauses that docs/promises.md promises, as crate, function's type and name, and clause."""
+    """The clauses that the READMEs of the crates promise, as crate, function's type and name, and clause."""
     found = set()
     for crates, names, cell in promised_rows():
         for crate in crates:
@@ -238,10 +241,10 @@ def clause_missing(crate, name, clauses):
     if len(owners) != 1:
         return f"{crate} has no public call {name}" if not owners else f"of {crate} {name} is any of {', '.join(sorted(owners))}"
     if not clauses_named(crate, name, []) and not clauses:
-        return f"{crate}: {name} has no clause without a name that docs/promises.md lists: name its clauses"
+        return f"{crate}: {name} has no clause without a name that its README lists: name its clauses"
     for clause in clauses:
         if not clauses_named(crate, name, [clause]):
-            return f"docs/promises.md and the source have no clause {clause} of {crate}: {name}"
+            return f"the README and the source have no clause {clause} of {crate}: {name}"
     return None
 
 
