@@ -1,7 +1,8 @@
 """Random traces of a weighbridge station, compared between a program and the model beside this file.
 
 `python3 random_traces.py PROGRAM COUNT SEED` prints the first ten traces over which the two differ, and how many there were. With one word
-more it prints how often each answer came.
+more it prints how often each answer came. Where they differ, and the distribution's `hypothesis` is there, a small trace is looked for over which they
+still do.
 """
 import random
 import subprocess
@@ -25,8 +26,8 @@ TARGETS = ["/weighings", "/voids", "/purge", "/tickets/1", "/tickets/2", "/ticke
 class Maker:
     """Makes one random trace, step by step, with a drifting clock and load."""
 
-    def __init__(self, seed):
-        self.random = random.Random(seed)
+    def __init__(self, source):
+        self.random = source
         pick = self.random.choice
         self.interval = pick([1, 2, 5, 10, 20, 20, 50])
         count = pick([500, 501, 502, 503, 504, 1000, 3000, 3000, 3001, 9999, 10000])
@@ -239,29 +240,56 @@ class Maker:
         return text.encode("latin-1")
 
 
+class Compared:
+    """What the program and the model print of a random trace."""
+
+    def __init__(self, program, source):
+        maker = Maker(source)
+        self.trace = maker.trace()
+        self.words = [word for option, value in maker.options.items() for word in (f"--{option}", str(value))]
+        run = subprocess.run([program, "replay"] + self.words, input=self.trace, capture_output=True)
+        self.printed = run.stdout, run.stderr.decode(), run.returncode
+        self.model = station_model.replay(station_model.setup_of_words(self.words), self.trace)
+
+    def show(self, title):
+        got, wanted = self.printed[0].split(b"\n"), self.model[0].split(b"\n")
+        place = next((i for i, (a, b) in enumerate(zip(got, wanted)) if a != b), min(len(got), len(wanted)))
+        print(f"--- {title}: {' '.join(self.words)}\n  line {place + 1}: program {got[place:place + 2]} model {wanted[place:place + 2]} {self.printed[1:]} {self.model[1:]}")
+        print(self.trace.decode("latin-1"))
+
+
+def show_smallest(program):
+    """Prints a small trace over which the two differ, if hypothesis is there and finds one."""
+    try:
+        from hypothesis import HealthCheck, Phase, find, settings, strategies
+        from hypothesis.errors import NoSuchExample
+    except ImportError:
+        print("no smaller trace is looked for: python3-hypothesis isn't installed")
+        return
+    rules = settings(max_examples=2000, deadline=None, database=None, phases=[Phase.generate, Phase.shrink], suppress_health_check=list(HealthCheck))
+    traces = strategies.randoms(use_true_random=False).map(lambda source: Compared(program, source))
+    try:
+        find(traces, lambda both: both.printed != both.model, settings=rules).show("a small one")
+    except NoSuchExample:
+        print("no smaller trace was found")
+
+
 def main():
     program, count, seed = sys.argv[1], int(sys.argv[2]), int(sys.argv[3])
     different = 0
     seen = {}
     for number in range(seed, seed + count):
-        maker = Maker(number)
-        trace = maker.trace()
-        words = [word for option, value in maker.options.items() for word in (f"--{option}", str(value))]
-        run = subprocess.run([program, "replay"] + words, input=trace, capture_output=True)
-        model = station_model.replay(station_model.setup_of_words(words), trace)
-        for line in model[0].split(b"\n"):
+        both = Compared(program, random.Random(number))
+        for line in both.model[0].split(b"\n"):
             kind = line[2:12] if line.startswith(b"t ") else line[:24]
             if line.startswith((b"t ", b"o ", b"| refused", b"| fault", b"| PURGED")):
                 seen[kind] = seen.get(kind, 0) + 1
-        if (run.stdout, run.stderr.decode(), run.returncode) != model:
+        if both.printed != both.model:
             different += 1
             if different <= 10:
-                got, wanted = run.stdout.split(b"\n"), model[0].split(b"\n")
-                place = next((i for i, (a, b) in enumerate(zip(got, wanted)) if a != b), min(len(got), len(wanted)))
-                print(f"--- seed {number}: {' '.join(words)}\n  line {place + 1}: program {got[place:place + 2]}"
-                      f" model {wanted[place:place + 2]}"
-                      f" {run.stderr!r} {model[1]!r} {run.returncode} {model[2]}")
-                print(trace.decode("latin-1"))
+                both.show(f"seed {number}")
+    if different:
+        show_smallest(program)
     print(f"{count} traces, {different} differences")
     if len(sys.argv) > 4:
         for kind, times in sorted(seen.items()):
