@@ -216,6 +216,26 @@ static void weighing(void) {
     free(terminal);
 }
 
+/* A terminal in memory that the program reserves, seen by who may only look; and calls by their addresses and as members, whose names no macro takes. */
+static void reserved(void) {
+    static weighbridge_terminal_memory memory;
+    struct {
+        size_t (*weighbridge_terminal_replies)(const weighbridge_terminal *terminal);
+    } calls = {weighbridge_terminal_replies};
+    weighbridge_terminal *terminal = weighbridge_terminal_in(&memory);
+    const weighbridge_terminal *seen = terminal;
+    weighbridge_terminal_indication shown;
+    uint8_t buffer[WEIGHBRIDGE_TERMINAL_REPLY_BYTES];
+    IS(sizeof memory, weighbridge_terminal_size());
+    IS(weighbridge_terminal_open(terminal, &ROAD), WEIGHBRIDGE_TERMINAL_OK);
+    IS(weighbridge_terminal_bytes(terminal, (const uint8_t *)"I4\n", 3), 3);
+    weighbridge_terminal_memory before = memory;
+    IS(calls.weighbridge_terminal_replies(seen), 1);
+    IS(weighbridge_terminal_reply(seen, 0, buffer, sizeof buffer), 13);
+    IS(weighbridge_terminal_indicate(seen, &shown), 0);
+    IS(memcmp(&before, &memory, sizeof memory), 0);
+}
+
 static void texts(void) {
     for (uint32_t answer = 0; answer <= 10; answer++) {
         IS(strcmp(weighbridge_terminal_error(answer), "unknown") == 0, answer == 8 || answer == 9);
@@ -236,6 +256,9 @@ int main(int argc, char **argv) {
     }
     IS(weighbridge_terminal_version(), WEIGHBRIDGE_TERMINAL_VERSION);
     IS(weighbridge_terminal_size() % weighbridge_terminal_alignment(), 0);
+    IS(weighbridge_terminal_size(), WEIGHBRIDGE_TERMINAL_SIZE);
+    IS(weighbridge_terminal_alignment(), WEIGHBRIDGE_TERMINAL_ALIGNMENT);
+    reserved();
     setups();
     nulls();
     buffers();

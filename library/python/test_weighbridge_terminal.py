@@ -1,12 +1,13 @@
 """Tests of the Python module. `python3 -m unittest` in this folder, with WEIGHBRIDGE_TERMINAL_LIBRARY if the library is elsewhere."""
 
 import copy
+import ctypes
 import doctest
 import pickle
 import unittest
 
 import weighbridge_terminal
-from weighbridge_terminal import Indication, Setup, SetupError, Terminal
+from weighbridge_terminal import Indication, Setup, SetupError, State, Terminal
 
 
 def steady(terminal, tenths, readings=4):
@@ -57,7 +58,21 @@ class Lines(unittest.TestCase):
         self.assertEqual([reply for byte in text for reply in pieces.send(bytes([byte]))], wanted)
 
     def test_tells_each_command(self):
-        self.assertEqual(Terminal().send("I0\r\n"), ['I0 B 0 "@"', 'I0 B 0 "I0"', 'I0 B 0 "I4"', 'I0 B 0 "S"', 'I0 B 0 "SI"', 'I0 B 0 "SIR"', 'I0 B 0 "Z"', 'I0 B 1 "T"', 'I0 B 1 "TA"', 'I0 A 1 "TAC"'])
+        self.assertEqual(
+            Terminal().send("I0\r\n"),
+            [
+                'I0 B 0 "@"',
+                'I0 B 0 "I0"',
+                'I0 B 0 "I4"',
+                'I0 B 0 "S"',
+                'I0 B 0 "SI"',
+                'I0 B 0 "SIR"',
+                'I0 B 0 "Z"',
+                'I0 B 1 "T"',
+                'I0 B 1 "TA"',
+                'I0 A 1 "TAC"',
+            ],
+        )
 
     def test_repeats_the_value(self):
         terminal = Terminal()
@@ -83,7 +98,24 @@ class Lines(unittest.TestCase):
 
 class Setups(unittest.TestCase):
     def test_names_the_first_part_outside_its_limits(self):
-        rows = [("interval_kg", 3), ("max_kg", 60001), ("window", 3), ("window", 65), ("band", 3), ("pace", 51), ("wait", 0), ("wait", 601), ("serial", ""), ("serial", "wb01"), ("serial", "A" * 17), ("serial", "A" * 30), ("serial", "WB\0"), ("serial", "Ä"), ("max_kg", -1), ("max_kg", 2**32 + 60000)]
+        rows = [
+            ("interval_kg", 3),
+            ("max_kg", 60001),
+            ("window", 3),
+            ("window", 65),
+            ("band", 3),
+            ("pace", 51),
+            ("wait", 0),
+            ("wait", 601),
+            ("serial", ""),
+            ("serial", "wb01"),
+            ("serial", "A" * 17),
+            ("serial", "A" * 30),
+            ("serial", "WB\0"),
+            ("serial", "Ä"),
+            ("max_kg", -1),
+            ("max_kg", 2**32 + 60000),
+        ]
         for name, value in rows:
             with self.assertRaises(SetupError) as caught:
                 Terminal(**{name: value})
@@ -93,7 +125,19 @@ class Setups(unittest.TestCase):
         self.assertEqual(caught.exception.part.name, "pace")
 
     def test_takes_the_limits_themselves(self):
-        for parts in ({"window": 4}, {"window": 64}, {"band": 1}, {"pace": 2}, {"pace": 50}, {"wait": 1}, {"wait": 600}, {"serial": "A"}, {"serial": "A1B2C3D4E5F6G7H8"}, {"interval_kg": 50, "max_kg": 500000}, {"interval_kg": 1, "max_kg": 500}):
+        for parts in (
+            {"window": 4},
+            {"window": 64},
+            {"band": 1},
+            {"pace": 2},
+            {"pace": 50},
+            {"wait": 1},
+            {"wait": 600},
+            {"serial": "A"},
+            {"serial": "A1B2C3D4E5F6G7H8"},
+            {"interval_kg": 50, "max_kg": 500000},
+            {"interval_kg": 1, "max_kg": 500},
+        ):
             self.assertEqual(Terminal(**parts).setup, Setup(**parts))
         self.assertEqual(Terminal(Setup(serial="A1B2C3D4E5F6G7H8")).send("I4\n"), ['I4 A "A1B2C3D4E5F6G7H8"'])
 
@@ -102,6 +146,19 @@ class Setups(unittest.TestCase):
             Terminal(Setup(), window=5)
         with self.assertRaises(TypeError):
             Terminal(retention=90)
+
+    def test_refuses_values_of_other_types(self):
+        rows = [{"interval_kg": "20"}, {"max_kg": 60000.0}, {"window": b"4"}, {"serial": 7}, {"serial": b"WB01"}, {"setup": {"window": 4}}]
+        for parts in rows:
+            with self.assertRaises(TypeError, msg=parts):
+                Terminal(**parts)
+        for wrong in ("9170", 9170.0, [9170]):
+            with self.assertRaises(TypeError, msg=wrong):
+                Terminal().reading(wrong)
+        for wrong in (5, None, ["SI\r\n"]):
+            with self.assertRaises(TypeError, msg=wrong):
+                Terminal().send(wrong)
+        self.assertTrue(issubclass(SetupError, ValueError))
 
 
 class Objects(unittest.TestCase):
@@ -117,7 +174,19 @@ class Objects(unittest.TestCase):
                 attempt(Terminal())
 
     def test_tells_its_version(self):
-        self.assertRegex(weighbridge_terminal.VERSION, r"^1\.\d+\.\d+$")
+        self.assertEqual(weighbridge_terminal.VERSION, weighbridge_terminal.__version__)
+        self.assertRegex(weighbridge_terminal.__version__, r"^\d+\.\d+\.\d+$")
+
+    def test_tells_states_as_an_enum_and_as_texts(self):
+        terminal = Terminal()
+        self.assertIs(terminal.indication().state, State.NO_LOAD)
+        steady(terminal, 9170)
+        self.assertIs(terminal.indication().state, State.STABLE)
+        self.assertEqual([str(it) for it in State], ["NO LOAD", "OVERLOAD", "UNDERLOAD", "MOVING", "STABLE"])
+        self.assertEqual(f"{State.NO_LOAD}", "NO LOAD")
+
+    def test_keeps_the_lock_of_the_interpreter(self):
+        self.assertIsInstance(weighbridge_terminal._library, ctypes.PyDLL)
 
 
 def load_tests(loader, tests, pattern):

@@ -7,38 +7,56 @@
     >>> terminal.send("SI\\r\\n")
     ['S S      18340 kg']
     >>> terminal.indication()
-    Indication(state='STABLE', gross_kg=18340, net_kg=18340)
+    Indication(state=<State.STABLE: 'STABLE'>, gross_kg=18340, net_kg=18340)
 
-What a terminal answers is proved for every history of calls; docs/library.md says what. One terminal may be used by one thread at a time.
+What a terminal answers is proved for every history of calls; docs/library.md says what. A value of another type is a TypeError, and a setup outside its
+limits a SetupError, which is a ValueError. No call takes longer than some microseconds, and each keeps the interpreter's lock; one terminal may be
+used by one thread at a time.
 """
 
 from __future__ import annotations
 
 import ctypes
+import dataclasses
+import enum
+import operator
 import os
-from dataclasses import dataclass
-from typing import NamedTuple, Optional, Union
+from typing import Any, NamedTuple, Optional, Union
 
-__all__ = ["Indication", "Part", "SetupError", "Setup", "Terminal", "VERSION"]
+__all__ = ["Indication", "Part", "Setup", "SetupError", "State", "Terminal", "VERSION", "__version__"]
+__version__ = "2.1.0"
 
-LIBRARY = os.environ.get("WEIGHBRIDGE_TERMINAL_LIBRARY") or os.path.join(os.path.dirname(os.path.abspath(__file__)), "libweighbridge-terminal.so")
+# The library's file, which changes its number only if this module has to change with it.
+FILE = "libweighbridge-terminal.so.2"
 LOST = 2**63 - 1
 REPLY_BYTES = 32
 SERIAL_BYTES = 20
-STATES = ("NO LOAD", "OVERLOAD", "UNDERLOAD", "MOVING", "STABLE")
+# The bytes that are handed in by one call at most, since other threads wait meanwhile.
+BYTES_A_CALL = 65_536
 
 
 class _CSetup(ctypes.Structure):
-    _fields_ = [(name, ctypes.c_uint32) for name in ("interval_kg", "max_kg", "window", "band", "pace", "wait")] + [("serial", ctypes.c_char * SERIAL_BYTES)]
+    _fields_ = [(name, ctypes.c_uint32) for name in ("interval_kg", "max_kg", "window", "band", "pace", "wait")] + [
+        ("serial", ctypes.c_char * SERIAL_BYTES)
+    ]
 
 
 class _CIndication(ctypes.Structure):
     _fields_ = [("state", ctypes.c_uint32), ("gross_kg", ctypes.c_int32), ("net_kg", ctypes.c_int32)]
 
 
-def _load(path: str) -> ctypes.CDLL:
+def _path() -> str:
+    """The library that a variable names, or that lies beside this module, or else the system's."""
+    beside = os.path.join(os.path.dirname(os.path.abspath(__file__)), FILE)
+    return os.environ.get("WEIGHBRIDGE_TERMINAL_LIBRARY") or (beside if os.path.exists(beside) else FILE)
+
+
+def _load(path: str) -> ctypes.PyDLL:
     """The library, each function with its types: without them a pointer would be passed as an int of 32 bits."""
-    library = ctypes.CDLL(path)
+    try:
+        library = ctypes.PyDLL(path)
+    except OSError as fault:
+        raise ImportError(f"{fault}; install libweighbridge-terminal2, or name the library by WEIGHBRIDGE_TERMINAL_LIBRARY") from None
     types = {
         "version": (ctypes.c_uint32, []),
         "size": (ctypes.c_size_t, []),
@@ -58,10 +76,32 @@ def _load(path: str) -> ctypes.CDLL:
     return library
 
 
-_library = _load(LIBRARY)
+_library = _load(_path())
+_number = _library.weighbridge_terminal_version()
 
-VERSION: str = "{}.{}.{}".format(_library.weighbridge_terminal_version() // 10000, _library.weighbridge_terminal_version() // 100 % 100, _library.weighbridge_terminal_version() % 100)
+VERSION: str = f"{_number // 10000}.{_number // 100 % 100}.{_number % 100}"
 """The version of the library."""
+
+
+class State(str, enum.Enum):
+    """The states of an indication. Each is its text too."""
+
+    NO_LOAD = "NO LOAD"
+    """The last reading is lost, or there is none."""
+    OVERLOAD = "OVERLOAD"
+    """Gross is above Max + 9 e."""
+    UNDERLOAD = "UNDERLOAD"
+    """Gross is below -20 e."""
+    MOVING = "MOVING"
+    """Weights that aren't stable."""
+    STABLE = "STABLE"
+    """Stable weights."""
+
+    def __str__(self) -> str:
+        return self.value
+
+
+STATES = tuple(State)
 
 
 class Part(NamedTuple):
@@ -91,7 +131,15 @@ class SetupError(ValueError):
         self.part = part
 
 
-@dataclass(frozen=True)
+def _whole(name: str, value: Any) -> int:
+    """The value as a whole number, as Python's own calls take one."""
+    try:
+        return operator.index(value)
+    except TypeError:
+        raise TypeError(f"{name} is to be an int, and is {type(value).__name__}") from None
+
+
+@dataclasses.dataclass(frozen=True)
 class Setup:
     """What is stated of an instrument."""
 
@@ -110,6 +158,12 @@ class Setup:
     serial: str = "WB01"
     """1 to 16 characters of A-Z and 0-9."""
 
+    def __post_init__(self) -> None:
+        for part in PARTS[:-1]:
+            object.__setattr__(self, part.name, _whole(part.name, getattr(self, part.name)))
+        if not isinstance(self.serial, str):
+            raise TypeError(f"serial is to be a str, and is {type(self.serial).__name__}")
+
     def _as_c(self) -> _CSetup:
         for part in PARTS[:-1]:
             if not 0 <= getattr(self, part.name) < 2**32:
@@ -124,8 +178,7 @@ class Setup:
 class Indication(NamedTuple):
     """What is indicated."""
 
-    state: str
-    """`NO LOAD`, `OVERLOAD`, `UNDERLOAD`, `MOVING` or `STABLE`."""
+    state: State
     gross_kg: Optional[int]
     """Gross in kilograms; none but in the last two states."""
     net_kg: Optional[int]
@@ -133,17 +186,32 @@ class Indication(NamedTuple):
 
     @property
     def is_stable(self) -> bool:
-        return self.state == "STABLE"
+        return self.state is State.STABLE
 
 
 class Terminal:
     """A terminal over a scale that has no reading yet."""
 
-    def __init__(self, setup: Optional[Setup] = None, **parts: Union[int, str]) -> None:
+    def __init__(
+        self,
+        setup: Optional[Setup] = None,
+        *,
+        interval_kg: Optional[int] = None,
+        max_kg: Optional[int] = None,
+        window: Optional[int] = None,
+        band: Optional[int] = None,
+        pace: Optional[int] = None,
+        wait: Optional[int] = None,
+        serial: Optional[str] = None,
+    ) -> None:
         """Opens a terminal of a setup, or of these parts of one. Raises SetupError if one is outside its limits."""
+        values = (interval_kg, max_kg, window, band, pace, wait, serial)
+        parts = {part.name: value for part, value in zip(PARTS, values) if value is not None}
         if setup is not None and parts:
             raise TypeError("either a setup or its parts")
-        self.setup: Setup = Setup(**parts) if setup is None else setup  # type: ignore[arg-type]
+        if not isinstance(setup, (Setup, type(None))):
+            raise TypeError(f"setup is to be a Setup, and is {type(setup).__name__}")
+        self.setup: Setup = setup or dataclasses.replace(Setup(), **parts)
         room, step = _library.weighbridge_terminal_size(), _library.weighbridge_terminal_alignment()
         # The memory is this object's as long as it lives; the terminal lies at the first place in it that is aligned.
         self._memory = ctypes.create_string_buffer(room + step - 1)
@@ -166,23 +234,25 @@ class Terminal:
     def reading(self, tenths: Optional[int]) -> list[str]:
         """Takes a reading of the load converter, in tenths of e from -2,000,000 to 2,000,000; None is a reading that failed, and so is any
         other number. Returns the replies at it, without their CR LF."""
-        inside = tenths is not None and -(2**63) <= tenths < 2**63
-        _library.weighbridge_terminal_reading(self._at, tenths if inside else LOST)
+        load = LOST if tenths is None else _whole("a reading", tenths)
+        _library.weighbridge_terminal_reading(self._at, load if -(2**63) <= load < 2**63 else LOST)
         return self._replies()
 
     def lost(self) -> list[str]:
         """Takes a reading that failed. Returns the replies at it."""
         return self.reading(None)
 
-    def send(self, text: Union[str, bytes]) -> list[str]:
+    def send(self, text: Union[str, bytes, bytearray, memoryview]) -> list[str]:
         """Takes bytes of the terminal's stream, in any pieces; a line ends with an LF, or with CR LF. Returns the replies in their order,
         without their CR LF."""
+        if not isinstance(text, (str, bytes, bytearray, memoryview)):
+            raise TypeError(f"a text is to be a str or bytes, and is {type(text).__name__}")
         data = text.encode() if isinstance(text, str) else bytes(text)
         held = ctypes.create_string_buffer(data, len(data) + 1)
         replies: list[str] = []
         taken = 0
         while taken < len(data):
-            taken += _library.weighbridge_terminal_bytes(self._at, ctypes.addressof(held) + taken, len(data) - taken)
+            taken += _library.weighbridge_terminal_bytes(self._at, ctypes.addressof(held) + taken, min(BYTES_A_CALL, len(data) - taken))
             replies += self._replies()
         return replies
 
@@ -194,7 +264,7 @@ class Terminal:
         """What is indicated of the last reading."""
         _library.weighbridge_terminal_indicate(self._at, self._shown)
         state = STATES[self._shown.state]
-        if state in ("MOVING", "STABLE"):
+        if state in (State.MOVING, State.STABLE):
             return Indication(state, self._shown.gross_kg, self._shown.net_kg)
         return Indication(state, None, None)
 

@@ -1,0 +1,11 @@
+# Any version that has the same first place, and isn't older, will do.
+set(PACKAGE_VERSION "@version@")
+string(REGEX MATCH "^[0-9]+" _weighbridge_terminal_first "${PACKAGE_VERSION}")
+if(PACKAGE_FIND_VERSION VERSION_GREATER PACKAGE_VERSION OR NOT PACKAGE_FIND_VERSION_MAJOR STREQUAL _weighbridge_terminal_first)
+  set(PACKAGE_VERSION_COMPATIBLE FALSE)
+else()
+  set(PACKAGE_VERSION_COMPATIBLE TRUE)
+  if(PACKAGE_FIND_VERSION VERSION_EQUAL PACKAGE_VERSION)
+    set(PACKAGE_VERSION_EXACT TRUE)
+  endif()
+endif()
