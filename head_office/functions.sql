@@ -6,15 +6,14 @@ set local search_path = head_office;
 
 -- Entries --------------------------------------------------------------------------------------------------------------------------------
 
--- The entry's text by SHA-256: of version 2, with the previous digest, and of version 1 where there is none. Stable, since `convert_to` and `format`
--- are: PostgreSQL puts no function into a query that claims more than its body.
+-- The entry's text by SHA-256: of version 2, with the previous digest, and of version 1 where there is none. Stable, since `convert_to` is: PostgreSQL
+-- puts no function into a query that claims more than its body.
 create or replace function digest_of(number bigint, key text, kind text, plate text, moment timestamp, gross_kg integer, preset_kg integer,
     interval_kg integer, max_kg integer, serial text, previous text) returns bytea stable parallel safe
-    return sha256(convert_to(format(
-        E'version %s\nnumber %s\nkey %s\nkind %s\nplate %s\nmoment %s\ngross %s\npreset %s\ninterval %s\nmax %s\nserial %s\n%s',
-        case when previous is null then 1 else 2 end, number, key, kind, plate, extract(epoch from moment)::bigint,
-        coalesce(gross_kg::text, '-'), coalesce(preset_kg::text, '-'), interval_kg, max_kg, serial,
-        coalesce(E'previous ' || previous || E'\n', '')), 'UTF8'));
+    return sha256(convert_to(case when previous is null then 'version 1' else 'version 2' end || E'\nnumber ' || number || E'\nkey ' || key
+        || E'\nkind ' || kind || E'\nplate ' || plate || E'\nmoment ' || date_part('epoch', moment)::bigint || E'\ngross ' || coalesce(gross_kg::text, '-')
+        || E'\npreset ' || coalesce(preset_kg::text, '-') || E'\ninterval ' || interval_kg || E'\nmax ' || max_kg || E'\nserial ' || serial || E'\n'
+        || coalesce(E'previous ' || previous || E'\n', ''), 'UTF8'));
 
 -- A record as a line of an export, of version 1 where there is no previous digest. The digest of a changed entry may hold any text, also such as a
 -- terminal obeys.
@@ -236,6 +235,11 @@ create or replace function wants_whole(of_bridge text) returns boolean stable la
         where b.bridge = of_bridge order by j.journal desc limit 1), true)
 $$;
 
+-- The records that this transaction handed in.
+create or replace view at_hand as
+    select number, key, kind, plate, moment, gross_kg, preset_kg, interval_kg, max_kg, serial, digest, previous
+    from handed where login = session_user and within = pg_current_xact_id();
+
 -- Who loads what, under the lock of the bridge: one load at a time, and what follows sees what the one before stored.
 create or replace function admit(of_bridge text, is_newest boolean, fetched timestamptz) returns taking language plpgsql as $$
 declare
@@ -256,33 +260,25 @@ begin
     return it;
 end $$;
 
--- The records that this transaction handed in, each held against its own digest. No service writes a previous digest of another form.
-create or replace function judge() returns void language plpgsql as $$
-begin
-    create temporary table judged on commit drop as
-    select h.number, h.key, h.kind, h.plate, h.moment, h.gross_kg, h.preset_kg, h.interval_kg, h.max_kg, h.serial, h.digest, h.previous, h.own,
-        encode(h.own, 'hex') = h.digest and coalesce(h.previous ~ '^[0-9a-f]{64}$', true) and h.moment = date_trunc('second', h.moment) as sound
-    from (
-        select *, digest_of(number, key, kind, plate, moment, gross_kg, preset_kg, interval_kg, max_kg, serial, previous) as own
-        from handed where login = session_user and within = pg_current_xact_id() offset 0) h;
-    delete from handed where login = session_user;
-end $$;
+-- Whether a record fits its digest. No service writes a previous digest of another form, or a part of a second.
+create or replace function is_sound(it at_hand) returns boolean stable
+    return encode(digest_of(it.number, it.key, it.kind, it.plate, it.moment, it.gross_kg, it.preset_kg, it.interval_kg, it.max_kg, it.serial, it.previous), 'hex') = it.digest
+        and coalesce(length(it.previous) = 64 and it.previous !~ '[^0-9a-f]', true) and it.moment = date_trunc('second', it.moment);
+
+-- A digest of 64 hexadecimal digits; of any other text NULL.
+create or replace function digest_in(it text) returns bytea immutable parallel safe
+    return case when length(it) = 64 and it !~ '[^0-9a-f]' then decode(it, 'hex') end;
 
 -- Refuses what can't be of this bridge.
 create or replace function refuse_others(it taking) returns void language plpgsql as $$
 declare
     other record;
 begin
-    select r.serial, i.bridge into other from (select distinct serial from judged where sound) r left join instrument i using (serial)
-    where i.bridge is distinct from it.bridge order by r.serial limit 1;
+    select r.serial, i.bridge into other from at_hand r left join instrument i using (serial)
+    where r.serial not in (select serial from instrument where bridge = it.bridge) and is_sound(r) limit 1;
     if other.serial is not null then
         perform refuse('serial', format('serial %s is %s', other.serial, coalesce('registered for ' || other.bridge, 'not registered')));
-    end if;
-    select number into other from judged where sound group by number having count(*) > 1 limit 1;
-    if other.number is not null then
-        perform refuse('form', format('number %s stands twice in the export', other.number));
-    end if;
-    if it.is_newest and exists (select from judged where previous is null) then
+    elsif it.is_newest and exists (select from at_hand where previous is null) then
         perform refuse('form', 'nothing ties the newest entries alone of version 1 to what is stored: load the whole export');
     end if;
 end $$;
@@ -296,12 +292,12 @@ declare
     last   entry;
     beside record;
 begin
-    select m.journal into its
-    from (
-        select j.journal, count(*) as many from journal j cross join judged r cross join lateral (
-            select from entry e where e.journal = j.journal and e.number = r.number and e.digest = r.own offset 0) e
-        where j.bridge = it.bridge and r.sound group by j.journal) m
-    order by m.many desc, m.journal desc limit 1;
+    select j.journal into its
+    from journal j cross join lateral (
+        select count(*) as many from at_hand r cross join lateral (
+            select from entry e where e.journal = j.journal and e.number = r.number and e.digest = digest_in(r.digest) offset 0) e
+        where exists (select from entry e where e.journal = j.journal) offset 0) m
+    where j.bridge = it.bridge and m.many > 0 order by m.many desc, j.journal desc limit 1;
     if its is not null then
         return its;
     end if;
@@ -311,40 +307,45 @@ begin
         return newest;
     end if;
     -- numbers of stored entries, and none of these: brought over, replaced, or begun anew
-    select count(*) as many, min(r.moment) as since,
-        count(*) filter (where (r.key, r.kind, r.plate, r.moment at time zone 'UTC', r.gross_kg, r.preset_kg, r.interval_kg, r.max_kg, r.serial)
-            is distinct from (e.key, e.kind, e.plate, e.moment, e.gross_kg, e.preset_kg, e.interval_kg, e.max_kg, e.serial)) as others,
-        min(r.number) filter (where (r.key, r.kind, r.plate, r.moment at time zone 'UTC', r.gross_kg, r.preset_kg, r.interval_kg, r.max_kg, r.serial)
-            is distinct from (e.key, e.kind, e.plate, e.moment, e.gross_kg, e.preset_kg, e.interval_kg, e.max_kg, e.serial)) as first
-    into beside
-    from judged r cross join lateral (select * from entry e where e.journal = newest and e.number = r.number offset 0) e where r.sound;
-    if it.is_newest or beside.many = 0 then
-        perform refuse(case when it.is_newest then 'newest' else 'journal' end, format('a journal of %s that is not registered', it.bridge));
-    elsif beside.others = 0 then
+    select count(*) as many, min(moment) as since, count(*) filter (where is_other) as others, min(number) filter (where is_other) as first into beside
+    from (
+        select r.number, r.moment, (r.key, r.kind, r.plate, r.moment at time zone 'UTC', r.gross_kg, r.preset_kg, r.interval_kg, r.max_kg, r.serial)
+            is distinct from (e.key, e.kind, e.plate, e.moment, e.gross_kg, e.preset_kg, e.interval_kg, e.max_kg, e.serial) as is_other
+        from at_hand r cross join lateral (select * from entry e where e.journal = newest and e.number = r.number offset 0) e where is_sound(r)) b;
+    if it.is_newest then
+        perform refuse('newest', format('a journal of %s that is not registered, or each of these entries was changed: load the whole export', it.bridge));
+    elsif beside.many > 0 and beside.others = 0 then
         perform refuse('journal', format('a journal of %s that is not registered: its entries are those of journal %s with other digests; if it was brought over, register it as the follower', it.bridge, newest));
     elsif beside.since <= last.moment at time zone 'UTC' then
         perform refuse('replaced', format('the journal of %s was replaced whole: none of its digests is one that is stored, and %s of %s entries differ in more, the first of them %s',
             it.bridge, beside.others, beside.many, beside.first));
     end if;
-    perform refuse('journal', format('a journal of %s that is not registered: it begins behind what is stored, with numbers that were given before', it.bridge));
+    perform refuse('journal', format('a journal of %s that is not registered', it.bridge));
 end $$;
+
+-- Of age: on a day greater than the day of the moment plus the days of retention, in UTC.
+create or replace function is_of_age(moment timestamptz, days integer) returns boolean stable
+    return coalesce((now() at time zone 'UTC')::date > (moment at time zone 'UTC')::date + days, true);
 
 -- Completes what a load is about, and refuses an export that is older than one that was taken in, doesn't reach what is stored, has no record, or is cut.
 create or replace function place(it taking) returns taking language plpgsql as $$
 declare
     last record;
 begin
-    select min(number), max(number) into it.lowest, it.highest from judged;
+    select min(number), max(number) into it.lowest, it.highest from at_hand;
     it.journal := journal_of(it);
     select sealed, fetched_at into it.sealed, it.fetched_before from standing where journal = it.journal;
     if it.fetched < it.fetched_before then
         perform refuse('older', format('this export was fetched at %s, and one of %s was loaded before', it.fetched, it.fetched_before));
     end if;
-    delete from judged where number <= it.sealed;
-    select min(number), max(number) into it.lowest, it.highest from judged;
+    select min(number), max(number) into it.lowest, it.highest from at_hand where number > it.sealed;
     select max(number) into it.stored from entry where journal = it.journal;
     select number, moment into it.before, it.before_at from entry
     where journal = it.journal and (number < it.lowest or it.lowest is null) order by number desc limit 1;
+    if exists (select from at_hand r join entry e on e.journal = it.journal and e.number = r.number where r.number = it.lowest and r.previous is null and e.previous is not null)
+        and not exists (select from at_hand where previous is not null) then
+        perform refuse('form', 'the column previous is missing, which this journal has');
+    end if;
     if it.is_newest and coalesce(it.lowest > greatest(it.stored, it.sealed) + 1, true) then
         perform refuse('newest', format('the newest entries begin at %s, and what is stored ends at %s: load the whole export', coalesce(it.lowest::text, 'none'), coalesce(it.stored, 0)));
     end if;
@@ -358,34 +359,135 @@ begin
     if it.lowest is null and not is_of_age(it.before_at, it.days) then
         perform refuse('empty', format('the export has no record, and entries up to %s had to be kept: if the bridge goes on with a new file, register it', it.before));
     end if;
-    select r.digest, r.previous, encode(r.own, 'hex') as own, coalesce(b.digest, repeat('0', 64)) as below, r.sound into last
-    from judged r left join judged b on b.number = it.highest - 1 where r.number = it.highest order by r.sound limit 1;
-    if not last.sound and (length(last.previous) < 64 and starts_with(last.below, last.previous) or last.previous is null and length(last.digest) < 64 and starts_with(last.own, last.digest)) then
+    select r.digest, r.previous, encode(digest_of(r.number, r.key, r.kind, r.plate, r.moment, r.gross_kg, r.preset_kg, r.interval_kg, r.max_kg, r.serial, r.previous), 'hex') as own,
+        coalesce((select b.digest from at_hand b where b.number = it.highest - 1 limit 1), repeat('0', 64)) as below into last
+    from at_hand r where r.number = it.highest limit 1;
+    if length(last.previous) < 64 and starts_with(last.below, last.previous) or last.previous is null and length(last.digest) < 64 and starts_with(last.own, last.digest) then
         perform refuse('cut', 'the export is cut off in its last line');
     end if;
     return it;
 end $$;
 
--- Of age: on a day greater than the day of the moment plus the days of retention, in UTC.
-create or replace function is_of_age(moment timestamptz, days integer) returns boolean stable
-    return coalesce((now() at time zone 'UTC')::date > (moment at time zone 'UTC')::date + days, true);
-
--- Each record beside what is stored of its number, the record below it in the export, and the moment and setup of the sound one below it.
-create or replace function compare_with(its integer) returns void language plpgsql as $$
+-- Each record beside what is stored of its number, and the one below it in the export. One that is stored as it came is sound, since no other can stand; of a
+-- new one the constraint of the table decides when it is stored.
+create or replace function compare(it taking) returns void language plpgsql as $$
 begin
     create temporary table compared on commit drop as
-    select r.*, e.number is not null as known, e.digest <> r.own as differs,
-        (e.key, e.kind, e.plate, e.moment, e.gross_kg, e.preset_kg, e.interval_kg, e.max_kg, e.serial)
-            is distinct from (r.key, r.kind, r.plate, r.moment at time zone 'UTC', r.gross_kg, r.preset_kg, r.interval_kg, r.max_kg, r.serial) as is_other,
-        lag(r.number) over w as number_below, coalesce(lag(r.number) over w = r.number - 1, false) as is_next,
-        lag(r.digest) over w as below, lag(r.previous) over w as below_previous,
-        lag(r.moment) over s as former, lag(r.interval_kg) over s as former_interval, lag(r.max_kg) over s as former_max, lag(r.serial) over s as former_serial
-    from judged r left join lateral (select * from entry e where e.journal = its and e.number = r.number offset 0) e on true
-    window w as (order by r.number), s as (partition by r.sound order by r.number);
+    select r.number, r.key, r.kind, r.plate, r.moment, r.gross_kg, r.preset_kg, r.interval_kg, r.max_kg, r.serial, r.digest, r.previous, r.own,
+        e.number is not null as known, e.digest <> r.own as differs, s.is_other,
+        case when e.number is null then r.own is not null and (r.previous is null or digest_in(r.previous) is not null) and r.moment = date_trunc('second', r.moment)
+            when e.digest = r.own and not s.is_other and r.previous is not distinct from encode(e.previous, 'hex') then true else is_sound(r.whole) end as sound,
+        lag(r.number) over w as number_below, coalesce(lag(r.number) over w = r.number - 1, false) as is_next, lag(r.digest) over w as below, lag(r.previous) over w as below_previous
+    from (select h.*, digest_in(h.digest) as own, h as whole from at_hand h where h.number > it.sealed offset 0) r
+    left join lateral (select * from entry e where it.stored is not null and e.journal = it.journal and e.number = r.number offset 0) e on true
+    cross join lateral (select e.number is not null and (e.key, e.kind, e.plate, e.moment, e.gross_kg, e.preset_kg, e.interval_kg, e.max_kg, e.serial)
+        is distinct from (r.key, r.kind, r.plate, r.moment at time zone 'UTC', r.gross_kg, r.preset_kg, r.interval_kg, r.max_kg, r.serial) as is_other) s
+    window w as (order by r.number);
     create temporary table found (what text not null, first bigint not null, last bigint not null, record text not null) on commit drop;
 end $$;
 
--- What is wrong of the export, beside what was stored before.
+-- Stores the new entries that are sound. Only if one of them isn't, each is held against its digest.
+create or replace function insert_new(it taking) returns bigint language plpgsql as $$
+declare
+    added bigint;
+begin
+    begin
+        insert into entry (journal, number, key, kind, plate, moment, gross_kg, preset_kg, interval_kg, max_kg, serial, digest, previous)
+        select it.journal, number, key, kind, plate, moment at time zone 'UTC', gross_kg, preset_kg, interval_kg, max_kg, serial, own, decode(previous, 'hex')
+        from compared where sound and not known order by number;
+        get diagnostics added = row_count;
+        return added;
+    exception when check_violation then
+        update compared set sound = false where sound and not known
+            and own is distinct from digest_of(number, key, kind, plate, moment, gross_kg, preset_kg, interval_kg, max_kg, serial, previous);
+    end;
+    insert into entry (journal, number, key, kind, plate, moment, gross_kg, preset_kg, interval_kg, max_kg, serial, digest, previous)
+    select it.journal, number, key, kind, plate, moment at time zone 'UTC', gross_kg, preset_kg, interval_kg, max_kg, serial, own, decode(previous, 'hex')
+    from compared where sound and not known order by number;
+    get diagnostics added = row_count;
+    return added;
+end $$;
+
+-- The new entries, each with the plate's last entry before it that is no Single: a new one, behind what was stored, or one that is looked up.
+create or replace function pair(it taking) returns void language plpgsql as $$
+begin
+    create temporary table paired on commit drop as
+    select n.number, n.kind, n.plate, n.moment at time zone 'UTC' as moment, n.gross_kg, n.preset_kg,
+        case when is_new then l_number else o.number end as former_number, case when is_new then l_kind else o.kind end as former_kind,
+        case when is_new then l_gross_kg else o.gross_kg end as former_gross_kg
+    from (
+        select number, kind, plate, moment, gross_kg, preset_kg, lag(number) over w as l_number, lag(kind) over w as l_kind, lag(gross_kg) over w as l_gross_kg,
+            coalesce(lag(number) over w > coalesce(it.stored, 0), false) as is_new
+        from compared where sound and not known and kind <> 'single' window w as (partition by plate order by number)) n
+    left join lateral (
+        select o.number, o.kind, o.gross_kg from entry o
+        where not n.is_new and o.kind <> 'single' and (o.plate, o.journal, o.number) > (n.plate, it.journal, 0) and (o.plate, o.journal, o.number) < (n.plate, it.journal, n.number)
+        order by o.plate desc, o.journal desc, o.number desc limit 1) o on true
+    union all
+    select number, kind, plate, moment at time zone 'UTC', gross_kg, preset_kg, null, null, null from compared where sound and not known and kind = 'single';
+end $$;
+
+-- The sums of the tickets in `touched`, as they are now, added to `delta` so many times.
+create or replace function add_to_delta(times integer) returns void language plpgsql as $$
+begin
+    insert into delta
+    select t.bridge, (t.at at time zone b.zone)::date, times * count(*), times * sum(t.gross_kg), times * sum(t.net_kg), times * coalesce(sum(t.net_kg) filter (where t.brought), 0),
+        times * coalesce(sum(t.net_kg) filter (where not t.brought), 0), times * coalesce(sum(t.net_kg) filter (where t.kind = 'preset'), 0)
+    from touched r
+    cross join lateral (select coalesce(max(l.number), 0) as number from received_before l where l.journal = r.journal) z
+    cross join lateral (select * from ticket_of_journal t where t.journal = r.journal and t.ticket between r.first and r.last and t.ticket > z.number offset 0) t
+    join bridge b on b.bridge = t.bridge
+    group by 1, 2;
+end $$;
+
+-- Stores the new entries, and keeps the sums and what is open. What changes is tickets of the new entries; of those that come next after a new one of
+-- the same plate, where a missing one comes late; and of a follower's entries that the former journal has from now on.
+create or replace function store(it taking) returns bigint language plpgsql as $$
+declare
+    added  bigint;
+    behind bigint := coalesce(it.stored, 0);
+begin
+    create temporary table touched on commit drop as
+    select it.journal as journal, n.number as first, n.number as last from compared n where n.sound and not n.known and n.number <= behind
+    union
+    select it.journal, o.number, o.number from compared n cross join lateral (
+        select o.number from entry o
+        where (o.plate, o.journal, o.number) > (n.plate, it.journal, n.number) and (o.plate, o.journal, o.number) < (n.plate, it.journal + 1, 0) and o.kind <> 'single'
+        order by o.plate, o.journal, o.number limit 1) o
+    where n.sound and not n.known and n.kind <> 'single' and n.number <= behind
+    union all
+    select f.journal, behind + 1, it.highest from follower f where f.former = it.journal and it.highest > behind;
+    create temporary table delta (bridge text, day date, tickets bigint, gross_kg bigint, net_kg bigint, brought_kg bigint, taken_kg bigint, preset_kg bigint) on commit drop;
+    perform add_to_delta(-1);
+    added := insert_new(it);
+    perform pair(it);
+    perform add_to_delta(1);
+    insert into delta
+    select it.bridge, (moment at time zone (select zone from bridge where bridge = it.bridge))::date, count(*), sum(greatest(gross_kg, former_gross_kg)),
+        sum(abs(gross_kg - coalesce(former_gross_kg, preset_kg))), coalesce(sum(abs(gross_kg - former_gross_kg)) filter (where former_gross_kg > gross_kg), 0),
+        coalesce(sum(abs(gross_kg - former_gross_kg)) filter (where former_gross_kg <= gross_kg), 0), coalesce(sum(abs(gross_kg - preset_kg)) filter (where kind = 'single'), 0)
+    from paired
+    where number > behind and (kind = 'single' or kind = 'second' and former_kind = 'first')
+        and number > (select coalesce(max(number), 0) from received_before where journal = it.journal)
+    group by 2;
+    insert into day_sum as s (day, bridge, tickets, gross_kg, net_kg, brought_kg, taken_kg, preset_kg)
+    select day, bridge, sum(tickets), sum(gross_kg), sum(net_kg), sum(brought_kg), sum(taken_kg), sum(preset_kg) from delta group by day, bridge
+    on conflict (day, bridge) do update set tickets = s.tickets + excluded.tickets, gross_kg = s.gross_kg + excluded.gross_kg, net_kg = s.net_kg + excluded.net_kg,
+        brought_kg = s.brought_kg + excluded.brought_kg, taken_kg = s.taken_kg + excluded.taken_kg, preset_kg = s.preset_kg + excluded.preset_kg;
+    delete from day_sum s using (select distinct day, bridge from delta) d where s.day = d.day and s.bridge = d.bridge and s.tickets = 0;
+
+    delete from open_entry where journal = it.journal and plate = any (array(select distinct plate from paired where kind <> 'single'));
+    insert into open_entry (journal, plate, number, since, gross_kg)
+    select it.journal, p.plate, o.number, o.moment, o.gross_kg
+    from (select distinct plate from paired where kind <> 'single') p cross join lateral (
+        select o.number, o.kind, o.moment, o.gross_kg from entry o
+        where (o.plate, o.journal, o.number) > (p.plate, it.journal, 0) and (o.plate, o.journal, o.number) < (p.plate, it.journal + 1, 0) and o.kind <> 'single'
+        order by o.plate desc, o.journal desc, o.number desc limit 1) o
+    where o.kind = 'first';
+    return added;
+end $$;
+
+-- What is wrong of the export, beside what was stored before it.
 create or replace function find_in_export(it taking) returns void language plpgsql as $$
 begin
     insert into found
@@ -402,10 +504,6 @@ begin
             from (select *, number - row_number() over (order by number) as island from compared where sound and differs) i) p
         window w as (partition by island, part order by number)) d
     where place = 1;
-
-    insert into found
-    select 'falls', number, number, format('%s, after %s', moment, coalesce(former, it.before_at at time zone 'UTC'))
-    from compared where sound and moment < coalesce(former, it.before_at at time zone 'UTC');
 
     -- a new record and the one below it, in the export or stored; the export's own may have been changed since
     insert into found
@@ -446,128 +544,79 @@ begin
         where f.journal = it.journal and f.what = 'nearly full' and coalesce(a.at > now() - interval '30 days', true));
 end $$;
 
--- What is wrong of new entries by themselves, before they are stored.
-create or replace function find_in_new(it taking) returns void language plpgsql as $$
+-- What is wrong of single entries, and of one beside the sound one below it.
+create or replace function find_in_entries(it taking) returns void language plpgsql as $$
 begin
+    with below as (
+        select number, known, moment, interval_kg, max_kg, serial, coalesce(lag(moment) over w, it.before_at at time zone 'UTC') as former,
+            lag(interval_kg) over w as former_interval, lag(max_kg) over w as former_max, lag(serial) over w as former_serial
+        from compared where sound window w as (order by number)
+    )
+    insert into found
+    select 'falls', number, number, format('%s, after %s', moment, former) from below where moment < former
+    union all
+    select 'setup', n.number, n.number, format('e %s kg, Max %s kg, serial %s; before e %s kg, Max %s kg, serial %s',
+        n.interval_kg, n.max_kg, n.serial, b.interval_kg, b.max_kg, b.serial)
+    from (select * from below where not known and (former_max is null or (interval_kg, max_kg, serial) <> (former_interval, former_max, former_serial))) n
+    left join lateral (
+        select e.interval_kg, e.max_kg, e.serial from entry e where n.former_max is null and e.journal = it.journal and e.number = it.before offset 0) e on true
+    cross join lateral (
+        select coalesce(n.former_interval, e.interval_kg) as interval_kg, coalesce(n.former_max, e.max_kg) as max_kg, coalesce(n.former_serial, e.serial) as serial) b
+    where (n.interval_kg, n.max_kg, n.serial) <> (b.interval_kg, b.max_kg, b.serial);
+
     -- one for a run of them
     insert into found
     select what, min(number), max(number), min(moment)::text
     from (
         select what, number, moment, number - row_number() over (partition by what order by number) as run
-        from compared cross join lateral (values
-            ('ahead', moment > least(it.fetched, now()) at time zone 'UTC' + interval '5 minutes'),
-            ('dated back', number > coalesce(it.stored, 0) and moment < it.fetched_before at time zone 'UTC' - interval '1 minute')) v (what, is_so)
-        where sound and not known and is_so) r
+        from (
+            select number, moment, case when moment > least(it.fetched, now()) at time zone 'UTC' + interval '5 minutes' then 'ahead'
+                when number > coalesce(it.stored, 0) and moment < it.fetched_before at time zone 'UTC' - interval '1 minute' then 'dated back' end as what
+            from compared where sound and not known) n
+        where what is not null) r
     group by what, run;
 
     insert into found
-    select 'out of range', number, number, case when gross_kg % nullif(interval_kg, 0) <> 0 then format('gross %s kg is no multiple of e %s kg', gross_kg, interval_kg)
+    select 'out of range', number, number, case when gross_kg % interval_kg <> 0 then format('gross %s kg is no multiple of e %s kg', gross_kg, interval_kg)
         else format('gross %s kg is above Max %s kg + 9 e', gross_kg, max_kg) end
-    from compared where sound and not known and (gross_kg % nullif(interval_kg, 0) <> 0 or gross_kg > max_kg + 9 * interval_kg::bigint);
+    from compared where sound and not known and (gross_kg % interval_kg <> 0 or gross_kg > max_kg + 9 * interval_kg);
 
     insert into found
-    select 'setup', n.number, n.number, format('e %s kg, Max %s kg, serial %s; before e %s kg, Max %s kg, serial %s',
-        n.interval_kg, n.max_kg, n.serial, b.interval_kg, b.max_kg, b.serial)
-    from compared n left join lateral (
-        select e.interval_kg, e.max_kg, e.serial from entry e where n.former is null and e.journal = it.journal and e.number = it.before offset 0) e on true
-    cross join lateral (
-        select coalesce(n.former_interval, e.interval_kg) as interval_kg, coalesce(n.former_max, e.max_kg) as max_kg, coalesce(n.former_serial, e.serial) as serial) b
-    where n.sound and not n.known and (n.interval_kg, n.max_kg, n.serial) <> (b.interval_kg, b.max_kg, b.serial);
+    select case kind when 'first' then 'open twice' else 'unpaired' end, number, number,
+        case kind when 'first' then format('first of %s, which has number %s open', plate, former_number) else format('%s of %s', kind, plate) end
+    from paired where kind <> 'single' and (kind = 'first') = (coalesce(former_kind, '') = 'first');
 
-    -- a first load, whose first entry stands in another journal too
+    -- among the new ones, and beside what was stored: the index on the key's hash serves that alone, and the journal itself can't be read for it
     insert into found
-    select case when e.digest = n.own then 'two names' else 'no follower' end, n.number, n.number, format('journal %s of %s has this entry%s', j.journal, j.bridge, case when e.digest <> n.own then ' with another digest' end)
-    from (select * from compared where sound order by number limit 1) n cross join journal j cross join lateral (
-        select e.digest from entry e where e.journal = j.journal and e.number = n.number and (e.digest = n.own or e.key = n.key and e.moment = n.moment at time zone 'UTC') offset 0) e
-    where it.stored is null and j.journal <> it.journal and (e.digest = n.own
-        or j.bridge = it.bridge and not exists (select from follower f where f.journal = it.journal));
-end $$;
-
--- What is asked of the new entries once all of them stand.
-create or replace function find_in_stored(it taking) returns void language plpgsql as $$
-begin
-    -- the index on the key's hash serves this alone, and the journal itself can't be read for it
-    insert into found
+    select 'key again', n.number, n.number, format('key %s of number %s', n.key, n.other)
+    from (select number, key, coalesce(lag(number) over w, lead(number) over w) as other from compared
+        where sound and not known and key in (select key from compared where sound and not known group by key having count(*) > 1) window w as (partition by key order by number)) n
+    union
     select 'key again', n.number, n.number, format('key %s of number %s', n.key, o.number)
     from compared n cross join lateral (
         select o.number from entry o
-        where hashtextextended(o.key, o.journal) = hashtextextended(n.key, it.journal) and o.key = n.key and o.journal + 0 = it.journal and o.number <> n.number
+        where it.stored is not null and hashtextextended(o.key, o.journal) = hashtextextended(n.key, it.journal) and o.key = n.key and o.journal + 0 = it.journal
+            and o.number <> n.number
         limit 1) o
     where n.sound and not n.known;
+end $$;
 
+-- What is wrong of the journal beside others: a first load whose first entry stands in another one too, and a follower beside the former journal, by a
+-- whole export; what is left out in a row is one finding.
+create or replace function find_in_journals(it taking) returns void language plpgsql as $$
+begin
     insert into found
-    select case n.kind when 'first' then 'open twice' else 'unpaired' end, n.number, n.number,
-        case n.kind when 'first' then format('first of %s, which has number %s open', n.plate, o.number) else format('%s of %s', n.kind, n.plate) end
-    from compared n left join lateral (
-        select o.number, o.kind from entry o
-        where (o.plate, o.journal, o.number) > (n.plate, it.journal, 0) and (o.plate, o.journal, o.number) < (n.plate, it.journal, n.number) and o.kind <> 'single'
-        order by o.plate desc, o.journal desc, o.number desc limit 1) o on true
-    where n.sound and not n.known and n.kind <> 'single' and (n.kind = 'first') = (coalesce(o.kind, '') = 'first');
+    select case when e.digest = n.own then 'two names' else 'no follower' end, n.number, n.number, format('journal %s of %s has this entry%s', j.journal, j.bridge, case when e.digest <> n.own then ' with another digest' end)
+    from (select * from compared where sound and number = it.lowest limit 1) n cross join journal j cross join lateral (
+        select e.digest from entry e where e.journal = j.journal and e.number = n.number and (e.digest = n.own or e.key = n.key and e.moment = n.moment at time zone 'UTC') offset 0) e
+    where it.stored is null and j.journal <> it.journal and (e.digest = n.own
+        or j.bridge = it.bridge and not exists (select from follower f where f.journal = it.journal));
 
-    -- a follower beside the former journal, by a whole export; what is left out in a row is one finding
     insert into found
     select what, min(number), max(number), coalesce(min(record), format('%s of them stored of the former journal', count(*)))
     from (select what, number, record, number - case when record is null then row_number() over (partition by what order by number) else 0 end as run
         from follower_difference where journal = it.journal and not it.is_newest) d
     group by what, run;
-end $$;
-
--- The sums of the tickets in `touched`, as they are now, added to `delta` so many times.
-create or replace function add_to_delta(times integer) returns void language plpgsql as $$
-begin
-    insert into delta
-    select t.bridge, (t.at at time zone b.zone)::date, times * count(*), times * sum(t.gross_kg), times * sum(t.net_kg), times * coalesce(sum(t.net_kg) filter (where t.brought), 0),
-        times * coalesce(sum(t.net_kg) filter (where not t.brought), 0), times * coalesce(sum(t.net_kg) filter (where t.kind = 'preset'), 0)
-    from touched r
-    cross join lateral (select coalesce(max(l.number), 0) as number from received_before l where l.journal = r.journal) z
-    cross join lateral (select * from ticket_of_journal t where t.journal = r.journal and t.ticket between r.first and r.last and t.ticket > z.number offset 0) t
-    join bridge b on b.bridge = t.bridge
-    group by 1, 2;
-end $$;
-
--- Stores the new entries, and keeps the sums and what is open: tickets of the new entries, of those that come next after a new one of the same plate,
--- and of a follower's entries that the former journal has from now on.
-create or replace function store(it taking) returns bigint language plpgsql as $$
-declare
-    added  bigint;
-    behind bigint := coalesce(it.stored, 0);
-begin
-    create temporary table touched on commit drop as
-    select it.journal as journal, behind + 1 as first, it.highest as last where it.highest > behind
-    union all
-    select it.journal, n.number, n.number from compared n where n.sound and not n.known and n.number <= behind
-    union
-    select it.journal, o.number, o.number from compared n cross join lateral (
-        select o.number from entry o
-        where (o.plate, o.journal, o.number) > (n.plate, it.journal, n.number) and (o.plate, o.journal, o.number) < (n.plate, it.journal + 1, 0) and o.kind <> 'single'
-        order by o.plate, o.journal, o.number limit 1) o
-    where n.sound and not n.known and n.kind <> 'single' and n.number <= behind
-    union all
-    select f.journal, behind + 1, it.highest from follower f where f.former = it.journal and it.highest > behind;
-    create temporary table delta (bridge text, day date, tickets bigint, gross_kg bigint, net_kg bigint, brought_kg bigint, taken_kg bigint, preset_kg bigint) on commit drop;
-    perform add_to_delta(-1);
-
-    insert into entry (journal, number, key, kind, plate, moment, gross_kg, preset_kg, interval_kg, max_kg, serial, digest, previous)
-    select it.journal, number, key, kind, plate, moment at time zone 'UTC', gross_kg, preset_kg, interval_kg, max_kg, serial, own, decode(previous, 'hex')
-    from compared where sound and not known order by number;
-    get diagnostics added = row_count;
-
-    perform add_to_delta(1);
-    insert into day_sum as s (day, bridge, tickets, gross_kg, net_kg, brought_kg, taken_kg, preset_kg)
-    select day, bridge, sum(tickets), sum(gross_kg), sum(net_kg), sum(brought_kg), sum(taken_kg), sum(preset_kg) from delta group by day, bridge
-    on conflict (day, bridge) do update set tickets = s.tickets + excluded.tickets, gross_kg = s.gross_kg + excluded.gross_kg, net_kg = s.net_kg + excluded.net_kg,
-        brought_kg = s.brought_kg + excluded.brought_kg, taken_kg = s.taken_kg + excluded.taken_kg, preset_kg = s.preset_kg + excluded.preset_kg;
-    delete from day_sum s using (select distinct day, bridge from delta) d where s.day = d.day and s.bridge = d.bridge and s.tickets = 0;
-
-    delete from open_entry where journal = it.journal and plate = any (array(select distinct plate from compared where sound and not known and kind <> 'single'));
-    insert into open_entry (journal, plate, number, since, gross_kg)
-    select it.journal, p.plate, o.number, o.moment, o.gross_kg
-    from (select distinct plate from compared where sound and not known and kind <> 'single') p cross join lateral (
-        select o.number, o.kind, o.moment, o.gross_kg from entry o
-        where (o.plate, o.journal, o.number) > (p.plate, it.journal, 0) and (o.plate, o.journal, o.number) < (p.plate, it.journal + 1, 0) and o.kind <> 'single'
-        order by o.plate desc, o.journal desc, o.number desc limit 1) o
-    where o.kind = 'first';
-    return added;
 end $$;
 
 -- Writes the findings, the first hundred by what matters and how many more, and the load. Says how it went, and of each of the first twenty new findings
@@ -589,7 +638,7 @@ begin
         select it.journal, what, first, last, record from capped order by place on conflict do nothing returning 1
     )
     insert into load (journal, records, last, added, findings, new_findings, is_newest, fetched_at)
-    select it.journal, (select count(*) from judged), it.highest, added, (select count(*) from found), (select count(*) from new), it.is_newest, it.fetched
+    select it.journal, (select count(*) from compared), it.highest, added, (select count(*) from found), (select count(*) from new), it.is_newest, it.fetched
     returning * into done;
     update standing set fetched_at = greatest(fetched_at, it.fetched), whole_at = case when it.is_newest then whole_at else coalesce(it.fetched, now()) end
     where journal = it.journal;
@@ -621,14 +670,14 @@ declare
 begin
     begin
         it := admit(of_bridge, is_newest, fetched);
-        perform judge();
         perform refuse_others(it);
         it := place(it);
-        perform compare_with(it.journal);
-        perform find_in_export(it);
-        perform find_in_new(it);
+        perform compare(it);
         added := store(it);
-        perform find_in_stored(it);
+        perform find_in_export(it);
+        perform find_in_entries(it);
+        perform find_in_journals(it);
+        delete from handed where login = session_user;
         return query select * from write_load(it, added);
         return;
     exception
@@ -845,7 +894,7 @@ on conflict (what) do update set rank = excluded.rank, means = excluded.means, t
 
 grant usage on schema head_office to head_office_registrar, head_office_loader, head_office_reader;
 grant select on all tables in schema head_office to head_office_registrar, head_office_reader;
-revoke select on handed from head_office_registrar, head_office_reader;
+revoke select on handed, at_hand from head_office_registrar, head_office_reader;
 grant insert on bridge, instrument, journal, loader, follower, haulier to head_office_registrar;
 -- which instrument is whose may not be said anew
 grant update (zone, retention_days, load_within, entry_within, places, whole_within, plate_years) on bridge to head_office_registrar;

@@ -51,8 +51,16 @@ create table change (
 
 -- Entries --------------------------------------------------------------------------------------------------------------------------------
 
--- A digest is made of whole seconds; 6.sql holds the entries that stand against it.
-alter table entry add constraint whole_second check (moment = date_trunc('second', moment)) not valid;
+-- What a load spends its time with: the same patterns without bounded repetitions, and no look-up of its own journal for each entry. `take_in` alone
+-- stores entries, and the row of `load` that stands beside them keeps their journal. A digest is made of whole seconds. 6.sql holds what stands against it.
+alter table entry
+    drop constraint entry_journal_fkey,
+    drop constraint form,
+    add constraint form check (number between 1 and 4294967295 and length(key) between 1 and 32 and key !~ '[^A-Za-z0-9-]'
+        and kind in ('first', 'second', 'single', 'void') and length(plate) between 1 and 12 and plate !~ '[^A-Z0-9-]'
+        and gross_kg between 1 and 9999999 and preset_kg between 1 and 9999999 and interval_kg in (1, 2, 5, 10, 20, 50)
+        and max_kg between 1 and 500000 and length(serial) between 1 and 16 and serial !~ '[^A-Z0-9]') not valid,
+    add constraint whole_second check (moment = date_trunc('second', moment)) not valid;
 
 -- A key again, found without the journal's own order: a journal that the statistics don't know yet looks as if it had one entry.
 create index entry_by_key on entry (hashtextextended(key, journal));
