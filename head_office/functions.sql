@@ -296,7 +296,8 @@ begin
     from journal j cross join lateral (
         select count(*) as many from at_hand r cross join lateral (
             select from entry e where e.journal = j.journal and e.number = r.number and e.digest = digest_in(r.digest) offset 0) e
-        where exists (select from entry e where e.journal = j.journal) offset 0) m
+        -- `exists` may read the whole table for one row
+        where (select max(number) from entry e where e.journal = j.journal) is not null offset 0) m
     where j.bridge = it.bridge and m.many > 0 order by m.many desc, j.journal desc limit 1;
     if its is not null then
         return its;
