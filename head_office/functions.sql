@@ -44,7 +44,7 @@ create or replace view ticket_line as
 
 -- The last number of the former journal, up to which a follower's tickets were received before.
 create or replace view received_before as
-    select f.journal, greatest(s.sealed, (select max(number) from entry where journal = f.former)) as number from follower f join standing s on s.journal = f.former;
+    select f.journal, greatest(s.sealed, (select number from entry where journal = f.former order by number desc limit 1)) as number from follower f join standing s on s.journal = f.former;
 
 -- Each ticket once: of a follower those that come behind the former journal, whose own were received first.
 create or replace view ticket as
@@ -296,8 +296,8 @@ begin
     from journal j cross join lateral (
         select count(*) as many from at_hand r cross join lateral (
             select from entry e where e.journal = j.journal and e.number = r.number and e.digest = digest_in(r.digest) offset 0) e
-        -- `exists` may read the whole table for one row
-        where (select max(number) from entry e where e.journal = j.journal) is not null offset 0) m
+        -- `exists` may read the whole table for one row, and `max` the whole journal
+        where (select number from entry e where e.journal = j.journal order by number desc limit 1) is not null offset 0) m
     where j.bridge = it.bridge and m.many > 0 order by m.many desc, j.journal desc limit 1;
     if its is not null then
         return its;
@@ -340,7 +340,7 @@ begin
         perform refuse('older', format('this export was fetched at %s, and one of %s was loaded before', it.fetched, it.fetched_before));
     end if;
     select min(number), max(number) into it.lowest, it.highest from at_hand where number > it.sealed;
-    select max(number) into it.stored from entry where journal = it.journal;
+    select number into it.stored from entry where journal = it.journal order by number desc limit 1;
     select number, moment into it.before, it.before_at from entry
     where journal = it.journal and (number < it.lowest or it.lowest is null) order by number desc limit 1;
     if exists (select from at_hand r join entry e on e.journal = it.journal and e.number = r.number where r.number = it.lowest and r.previous is null and e.previous is not null)
