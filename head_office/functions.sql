@@ -377,9 +377,10 @@ begin
     select r.number, r.key, r.kind, r.plate, r.moment, r.gross_kg, r.preset_kg, r.interval_kg, r.max_kg, r.serial, r.digest, r.previous, r.own,
         e.number is not null as known, e.digest <> r.own as differs, s.is_other,
         case when e.number is null then r.own is not null and (r.previous is null or digest_in(r.previous) is not null) and r.moment = date_trunc('second', r.moment)
-            when e.digest = r.own and not s.is_other and r.previous is not distinct from encode(e.previous, 'hex') then true else is_sound(r.whole) end as sound,
+            when e.digest = r.own and not s.is_other and r.previous is not distinct from encode(e.previous, 'hex') then true
+            else is_sound((r.number, r.key, r.kind, r.plate, r.moment, r.gross_kg, r.preset_kg, r.interval_kg, r.max_kg, r.serial, r.digest, r.previous)::at_hand) end as sound,
         lag(r.number) over w as number_below, coalesce(lag(r.number) over w = r.number - 1, false) as is_next, lag(r.digest) over w as below, lag(r.previous) over w as below_previous
-    from (select h.*, digest_in(h.digest) as own, h as whole from at_hand h where h.number > it.sealed offset 0) r
+    from (select h.*, digest_in(h.digest) as own from at_hand h where h.number > it.sealed offset 0) r
     left join lateral (select * from entry e where it.stored is not null and e.journal = it.journal and e.number = r.number offset 0) e on true
     cross join lateral (select e.number is not null and (e.key, e.kind, e.plate, e.moment, e.gross_kg, e.preset_kg, e.interval_kg, e.max_kg, e.serial)
         is distinct from (r.key, r.kind, r.plate, r.moment at time zone 'UTC', r.gross_kg, r.preset_kg, r.interval_kg, r.max_kg, r.serial) as is_other) s
