@@ -1,0 +1,12 @@
+"""Cases of a check: a line each, and how many passed and failed."""
+
+counts = [0, 0]
+
+
+def case(name, is_so, found=""):
+    counts[0 if is_so else 1] += 1
+    print(f"{'ok    ' if is_so else 'FAILED'} {name}{'' if is_so else f': {found!r}'}", flush=True)
+
+
+def same(name, wanted, found):
+    case(name, wanted == found, found)
