@@ -258,6 +258,10 @@ def show_one_stops_all(office, folder):
     office.shows("  and once", 0, "findings 20000, new 0$", "CROWD", path, user="crowd")
     pages.append(len(office.cluster.run([f"{PARTS}/report"], user=READER)[1]))
     case("  the page stays below 200 kB", pages[1] < 200_000, pages)
+    book = Book("CROWD1", age=DAY * 10, step=1).fill(2)
+    book.rows[0]["digest"] = os.urandom(10_000).hex()
+    status, said = office.load("CROWD", book.write(f"{folder}/crowd.csv", fetched=time.time()), user="crowd")
+    case("a record of 20 kB is a finding as others are", status == 1 and "unsound 1: " in said, said[:200])
     office.told(
         "INSERT INTO head_office.acknowledgement (finding, note) SELECT finding, 'false records of a test' FROM head_office.open_finding WHERE bridge = 'CROWD'"
     )
