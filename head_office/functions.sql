@@ -179,7 +179,7 @@ begin
     if tg_when = 'BEFORE' then
         delete from handed where login = session_user and within <> pg_current_xact_id();
     elsif (select count(*) from (select from handed where login = session_user and within = pg_current_xact_id() limit 100001) h) > 100000 then
-        raise exception 'refused: more records than a journal has places';
+        raise exception 'more records than a journal has places';
     end if;
     return null;
 end $$;

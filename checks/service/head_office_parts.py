@@ -258,6 +258,10 @@ def show_one_stops_all(office, folder):
     office.shows("  and once", 0, "findings 20000, new 0$", "CROWD", path, user="crowd")
     pages.append(len(office.cluster.run([f"{PARTS}/report"], user=READER)[1]))
     case("  the page stays below 200 kB", pages[1] < 200_000, pages)
+    book = Book("CROWD1", age=DAY * 10, step=1).fill(2)
+    book.rows[0]["digest"] = os.urandom(10_000).hex()
+    status, said = office.load("CROWD", book.write(f"{folder}/crowd.csv", fetched=time.time()), user="crowd")
+    case("a record of 20 kB is a finding as others are", status == 1 and "unsound 1: " in said, said[:200])
     office.told(
         "INSERT INTO head_office.acknowledgement (finding, note) SELECT finding, 'false records of a test' FROM head_office.open_finding WHERE bridge = 'CROWD'"
     )
@@ -650,24 +654,32 @@ def show_sums(office, folder):
         ("D", "first"),
         ("B", "second"),
         ("C", "single"),
+        ("E", "first"),
+        ("E", "second"),
+        ("E", "first"),
+        ("E", "second"),
+        ("A", "first"),
+        ("A", "second"),
     ):
         book.add(kind, plate, 10_000 + 20 * len(book.rows) ** 2)
     totals = "SELECT count(*), sum(tickets), sum(net_kg) FROM head_office.day_total WHERE bridge = 'SUM'"
-    office.load("SUM", book.write(f"{folder}/t.csv", 11, without=(1, 4, 5, 6, 9)))
+    office.load("SUM", book.write(f"{folder}/t.csv", 16, without=(1, 4, 5, 6, 9, 13, 14)))
     before = office.reads(totals)
     same("with gaps", "", differences(office))
     open_now = "SELECT string_agg(plate || number, ' ' ORDER BY plate) FROM head_office.on_site WHERE bridge = 'SUM'"
-    for without in ((1, 4, 5, 6), (1, 4, 5), (1, 4), (1,), ()):
-        office.load("SUM", book.write(f"{folder}/t.csv", 11, without=without, fetched=time.time()))
-        same(f"a missing entry that comes late, of {5 - len(without)}", "", differences(office))
+    for without in ((1, 4, 5, 6, 13, 14), (1, 4, 5, 13, 14), (1, 4, 13, 14), (1, 4, 13), (1, 4), (1,)):
+        office.load("SUM", book.write(f"{folder}/t.csv", 16, without=without, fetched=time.time()))
+        same(f"a missing entry that comes late, before {len(without)} others", "", differences(office))
+    office.load("SUM", book.write(f"{folder}/t.csv", 17, fetched=time.time()))
+    same("and the last one, with a new Second of the same plate", "", differences(office))
     same("  and they have changed", (before != office.reads(totals), "D9"), (True, office.reads(open_now)))
     bad = Book("SUM1", age=40 * DAY, step=40_000)
     bad.rows = [dict(row) for row in book.rows]
     bad.add("second", "D", 8_000)
-    bad.change(12, gross=9_000)
+    bad.change(18, gross=9_000)
     office.load("SUM", bad.write(f"{folder}/t.csv", fetched=time.time()))
     same("an entry that is unsound isn't counted", ("", "D9"), (differences(office), office.reads(open_now)))
-    bad.change(12, gross=8_000)
+    bad.change(18, gross=8_000)
     office.load("SUM", bad.write(f"{folder}/t.csv", fetched=time.time()))
     same("and is, once a sound one comes", ("", ""), (differences(office), office.reads(open_now)))
     office.told("UPDATE head_office.bridge SET zone = 'Pacific/Auckland' WHERE bridge = 'SUM'")
@@ -978,7 +990,7 @@ def show_sealed(office, folder):
     year = time.gmtime().tm_year - 3
     book = Book("YEARS1", age=0, step=1)
     begin = int(time.mktime(time.strptime(f"{year}-12-28", "%Y-%m-%d")))
-    book.moment, book.step = begin, 6 * 3_600
+    book.moment, book.step = begin - 6 * 3_600, 6 * 3_600
     for n in range(10):
         book.add("first", f"S-{n}", 9_000 + 20 * n).add("second", f"S-{n}", 20_000).add("single", "T-1", 15_000)
     # a First of the old year whose Second is of the next one
