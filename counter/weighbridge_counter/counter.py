@@ -108,8 +108,9 @@ class Counter:
         if self.zero.connected(service, was_refused) and was_known:
             self.bridge = "empty" if self._is_light() else "restarted"
             self.books.wants_export = self.books.wants_export or self.has_looked
-        self.has_looked, self.service = True, service
-        self.program = await loop.run_in_executor(None, program_of, service) if service is not None else {}
+        self.has_looked = True
+        program = await loop.run_in_executor(None, program_of, service) if service is not None else {}
+        self.service, self.program = service, program
         self._keep_going(self.books.probe())
         self.tell_state()
 
