@@ -239,6 +239,7 @@ def zero_since_the_start(bridge):
     bridge.kill_counter()
     bridge.start_counter()
     becomes("and still is once the counter was started again", lambda: bridge.health()["state"]["zero"]["known"])
+    becomes("the service is seen", lambda: bridge.health()["service"] is not None)
     service = bridge.health()["service"]
     holds(
         "the service's program, words and start are shown",
