@@ -195,23 +195,29 @@ $$ begin raise exception '%', why using errcode = 'HO001', hint = reason; end $$
 create or replace function may_load(of_bridge text) returns boolean stable
     return exists (select from loader l where l.login = session_user and coalesce(l.bridge, of_bridge) = of_bridge);
 
--- Writes a refused load down, at most a hundred of a login in a day, and as a finding unless the next load makes up for it by itself. One that nobody
--- has acknowledged yet is not written again. Says it in a line.
+-- Writes a refused load down, and as a finding unless the next load makes up for it by itself, or an open one says the same. Of each reason a login has
+-- at most a hundred a day at a bridge, so that none hides another; past that what is a new finding is written still, unless the loader itself chose
+-- the words. Says it in a line.
 create or replace function write_refusal(of_bridge text, because text, told text, fetched timestamptz) returns text language plpgsql as $$
 declare
-    said  text := left(regexp_replace(told, '[^ -~]', '?', 'g'), 500);
-    named text := left(regexp_replace(of_bridge, '[^ -~]', '?', 'g'), 32);
-    its   bigint;
+    said    text := left(regexp_replace(told, '[^ -~]', '?', 'g'), 500);
+    named   text := left(regexp_replace(of_bridge, '[^ -~]', '?', 'g'), 32);
+    is_full boolean;
+    new_of  integer;
+    its     bigint;
 begin
-    if (select count(*) from (select from refusal where by = session_user and at > now() - interval '1 day' limit 100) r) < 100 then
+    -- a name that nobody registered, or of another's bridge, makes no more of them
+    select count(*) = 100 into is_full from (
+        select from refusal where by = session_user and at > now() - interval '1 day' and reason = because
+            and (bridge = named or because = 'login' or not exists (select from bridge b where b.bridge = named)) limit 100) r;
+    select max(j.journal) into new_of from journal j
+    where j.bridge = named and because not in ('older', 'newest', 'waited', 'unreachable') and not exists (
+        select from finding f join journal n using (journal)
+        where n.bridge = named and f.what in ('refused', 'replaced') and f.record = said and not exists (select from acknowledgement a where a.finding = f.finding));
+    if not is_full or new_of is not null and because not in ('cut', 'form', 'listener') then
         insert into refusal (bridge, reason, why, fetched_at) values (named, because, said, fetched) returning refusal into its;
         insert into finding (journal, what, first, last, record)
-        select max(j.journal), case because when 'replaced' then 'replaced' else 'refused' end, 0, its, said
-        from journal j
-        where j.bridge = named and because not in ('older', 'newest', 'waited', 'unreachable') and not exists (
-            select from finding f join journal n using (journal)
-            where n.bridge = named and f.what in ('refused', 'replaced') and f.record = said and not exists (select from acknowledgement a where a.finding = f.finding))
-        having count(*) > 0;
+        select new_of, case because when 'replaced' then 'replaced' else 'refused' end, 0, its, said where new_of is not null;
     end if;
     return format('%s: refused: %s', named, said);
 end $$;
