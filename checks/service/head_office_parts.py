@@ -428,9 +428,15 @@ def show_floods(office, folder):
     same("of 101 older exports a hundred are written down", ["older|loads"] * 100, refusals(office, "FLOOD"))
     office.load("FLOOD", Book("FLOOD1", age=DAY + 300).fill(30).write(f"{folder}/t.csv", fetched=time.time()))
     page = office.cluster.run([f"{PARTS}/report"], user=READER)[1]
-    case("  and a journal that is replaced whole then is on the page", re.search('<td>FLOOD</td><td title="[^"]*">replaced</td>', page), page[2000:3000])
-    at = office.reads("SELECT to_char(max(at) AT TIME ZONE 'Europe/Berlin', 'YYYY-MM-DD HH24:MI') FROM head_office.refusal WHERE bridge = 'FLOOD' AND reason = 'older'")
-    case("  beside the refused loads, of the bridge's own zone", f"<tr><td>FLOOD</td><td>loads</td><td>{at}</td><td class=\"n\">100</td>" in page, at)
+    case(
+        "  and a journal that is replaced whole then is on the page",
+        re.search('<td>FLOOD</td><td title="[^"]*">replaced</td>', page),
+        page[2000:3000],
+    )
+    at = office.reads(
+        "SELECT to_char(max(at) AT TIME ZONE 'Europe/Berlin', 'YYYY-MM-DD HH24:MI') FROM head_office.refusal WHERE bridge = 'FLOOD' AND reason = 'older'"
+    )
+    case("  beside the refused loads, of the bridge's own zone", f'<tr><td>FLOOD</td><td>loads</td><td>{at}</td><td class="n">100</td>' in page, at)
     office.cluster.told("SELECT head_office.note_refusal('REFUSED', 'listener', 'who took the port')", user="chatty")
     same("a login that had its hundred of one reason is heard with another", ["who took the port"], findings(office, "REFUSED", "record")[-1:])
     for name in ("MANY", "LOST"):
