@@ -25,11 +25,11 @@ create or replace function line_of(number bigint, key text, kind text, plate tex
 -- Tickets and what is open ---------------------------------------------------------------------------------------------------------------
 
 -- The tickets of each journal, from its entries alone. The partner of a Second is the plate's last entry before it that is no Single, if that is a
--- First. Rows are compared, since that is a range of entry_by_plate and of no other index: told `plate = ..`, PostgreSQL may read the journal backwards.
+-- First. A preset tare above the gross makes a net below zero, as at the bridge. Rows are compared, since that is a range of entry_by_plate and of no other index: told `plate = ..`, PostgreSQL may read the journal backwards.
 create or replace view ticket_of_journal as
     select j.bridge, e.journal, e.number as ticket, case e.kind when 'second' then 'pair' else 'preset' end as kind, e.plate, p.number as first,
-        e.moment as at, greatest(e.gross_kg, p.gross_kg) as gross_kg, least(e.gross_kg, p.gross_kg, e.preset_kg) as tare_kg,
-        abs(e.gross_kg - coalesce(p.gross_kg, e.preset_kg)) as net_kg, p.gross_kg > e.gross_kg as brought
+        e.moment as at, greatest(e.gross_kg, p.gross_kg) as gross_kg, coalesce(e.preset_kg, least(e.gross_kg, p.gross_kg)) as tare_kg,
+        coalesce(e.gross_kg - e.preset_kg, abs(e.gross_kg - p.gross_kg)) as net_kg, p.gross_kg > e.gross_kg as brought
     from entry e join journal j using (journal) left join lateral (
         select o.number, o.kind, o.gross_kg from entry o
         where (o.plate, o.journal, o.number) > (e.plate, e.journal, 0) and (o.plate, o.journal, o.number) < (e.plate, e.journal, e.number)
@@ -53,8 +53,8 @@ create or replace view ticket as
 -- Tickets of years whose plates were dropped.
 create or replace view sealed_ticket as
     select j.bridge, e.journal, e.number as ticket, case e.kind when 'second' then 'pair' else 'preset' end as kind, e.partner as first, e.moment as at,
-        greatest(e.gross_kg, p.gross_kg) as gross_kg, least(e.gross_kg, p.gross_kg, e.preset_kg) as tare_kg,
-        abs(e.gross_kg - coalesce(p.gross_kg, e.preset_kg)) as net_kg, p.gross_kg > e.gross_kg as brought
+        greatest(e.gross_kg, p.gross_kg) as gross_kg, coalesce(e.preset_kg, least(e.gross_kg, p.gross_kg)) as tare_kg,
+        coalesce(e.gross_kg - e.preset_kg, abs(e.gross_kg - p.gross_kg)) as net_kg, p.gross_kg > e.gross_kg as brought
     from sealed_entry e join journal j using (journal) left join sealed_entry p on p.journal = e.journal and p.number = e.partner
     where e.kind = 'single' or e.partner is not null;
 
@@ -195,23 +195,29 @@ $$ begin raise exception '%', why using errcode = 'HO001', hint = reason; end $$
 create or replace function may_load(of_bridge text) returns boolean stable
     return exists (select from loader l where l.login = session_user and coalesce(l.bridge, of_bridge) = of_bridge);
 
--- Writes a refused load down, at most a hundred of a login in a day, and as a finding unless the next load makes up for it by itself. One that nobody
--- has acknowledged yet is not written again. Says it in a line.
+-- Writes a refused load down, and as a finding unless the next load makes up for it by itself, or an open one says the same. Of each reason a login has
+-- at most a hundred a day at a bridge, so that none hides another; past that what is a new finding is written still, unless the loader itself chose
+-- the words. Says it in a line.
 create or replace function write_refusal(of_bridge text, because text, told text, fetched timestamptz) returns text language plpgsql as $$
 declare
-    said  text := left(regexp_replace(told, '[^ -~]', '?', 'g'), 500);
-    named text := left(regexp_replace(of_bridge, '[^ -~]', '?', 'g'), 32);
-    its   bigint;
+    said    text := left(regexp_replace(told, '[^ -~]', '?', 'g'), 500);
+    named   text := left(regexp_replace(of_bridge, '[^ -~]', '?', 'g'), 32);
+    is_full boolean;
+    new_of  integer;
+    its     bigint;
 begin
-    if (select count(*) from (select from refusal where by = session_user and at > now() - interval '1 day' limit 100) r) < 100 then
+    -- a name that nobody registered, or of another's bridge, makes no more of them
+    select count(*) = 100 into is_full from (
+        select from refusal where by = session_user and at > now() - interval '1 day' and reason = because
+            and (bridge = named or because = 'login' or not exists (select from bridge b where b.bridge = named)) limit 100) r;
+    select max(j.journal) into new_of from journal j
+    where j.bridge = named and because not in ('older', 'newest', 'waited', 'unreachable') and not exists (
+        select from finding f join journal n using (journal)
+        where n.bridge = named and f.what in ('refused', 'replaced') and f.record = said and not exists (select from acknowledgement a where a.finding = f.finding));
+    if not is_full or new_of is not null and because not in ('cut', 'form', 'listener') then
         insert into refusal (bridge, reason, why, fetched_at) values (named, because, said, fetched) returning refusal into its;
         insert into finding (journal, what, first, last, record)
-        select max(j.journal), case because when 'replaced' then 'replaced' else 'refused' end, 0, its, said
-        from journal j
-        where j.bridge = named and because not in ('older', 'newest', 'waited', 'unreachable') and not exists (
-            select from finding f join journal n using (journal)
-            where n.bridge = named and f.what in ('refused', 'replaced') and f.record = said and not exists (select from acknowledgement a where a.finding = f.finding))
-        having count(*) > 0;
+        select new_of, case because when 'replaced' then 'replaced' else 'refused' end, 0, its, said where new_of is not null;
     end if;
     return format('%s: refused: %s', named, said);
 end $$;
@@ -466,8 +472,8 @@ begin
     perform add_to_delta(1);
     insert into delta
     select it.bridge, (moment at time zone (select zone from bridge where bridge = it.bridge))::date, count(*), sum(greatest(gross_kg, former_gross_kg)),
-        sum(abs(gross_kg - coalesce(former_gross_kg, preset_kg))), coalesce(sum(abs(gross_kg - former_gross_kg)) filter (where former_gross_kg > gross_kg), 0),
-        coalesce(sum(abs(gross_kg - former_gross_kg)) filter (where former_gross_kg <= gross_kg), 0), coalesce(sum(abs(gross_kg - preset_kg)) filter (where kind = 'single'), 0)
+        sum(coalesce(gross_kg - preset_kg, abs(gross_kg - former_gross_kg))), coalesce(sum(abs(gross_kg - former_gross_kg)) filter (where former_gross_kg > gross_kg), 0),
+        coalesce(sum(abs(gross_kg - former_gross_kg)) filter (where former_gross_kg <= gross_kg), 0), coalesce(sum(gross_kg - preset_kg) filter (where kind = 'single'), 0)
     from paired
     where number > behind and (kind = 'single' or kind = 'second' and former_kind = 'first')
         and number > (select coalesce(max(number), 0) from received_before where journal = it.journal)
@@ -580,8 +586,9 @@ begin
 
     insert into found
     select 'out of range', number, number, case when gross_kg % interval_kg <> 0 then format('gross %s kg is no multiple of e %s kg', gross_kg, interval_kg)
-        else format('gross %s kg is above Max %s kg + 9 e', gross_kg, max_kg) end
-    from compared where sound and not known and (gross_kg % interval_kg <> 0 or gross_kg > max_kg + 9 * interval_kg);
+        when gross_kg > max_kg + 9 * interval_kg then format('gross %s kg is above Max %s kg + 9 e', gross_kg, max_kg)
+        else format('preset tare %s kg is not below the gross of %s kg', preset_kg, gross_kg) end
+    from compared where sound and not known and (gross_kg % interval_kg <> 0 or gross_kg > max_kg + 9 * interval_kg or preset_kg >= gross_kg);
 
     insert into found
     select case kind when 'first' then 'open twice' else 'unpaired' end, number, number,
@@ -741,14 +748,16 @@ create or replace view finding_beside_stored as
 create or replace view open_finding as
     select finding, bridge, journal, what, numbers, record, stored, at, means, to_do, rank from finding_beside_stored where acknowledged_at is null;
 
--- When each bridge's newest journal was heard of last, and whether it fell silent.
+-- When each bridge's newest journal was heard of last, and whether it fell silent; when its last whole export was loaded, and whether the next is overdue.
 create or replace view heard as
     select b.bridge, l.journal, l.at as loaded, e.number, e.moment as newest, coalesce(now() - l.at > b.load_within, true) as is_silent,
-        coalesce(now() - e.moment > b.entry_within, e.moment is null and b.entry_within is not null) as is_idle
+        coalesce(now() - e.moment > b.entry_within, e.moment is null and b.entry_within is not null) as is_idle,
+        s.whole_at as whole, l.journal is not null and coalesce(now() - s.whole_at > b.whole_within, true) as is_overdue
     from bridge b
     left join lateral (
         select l.* from load l where l.journal = (select max(j.journal) from journal j where j.bridge = b.bridge) order by l.load desc limit 1) l on true
-    left join lateral (select e.number, e.moment from entry e where e.journal = l.journal order by e.number desc limit 1) e on true;
+    left join lateral (select e.number, e.moment from entry e where e.journal = l.journal order by e.number desc limit 1) e on true
+    left join standing s on s.journal = l.journal;
 
 -- The tickets of a haulier, with the day of the bridge's own zone.
 create or replace view haulier_ticket as
@@ -882,7 +891,7 @@ insert into advice (rank, what, means, to_do) values
     (15, 'key again', 'a key that another entry has: the service never stores one twice', 'keep the bridge''s files; both entries are in question'),
     (16, 'unpaired', 'a Second or Void whose First isn''t there', 'keep the bridge''s files; the First was taken out or changed'),
     (17, 'open twice', 'a First of a plate that has one open, which the service refuses', 'keep the bridge''s files; what stood between them was taken out or changed'),
-    (18, 'out of range', 'a gross that the service never stores', 'keep the bridge''s files, and hold the record against the printed slip'),
+    (18, 'out of range', 'a gross, or a preset tare beside it, that the service never stores', 'keep the bridge''s files, and hold the record against the printed slip'),
     (19, 'two names', 'the entry stands in the journal of another bridge or file too', 'ask which bridge the journal is of, and who loads it under the other name'),
     (20, 'no follower', 'the bridge''s former journal has the same entries with other digests', 'if the journal was brought over, register it as the follower; until then tickets are counted twice'),
     (21, 'refused', 'a load was refused', 'what is said of it tells what to do; nothing of it is stored'),

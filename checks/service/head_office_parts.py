@@ -419,6 +419,71 @@ def show_refusals(office, folder):
     case("and none of them is taken away", status and "refusal is never changed" in said, said)
 
 
+def show_floods(office, folder):
+    """What a login or a bridge does in masses hides neither another thing nor another bridge."""
+    office.register("FLOOD", "FLOOD1")
+    office.load("FLOOD", Book("FLOOD1").fill(30).write(f"{folder}/t.csv"))
+    older = "INSERT INTO head_office.handed (number, key, kind, plate, moment, interval_kg, max_kg, serial, digest) VALUES (31, 'K', 'void', 'X', now(), 20, 60000, 'FLOOD1', ''); SELECT head_office.take_in('FLOOD', false, '2020-01-01Z')"
+    office.cluster.told(*[older] * 101, user=LOADER)
+    same("of 101 older exports a hundred are written down", ["older|loads"] * 100, refusals(office, "FLOOD"))
+    office.load("FLOOD", Book("FLOOD1", age=DAY + 300).fill(30).write(f"{folder}/t.csv", fetched=time.time()))
+    page = office.cluster.run([f"{PARTS}/report"], user=READER)[1]
+    case(
+        "  and a journal that is replaced whole then is on the page",
+        re.search('<td>FLOOD</td><td title="[^"]*">replaced</td>', page),
+        page[2000:3000],
+    )
+    at = office.reads(
+        "SELECT to_char(max(at) AT TIME ZONE 'Europe/Berlin', 'YYYY-MM-DD HH24:MI') FROM head_office.refusal WHERE bridge = 'FLOOD' AND reason = 'older'"
+    )
+    case("  beside the refused loads, of the bridge's own zone", f'<tr><td>FLOOD</td><td>loads</td><td>{at}</td><td class="n">100</td>' in page, at)
+    office.cluster.told("SELECT head_office.note_refusal('REFUSED', 'listener', 'who took the port')", user="chatty")
+    same("a login that had its hundred of one reason is heard with another", ["who took the port"], findings(office, "REFUSED", "record")[-1:])
+    for name in ("MANY", "LOST"):
+        office.register(name, f"{name}1")
+    book = Book("LOST1", age=7_200).fill(30)
+    office.load("LOST", book.write(f"{folder}/t.csv"))
+    office.load("LOST", book.write(f"{folder}/t.csv", without=(20, 21, 22), fetched=time.time()))
+    book = Book("MANY1", age=7_200, step=10).fill(140)
+    for digit in "abc":
+        for row in book.rows:
+            row["digest"] = digit * 64
+        office.load("MANY", book.write(f"{folder}/t.csv", fetched=time.time()))
+    found = office.cluster.run([f"{PARTS}/report"], user=READER)[1].split("<h3>Loads that were refused")[0]
+    case("140 unsound records of a bridge don't take another's finding off the page", '">missing</td><td>20-22</td>' in found, found[2000:])
+    many = int(office.reads("SELECT count(*) FROM head_office.open_finding WHERE bridge = 'MANY'"))
+    case("  ten are shown of it, and how many more", many > 200 and found.count("<td>MANY</td>") == 10 and f" {many - 10} of MANY" in found, many)
+    case("  and whose times are which is said", "<th>record, in UTC</th><th>stored here, in UTC</th>" in found)
+    said = office.cluster.run([f"{PARTS}/watch", f"{folder}/flooded"], user=READER)[1]
+    case("  nor does the watch keep it to itself", re.search("^LOST: finding [0-9]+, missing 20-22: ", said, re.M), said[:500])
+    office.told(
+        "INSERT INTO head_office.acknowledgement (finding, note) SELECT finding, 'of a test' FROM head_office.open_finding WHERE bridge IN ('MANY', 'REFUSED')"
+    )
+
+
+def show_overdue(office, folder):
+    """A bridge that is loaded by its newest entries alone."""
+    office.register("PART", "PART1")
+    book = Book("PART1", age=7_200).fill(30)
+    office.load("PART", book.write(f"{folder}/t.csv"))
+    heard = "SELECT whole = to_timestamp({}), whole < loaded, is_silent, is_overdue FROM head_office.heard WHERE bridge = 'PART'"
+    whole = book.moment
+    same("when the last whole export was loaded", "t|t|f|f", office.reads(heard.format(whole)))
+    office.told("UPDATE head_office.bridge SET whole_within = '1 second' WHERE bridge = 'PART'")
+    with open(book.add("single", "F-1").write(f"{folder}/t.csv", 0), "a") as it:
+        it.writelines(book.line(number) + "\n" for number in range(25, 32))
+    office.shows("the newest entries alone are loaded", 0, "^PART: records 7, added 1, findings 0", "PART", f"{folder}/t.csv", is_newest=True)
+    same("  and the whole export is overdue", "t|t|f|t", office.reads(heard.format(whole)))
+    shown = office.cluster.run([f"{PARTS}/report"], user=READER)[1].split("<h3>Bridges that fell silent")[1].split("<h3>")[0]
+    at = office.reads(f"SELECT to_char(to_timestamp({whole}) AT TIME ZONE 'Europe/Berlin', 'YYYY-MM-DD HH24:MI')")
+    case("  on the page too", re.search(f"<td>PART</td><td>whole export overdue</td><td>[^<]*</td><td>{at}</td>", shown), (at, shown))
+    said = office.cluster.run([f"{PARTS}/watch", f"{folder}/overdue"], user=READER)[1]
+    case("  and the watch says it", "PART: the whole export is overdue, last loaded 20" in said, said[:500])
+    office.told("UPDATE head_office.bridge SET whole_within = '1 day' WHERE bridge = 'PART'")
+    office.load("PART", book.write(f"{folder}/t.csv", fetched=time.time()))
+    same("  until it is loaded", "f", office.reads("SELECT is_overdue FROM head_office.heard WHERE bridge = 'PART'"))
+
+
 def show_runs(office, folder):
     office.register("RUN", "RUN1")
     book = Book("RUN1", age=DAY * 8, step=60).fill(5_000)
@@ -558,6 +623,13 @@ def show_named(office, folder):
     shows("AHEAD", "ahead 31-32", lambda it: it.add("single", "F-1", moment=now + 3_600).add("single", "F-2"))
     shows("OVER", "out of range 31", lambda it: it.add("single", "F-1", 60_200))
     shows("OFF", "out of range 31", lambda it: it.add("single", "F-1", 20_010))
+    shows("TARE", "out of range 31", lambda it: it.add("single", "F-1", 20_000, preset=26_000))
+    same(
+        "  a preset tare above the gross, whose net is below zero",
+        "31,preset,F-1,,20000,26000,-6000",
+        office.reads("SELECT regexp_replace(line, ',20[^,]*:[^,]*', '') FROM head_office.ticket_line WHERE bridge = 'TARE' AND ticket = 31"),
+    )
+    shows("EVEN", "out of range 31", lambda it: it.add("single", "F-1", 20_000, preset=20_000))
     shows("OPEN", "open twice 32", lambda it: it.add("first", "F-1").add("first", "F-1"))
     # the setup
     office.register("SETUP", "SETUP1")
@@ -736,7 +808,7 @@ def show_upgrade(office, folder, loaded_by_1):
     for number in range(1, 5):
         cluster.run(["psql", "-X", "-q", "-v", "ON_ERROR_STOP=1", "--single-transaction", "-f", f"{PARTS}/schema/{number}.sql"], database="four")
     books = {}
-    for name in ("ONE", "TWO"):
+    for name in ("ONE", "TWO", "TARE"):
         cluster.told(
             f"INSERT INTO head_office.bridge (bridge, zone, retention_days) VALUES ('{name}', 'Europe/Berlin', 30)",
             f"INSERT INTO head_office.instrument VALUES ('{name}1', '{name}')",
@@ -747,10 +819,12 @@ def show_upgrade(office, folder, loaded_by_1):
     for name in ("ONE", "TWO"):
         books[name] = Book(f"{name}1", age=20 * DAY, step=5_000).fill(301)
         loaded_by_1(office, name, books[name].write(f"{folder}/four.csv"), "four", ", previous")
+    # version 4 showed a net below zero without its sign
+    loaded_by_1(office, "TARE", Book("TARE1").add("single", "T-1", 20_000, preset=26_000).write(f"{folder}/four.csv"), "four", ", previous")
     book = books["TWO"]
     book.change(50, gross=9_000)
     loaded_by_1(office, "TWO", book.write(f"{folder}/four.csv"), "four", ", previous")
-    totals = "SELECT bridge, day, tickets, gross_kg, net_kg, brought_kg, taken_kg, preset_kg FROM head_office.day_total ORDER BY 1, 2"
+    totals = "SELECT bridge, day, tickets, gross_kg, net_kg, brought_kg, taken_kg, preset_kg FROM head_office.day_total WHERE bridge <> 'TARE' ORDER BY 1, 2"
     site = "SELECT bridge, plate, number, gross_kg FROM head_office.on_site ORDER BY 1, 2"
     before = [cluster.told(it, database="four") for it in (totals, site, "SELECT what, first FROM head_office.finding")]
     environment = cluster.environment(database="four")
@@ -851,6 +925,7 @@ def show_pages(office, folder):
             f"INSERT INTO head_office.bridge (bridge, retention_days) SELECT 'B' || g, 90 FROM generate_series(1, {count}) g ON CONFLICT DO NOTHING",
             f"INSERT INTO head_office.journal (bridge) SELECT bridge FROM head_office.bridge WHERE bridge NOT IN (SELECT bridge FROM head_office.journal)",
             "INSERT INTO head_office.load (journal, records, added, findings, new_findings) SELECT journal, 0, 0, 0, 0 FROM head_office.journal",
+            "UPDATE head_office.standing SET whole_at = now()",
             "INSERT INTO head_office.day_sum SELECT current_date - d, bridge, 100, 1234567, 1000000 + d * 1000 * length(bridge), 1, 2, 3 FROM head_office.bridge, generate_series(1, 30) d ON CONFLICT DO NOTHING",
             user=clusters.OWNER,
         )
@@ -929,6 +1004,11 @@ def show_timers(office, folder):
         status == 0 and mail.startswith("-t -oi\nTo: office@example.org\nSubject: weighbridge-head-office@NORTH.service on "),
         (said, mail),
     )
+    os.remove(f"{folder}/mail")
+    for name in ("upgrade", "watch", "alarm"):
+        status, said = office.cluster.run([f"{PARTS}/{name}", "--help"], PGHOST="/nowhere", SENDMAIL=sendmail)
+        case(f"{name} --help prints its usage, and does nothing", status == 0 and said.startswith(f"Usage: {name}"), said)
+    case("  and mails none", not os.path.exists(f"{folder}/mail"))
     for unit in ("@", "-report", "-watch", "-backup"):
         with open(f"{top}/packaging/head_office/weighbridge-head-office{unit}.service") as it:
             case(f"weighbridge-head-office{unit}.service mails when it fails", "\nOnFailure=weighbridge-head-office-alarm@%n.service\n" in it.read())

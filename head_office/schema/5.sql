@@ -190,10 +190,13 @@ create table sealed_entry (
 
 -- What stands already ----------------------------------------------------------------------------------------------------------------------
 
+-- until now the net over a preset tare above the gross was shown without its sign, and the gross as the tare
 insert into day_sum
 select (t.at at time zone b.zone)::date, t.bridge, count(*), sum(t.gross_kg), sum(t.net_kg), coalesce(sum(t.net_kg) filter (where t.brought), 0),
     coalesce(sum(t.net_kg) filter (where not t.brought), 0), coalesce(sum(t.net_kg) filter (where t.kind = 'preset'), 0)
-from ticket t join bridge b using (bridge) group by 1, 2;
+from (
+    select bridge, kind, at, gross_kg, brought, case when kind = 'preset' and tare_kg = gross_kg then -net_kg else net_kg end as net_kg from ticket
+) t join bridge b using (bridge) group by 1, 2;
 
 insert into open_entry
 select e.journal, e.plate, e.number, e.moment, e.gross_kg
