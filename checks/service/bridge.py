@@ -110,14 +110,14 @@ class Fed:
 class Service:
     """`weighbridge serve` over a file, with a converter that this program plays."""
 
-    def __init__(self, program, file, converter, *options, turns=1_000_000_000, limit=None):
-        """`limit` is called in the new process before the program begins."""
+    def __init__(self, program, file, converter, *options, turns=1_000_000_000, limit=None, errors=subprocess.PIPE):
+        """`limit` is called in the new process before the program begins; `errors` is its standard error."""
         self.converter = converter
         self.terminal, self.office = free_port(), free_port()
         words = [program, "serve", "--file", file, "--terminal", f"{HOST}:{self.terminal}", "--office", f"{HOST}:{self.office}"]
         words += ["--converter", converter.source, "--turns", str(turns), *options]
         self.process = subprocess.Popen(
-            words, stdin=subprocess.DEVNULL, stdout=subprocess.PIPE, stderr=subprocess.PIPE, text=True, preexec_fn=limit
+            words, stdin=subprocess.DEVNULL, stdout=subprocess.PIPE, stderr=errors, text=True, preexec_fn=limit
         )
         converter.begin()
         self.wait_for_office()

@@ -1,4 +1,10 @@
 //! Why nothing can listen on an address, or a converter can't be opened.
+ghost use Rattle.std.specs.Prelude.{◌≡◌, ◌≢◌};
+ghost use Rattle.std.specs.IoError.{error_kind};
+ghost use Rattle.std.specs.declared.io.ErrorKind.TheVariants as kind;
+ghost use Rattle.wb_connections.specs.Causes.{stays};
+ghost use Rattle.wb_connections.specs.declared.cause.Cause.TheVariants as cause;
+
 use std::fmt::Display;
 use std::io::ErrorKind;
 use std::{fmt, io};
@@ -22,7 +28,15 @@ pub enum Cause {
 
 impl Cause {
     /// Of an error of the system.
-    pub fn of(error: &io::Error) -> Cause {
+    pub fn of(error: &io::Error) -> Cause
+        ensures not_there { error_kind error.now ≡ kind.NotFound → result ≡ cause.NotThere }
+        ensures not_permitted { error_kind error.now ≡ kind.PermissionDenied → result ≡ cause.NotPermitted }
+        ensures in_use { error_kind error.now ≡ kind.AddrInUse → result ≡ cause.InUse }
+        ensures nobody { error_kind error.now ≡ kind.ConnectionRefused → result ≡ cause.NobodyListens }
+        ensures other { error_kind error.now ≢ kind.NotFound → error_kind error.now ≢ kind.PermissionDenied
+            → error_kind error.now ≢ kind.AddrInUse → error_kind error.now ≢ kind.ConnectionRefused
+            → result ≡ cause.System }
+    {
         match error.kind() {
             ErrorKind::NotFound => Cause::NotThere,
             ErrorKind::PermissionDenied => Cause::NotPermitted,
@@ -33,7 +47,9 @@ impl Cause {
     }
 
     /// Whether it stays, however often it is tried: other words are needed.
-    pub fn is_for_good(self) -> bool {
+    pub fn is_for_good(self) -> bool
+        ensures { result ≡ stays self }
+    {
         matches!(self, Cause::NotLoopback | Cause::Folder)
     }
 }

@@ -13,7 +13,7 @@ use std::io::Read;
 use std::net::{Net, OpenStream};
 use std::time::{Clock, Duration, Instant};
 use thiserror::Error;
-use wb_sources::Converter as Said;
+use wb_sources::Converter;
 use wb_window::Reading;
 
 /// A converter that can't be opened, with the cause.
@@ -23,7 +23,7 @@ pub struct ConverterFault(pub Cause);
 
 /// Where readings come from. What was read of a line survives a silent second.
 #[derive(Drop)]
-pub struct Converter<S: Read + OpenStream + Drop> {
+pub struct ConverterLink<S: Read + OpenStream + Drop> {
     source: Source<S>,
     lines: Lines,
     /// What the last read found.
@@ -34,7 +34,7 @@ pub struct Converter<S: Read + OpenStream + Drop> {
     heard: Instant,
 }
 
-impl<S: Read + OpenStream + Drop> Converter<S> {
+impl<S: Read + OpenStream + Drop> ConverterLink<S> {
     /// Opens the converter of a text: `tcp:` and an address of this machine alone, to which it connects; or the path of a file.
     ///
     /// # Errors
@@ -49,14 +49,14 @@ impl<S: Read + OpenStream + Drop> Converter<S> {
             Err(cause) => return Err(ConverterFault(cause)),
         };
         match Instant::now(rt) {
-            Ok(now) => Ok(Converter::over(source, now)),
+            Ok(now) => Ok(ConverterLink::over(source, now)),
             Err(error) => Err(ConverterFault(Cause::of(&error))),
         }
     }
 
     /// Over a source that is open, from this time on.
     pub fn over(source: Source<S>, now: Instant) -> Self {
-        Converter {
+        ConverterLink {
             source,
             lines: Lines::new(),
             found: Ready::Nothing,
@@ -70,13 +70,13 @@ impl<S: Read + OpenStream + Drop> Converter<S> {
     ///
     /// A line that may have come more than a second before is dropped. So a gap of more than a second, in which nobody called, hands
     /// in a lost reading for each whole second.
-    pub fn next_within(&mut self, clock: &impl Clock, patience: Duration) -> Option<Said>
+    pub fn next_within(&mut self, clock: &impl Clock, patience: Duration) -> Option<Converter>
         ensures { IfSome result IsConverted }
     {
         for _ in 0..ENDLESS_LINE {
             if self.look(clock) {
                 if let Some(reading) = self.next_fresh(clock) {
-                    return Some(Said::Line(reading));
+                    return Some(Converter::Line(reading));
                 }
             } else if let Some(said) = self.without_line() {
                 return Some(said);
@@ -86,7 +86,7 @@ impl<S: Read + OpenStream + Drop> Converter<S> {
             }
         }
         // so many old lines, and no end of them
-        Some(Said::Line(Reading::Lost))
+        Some(Converter::Line(Reading::Lost))
     }
 
     /// Whether no line waits that has come, and the last one holds that was handed in: it came less than a second before, or a silent
@@ -150,19 +150,19 @@ impl<S: Read + OpenStream + Drop> Converter<S> {
     }
 
     /// What is handed in where no line waits: the end, a fault, or a lost reading for a second without a line.
-    fn without_line(&mut self) -> Option<Said>
+    fn without_line(&mut self) -> Option<Converter>
         ensures { IfSome result IsConverted }
     {
         match self.found {
-            Ready::End => Some(Said::End),
-            Ready::Fault => Some(Said::Fault),
+            Ready::End => Some(Converter::End),
+            Ready::Fault => Some(Converter::Fault),
             Ready::Bytes(_) | Ready::Nothing => {
                 if !is_past(self.heard, FRESH_SECONDS, self.looked) {
                     return None;
                 }
                 let second = Duration::from_secs(FRESH_SECONDS);
                 self.heard = self.heard.checked_add(second).unwrap_or(self.looked);
-                Some(Said::Line(Reading::Lost))
+                Some(Converter::Line(Reading::Lost))
             }
         }
     }

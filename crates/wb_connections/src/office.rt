@@ -11,7 +11,7 @@ use wb_sources::REQUEST_ROOM;
 
 /// The listener and its connections, with requests that are judged as `J`.
 #[derive(Drop)]
-pub struct Office<L: OpenListener + Drop, J: Drop>
+pub struct OfficeClients<L: OpenListener + Drop, J: Drop>
 where
     L::Stream: Read + Write + OpenStream,
 {
@@ -25,13 +25,13 @@ where
     without_request: u64,
 }
 
-impl<L: OpenListener + Drop, J: Drop> Office<L, J>
+impl<L: OpenListener + Drop, J: Drop> OfficeClients<L, J>
 where
     L::Stream: Read + Write + OpenStream,
 {
     /// Over a listener that doesn't wait, from this time on. Refuses for want of memory alone.
     pub fn new(alloc: Global, listener: L, now: Instant) -> Result<Self, AllocError> {
-        Ok(Office {
+        Ok(OfficeClients {
             listener,
             looked: now,
             connections: Vec::with_capacity(alloc, CONNECTIONS)?,

@@ -1,4 +1,6 @@
 //! What is told of the service on standard error, where that is asked for.
+ghost use Rattle.std.specs.Prelude.{◌≡◌};
+
 use std::fmt::Display;
 
 /// Tells of the service, a line for each thing that happened, or nothing at all.
@@ -15,7 +17,9 @@ impl<'a, R: Eprint> Report<'a, R> {
     }
 
     /// Whether anything is told.
-    pub fn is_on(&self) -> bool {
+    pub fn is_on(&self) -> bool
+        ensures { result ≡ self.now.is_on }
+    {
         self.is_on
     }
 

@@ -30,7 +30,7 @@ struct Connection<S: Drop> {
 
 /// The connection if there is one, and those that wait.
 #[derive(Drop)]
-pub struct Terminal<L: OpenListener + Drop>
+pub struct TerminalClients<L: OpenListener + Drop>
 where
     L::Stream: Read + Write + OpenStream,
 {
@@ -46,13 +46,13 @@ where
     room: [u8; TERMINAL_ROOM],
 }
 
-impl<L: OpenListener + Drop> Terminal<L>
+impl<L: OpenListener + Drop> TerminalClients<L>
 where
     L::Stream: Read + Write + OpenStream,
 {
     /// Over a listener that doesn't wait, from this time on, with the room for replies. Refuses for want of memory alone.
     pub fn new(alloc: Global, listener: L, now: Instant) -> Result<Self, AllocError> {
-        Ok(Terminal {
+        Ok(TerminalClients {
             queue: Queue::new(alloc, listener, now)?,
             connection: None,
             replies: Vec::with_capacity(alloc, WAITING_REPLIES)?,

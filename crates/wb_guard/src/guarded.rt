@@ -8,7 +8,7 @@ use std::{fs, io};
 use wb_file::Witness;
 use wb_journal::Moment;
 use wb_sources::{Converter, REQUEST_ROOM, TERMINAL_ROOM, Taken};
-use wb_station::{Exchange, Sources};
+use wb_station::{Exchange, Sources, StoreFault};
 use wb_witness::{entry_of, is_stored};
 
 /// A file that is open, by its path, its device and its number there. No other file has these two while it is open.
@@ -185,5 +185,9 @@ impl<S: Sources + Drop> Sources for Guarded<'_, S> {
         } else {
             self.sources.respond(bytes);
         }
+    }
+
+    fn store_fault(&mut self, fault: StoreFault) {
+        self.sources.store_fault(fault);
     }
 }

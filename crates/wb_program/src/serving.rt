@@ -12,7 +12,7 @@ use sqlite::Alter;
 use thiserror::Error;
 use wb_journal::Moment;
 use wb_sources::{Converter, REQUEST_ROOM, TERMINAL_ROOM};
-use wb_station::{Event, Incoming, Judged, Output, Sources, Station, reply_bytes};
+use wb_station::{Event, Incoming, Judged, Output, Sources, Station, StoreFault, reply_bytes};
 use wb_window::Window;
 
 /// How serving ended.
@@ -165,6 +165,16 @@ fn handle_judged<W: Window, D: Alter, S: Sources>(
 {
     let output = station.answer(moment, request);
     hand_on(output, sources);
+    tell_store_fault(station.store_fault(), sources);
+}
+
+/// Tells why the store refused a request, if it did.
+fn tell_store_fault<S: Sources>(fault: Option<StoreFault>, sources: &mut S)
+    ensures { SourceTells [] [] (S.told sources.old) (S.told sources.new) }
+{
+    if let Some(fault) = fault {
+        sources.store_fault(fault);
+    }
 }
 
 /// Hands an event to the station, and hands on what it puts out.

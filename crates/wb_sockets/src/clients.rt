@@ -4,7 +4,7 @@ use std::alloc::{AllocError, Global};
 use std::io::{Read, Write};
 use std::net::{OpenListener, OpenStream};
 use std::time::Instant;
-use wb_connections::{Office, Report, Terminal};
+use wb_connections::{OfficeClients, Report, TerminalClients};
 use wb_station::Judged;
 
 /// A terminal and an office, and what requests to the office are.
@@ -14,8 +14,8 @@ where
     L::Stream: Read + Write + OpenStream,
 {
     requests: StationRequests,
-    pub(crate) terminal: Terminal<L>,
-    pub(crate) office: Office<L, Judged>,
+    pub(crate) terminal: TerminalClients<L>,
+    pub(crate) office: OfficeClients<L, Judged>,
 }
 
 impl<L: OpenListener + Drop> Clients<L>
@@ -31,8 +31,8 @@ where
     ) -> Result<Self, AllocError> {
         Ok(Clients {
             requests: StationRequests::new(alloc)?,
-            terminal: Terminal::new(alloc, terminal, now)?,
-            office: Office::new(alloc, office, now)?,
+            terminal: TerminalClients::new(alloc, terminal, now)?,
+            office: OfficeClients::new(alloc, office, now)?,
         })
     }
 

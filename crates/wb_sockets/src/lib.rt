@@ -10,4 +10,4 @@ mod telling;
 
 pub use requests::StationRequests;
 pub use sockets::{Sockets, StartFault};
-pub use wb_connections::{AddressFault, Cause, Converter, ConverterFault, listen, loopback};
+pub use wb_connections::{AddressFault, Cause, ConverterFault, ConverterLink, listen, loopback};

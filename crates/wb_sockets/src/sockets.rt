@@ -11,12 +11,12 @@ use std::thread;
 use std::time::{Clock, Duration, Instant, SystemTime, UNIX_EPOCH};
 use thiserror::Error;
 use wb_connections::{
-    Converter, ENDLESS_LINE, FINISH_SECONDS, LOOK_MILLIS, Office, PAUSE_MILLIS, Report, Terminal,
-    is_past,
+    ConverterLink, ENDLESS_LINE, FINISH_SECONDS, LOOK_MILLIS, OfficeClients, PAUSE_MILLIS, Report,
+    TerminalClients, is_past,
 };
 use wb_journal::Moment;
-use wb_sources::{Converter as Said, REQUEST_ROOM, TERMINAL_ROOM, Taken};
-use wb_station::{Exchange, Incoming, Judged, Sources};
+use wb_sources::{Converter, REQUEST_ROOM, TERMINAL_ROOM, Taken};
+use wb_station::{Exchange, Incoming, Judged, Sources, StoreFault};
 use wb_window::Reading;
 
 /// How often what waits for clients is looked at at the end.
@@ -54,7 +54,7 @@ where
 {
     rt: &'a R,
     report: Report<'a, R>,
-    converter: Converter<L::Stream>,
+    converter: ConverterLink<L::Stream>,
     clients: Clients<L>,
     /// When the clock was last read.
     now: Instant,
@@ -78,7 +78,7 @@ where
         rt: &'a R,
         terminal: L,
         office: L,
-        converter: Converter<L::Stream>,
+        converter: ConverterLink<L::Stream>,
         verbose: bool,
     ) -> Result<Self, StartFault> {
         let Ok(now) = Instant::now(rt) else {
@@ -130,7 +130,7 @@ where
     }
 
     /// What the converter says next. Responses go on while it is waited for.
-    fn next_said(&mut self) -> Said
+    fn next_said(&mut self) -> Converter
         ensures { IsConverted result }
     {
         for _ in 0..ENDLESS_LINE {
@@ -147,7 +147,7 @@ where
             self.clients.office.go_on(now, &self.report);
         }
         // so many waits that were broken off, and no second is over
-        Said::Line(Reading::Lost)
+        Converter::Line(Reading::Lost)
     }
 
     /// A turn of the office's connections.
@@ -196,9 +196,9 @@ where
 {
     ghost told = { λ _. None };
 
-    fn converter(&mut self) -> Said {
+    fn converter(&mut self) -> Converter {
         let said = self.next_said();
-        if said == Said::Fault {
+        if said == Converter::Fault {
             self.report.line("converter: it can't be read");
         }
         said
@@ -246,6 +246,11 @@ where
         if let Some(peer) = peer {
             self.tell_exchange(peer, bytes, took);
         }
+    }
+
+    fn store_fault(&mut self, fault: StoreFault) {
+        self.report
+            .line(format_args!("journal: fault of the store {fault}"));
     }
 }
 

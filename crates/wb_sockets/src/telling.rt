@@ -1,7 +1,7 @@
 //! What is told of an exchange of the office: what was asked, under which key, and what the answer begins with.
 use arrayvec::ArrayString;
+use std::fmt;
 use std::fmt::{Display, Write};
-use std::{fmt, str};
 
 /// The most bytes that are told of one part.
 const MOST: usize = 64;

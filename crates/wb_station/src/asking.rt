@@ -1,4 +1,5 @@
 //! What follows once a request was judged: the office answers it, or its fault is reported, and the response is left in the room.
+//! Why the store refused it, if it did, is told beside it, since the response has only that it did.
 ghost use Rattle.std.specs.Prelude.{Bool, List, Ok, ℕ};
 ghost use Rattle.wb_station.specs.Account.{IsResponseOut, responded};
 ghost use Rattle.wb_events.specs.Happening.{office as office_happening};
@@ -9,10 +10,12 @@ ghost use Rattle.wb_http.specs.UnlessMemoryRefused.{WasJudged};
 
 use sqlite::Alter;
 use std::alloc::Global;
+use wb_events::{Answer, Refusal};
 use wb_http::{HttpFault, Outcome, ResponseRoom, response_bytes};
 use wb_journal::Moment;
 use wb_office::{Office, Request};
 use wb_sics::Terminal;
+use wb_store::StoreFault;
 use wb_window::Window;
 
 /// Asks the office what a request's bytes were judged as, and leaves the response in the room.
@@ -23,14 +26,17 @@ pub(crate) fn ask<W: Window, D: Alter>(
     room: &mut ResponseRoom,
     moment: &Moment,
     judged: Result<Request, HttpFault>,
-)
+) -> Option<StoreFault>
     ensures { (bytes : List ℕ) → WasJudged bytes judged → (unmade : Bool)
         × Took D.Store (office_happening moment.now bytes unmade)
         (responded room.new) terminal.old office.old terminal.new office.new }
 {
     match judged {
         Ok(request) => answer(alloc, terminal, office, room, moment, request),
-        Err(fault) => put_fault(room, moment, fault),
+        Err(fault) => {
+            put_fault(room, moment, fault);
+            None
+        }
     }
 }
 
@@ -43,19 +49,30 @@ fn answer<W: Window, D: Alter>(
     room: &mut ResponseRoom,
     moment: &Moment,
     request: Request,
-)
+) -> Option<StoreFault>
     ensures { (bytes : List ℕ) → IsJudged bytes (Ok request) → (unmade : Bool)
         × Took D.Store (office_happening moment.now bytes unmade)
         (responded room.new) terminal.old office.old terminal.new office.new }
 {
     let asked = request.copied();
     let result = office.answer(alloc, terminal.scale_mut(), moment.copied(), request);
+    let fault = fault_of(&result);
     let outcome = Outcome::Office {
         request: &asked,
         result: &result,
     };
     if response_bytes(moment.copied(), outcome, room).is_err() {
         put_fault(room, moment, HttpFault::Memory);
+        return fault;
+    }
+    fault
+}
+
+/// Why the store refused a request, if it did.
+fn fault_of(answered: &Result<Answer, Refusal>) -> Option<StoreFault> {
+    match answered {
+        Err(Refusal::Store(fault)) => Some(*fault),
+        Ok(_) | Err(_) => None,
     }
 }
 

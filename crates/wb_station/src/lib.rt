@@ -29,3 +29,4 @@ pub use wb_events::Event;
 pub use wb_http::{
     HttpFault, Judged, Method, Outcome, ResponseRoom, Routes, request_of, response_bytes,
 };
+pub use wb_store::StoreFault;

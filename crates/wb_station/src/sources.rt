@@ -6,6 +6,7 @@ ghost use Rattle.wb_station.specs.SourceAnswers.{IsInRoom, Told, SourceTells, as
 use wb_http::Judged;
 use wb_journal::Moment;
 use wb_sources::{Converter, REQUEST_ROOM, TERMINAL_ROOM, Taken};
+use wb_store::StoreFault;
 
 /// A request to the office as sources hand it out.
 #[derive(Drop)]
@@ -69,4 +70,9 @@ pub trait Sources {
     /// Takes the response to the request that was handed out last.
     fn respond(&mut self, bytes: &[u8])
         ensures told { SourceTells [] (to_office bytes.now ∷ []) (told self.old) (told self.new) };
+
+    /// Takes why the store refused the judged request that was responded to last. Sources that don't tell it drop it.
+    fn store_fault(&mut self, _fault: StoreFault)
+        ensures told { SourceTells [] [] (told self.old) (told self.new) }
+    {}
 }

@@ -25,7 +25,7 @@ use wb_journal::Moment;
 use wb_office::{Office, Request};
 use wb_scale::Scale;
 use wb_sics::{Replies, Terminal};
-use wb_store::Store;
+use wb_store::{Store, StoreFault};
 use wb_window::{Reading, Window};
 
 /// A weighbridge: readings, the terminal's bytes and the office's requests come to it one by one.
@@ -41,6 +41,8 @@ pub struct Station<W: Window, D: Alter> {
     pub(crate) office: Office<D>,
     pub(crate) replies: Replies,
     pub(crate) response: ResponseRoom,
+    /// Why the store refused the request that was answered last, if it did.
+    pub(crate) store_fault: Option<StoreFault>,
 }
 
 /// A station that was not opened, for want of memory: its window and its store.
@@ -88,6 +90,7 @@ impl<W: Window, D: Alter> Station<W, D> {
             office: Office::new(store),
             replies: Replies::new(),
             response,
+            store_fault: None,
         })
     }
 
@@ -123,6 +126,13 @@ impl<W: Window, D: Alter> Station<W, D> {
         self.output(room)
     }
 
+    /// Why the store refused the request that was answered last, if it did: the response says only that it did.
+    pub fn store_fault(&self) -> Option<StoreFault>
+        ensures { result ≡ self.now.store_fault }
+    {
+        self.store_fault
+    }
+
     /// Takes an event, and makes what it puts out in a room.
     pub(crate) fn take(&mut self, event: &Event<'_>) -> Room
         requires { IsTaken event.now }
@@ -155,7 +165,7 @@ impl<W: Window, D: Alter> Station<W, D> {
             (shown_in result self.new.replies.items self.new.response)
             self.old.terminal self.old.office self.new.terminal self.new.office }
     {
-        ask(
+        self.store_fault = ask(
             self.alloc,
             &mut self.terminal,
             &mut self.office,

@@ -1,13 +1,13 @@
 //! A look whether a service would start. Nothing is started, made or written.
-use crate::printing::{Print, Source, print_journal};
-use crate::service::{ServiceFault, journal_fault, tell_cause};
+use crate::journal::{Task, over_journal};
+use crate::printing::Print;
+use crate::service::{ServiceFault, tell_cause};
 use crate::start::print_start;
 use std::fs;
 use wb_command::Service;
+use wb_file::JournalFile;
 use wb_instrument::Instrument;
-use wb_program::PrintFault;
 use wb_sockets::{AddressFault, Cause, ConverterFault, listen, loopback};
-use wb_store::StoreFault;
 
 /// What names of files beside the journal have behind its own.
 static BESIDE: [&str; 3] = ["", "-wal", "-newest"];
@@ -35,11 +35,9 @@ fn look_at_journal(
         print_start(rt, instrument, service, None);
         return Ok(());
     }
-    match print_journal(rt, Source::Kept(path), Print::Start(instrument, service)) {
-        Ok(_) => Ok(()),
-        Err(PrintFault::Store(fault)) => Err(journal_fault(rt, service, fault)),
-        Err(fault) => Err(ServiceFault::Journal(fault)),
-    }
+    let opened = JournalFile::open_copy(rt, path);
+    over_journal(rt, opened, Task::Print(Print::Start(instrument, service)))?;
+    Ok(())
 }
 
 /// Whether nothing of the journal is there, and a folder in which it can be made is.

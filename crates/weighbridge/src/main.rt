@@ -1,24 +1,27 @@
 //! The program `weighbridge`: the process's own streams and files around what `wb_program` does, as its command line asks.
 #![tactic(auto)]
 
+mod built;
+mod journal;
 mod look;
 mod printing;
 mod service;
-mod sources;
 mod start;
 mod streams;
 
+use crate::built::{KIT, SOURCES};
+use crate::journal::{Done, Task, over_journal};
 use crate::look::look_at_start;
-use crate::printing::{Print, Source, print_journal};
-use crate::service::serve_bridge;
-use crate::sources::{KIT, SOURCES};
+use crate::printing::Print;
 use crate::streams::filled;
 use clap::error::ErrorKind;
 use std::io;
 use std::process::ExitCode;
 use wb_command::{Asked, REFUSED, Service, read_words};
+use wb_file::JournalFile;
 use wb_instrument::Instrument;
 use wb_program::{ReplayEnd, ServeEnd, What, replay};
+use wb_store::StoreFault;
 
 /// The status of a damaged journal, and of any fault but refused words or a refused setup.
 const FAULT: u8 = 1;
@@ -32,14 +35,14 @@ fn main(rt: HostRuntime) -> io::Result<ExitCode> {
     match read_words(rt.alloc(), words.as_slice())? {
         Asked::Replay(instrument) => run_replay(&rt, instrument),
         Asked::Serve(instrument, service) => run_service(&rt, instrument, &service),
-        Asked::Check(path) => run_print(&rt, Source::Kept(&path), Print::Check),
-        Asked::ExportJournal(path) => {
-            run_print(&rt, Source::Kept(&path), Print::Export(What::Journal))
-        }
-        Asked::ExportTickets(path) => {
-            run_print(&rt, Source::Kept(&path), Print::Export(What::Tickets))
-        }
-        Asked::Migrate(from, to) => run_print(&rt, Source::Migrated(&from, &to), Print::Migrated),
+        Asked::Check(path) => run_print(&rt, &path, Print::Check),
+        Asked::ExportJournal(path) => run_print(&rt, &path, Print::Export(What::Journal)),
+        Asked::ExportTickets(path) => run_print(&rt, &path, Print::Export(What::Tickets)),
+        Asked::Migrate(from, to) => run_over(
+            &rt,
+            JournalFile::migrate(&rt, &from, &to),
+            Task::Print(Print::Migrated),
+        ),
         Asked::SetupRefused(fault) => {
             eprintln!(rt; "{fault}")?;
             Ok(ExitCode::from(fault.status()))
@@ -79,16 +82,27 @@ fn run_service(
     service: &Service,
 ) -> io::Result<ExitCode> {
     if service.is_look {
-        run_look(rt, &instrument, service)
-    } else {
-        run_serve(rt, instrument, service)
+        return run_look(rt, &instrument, service);
     }
+    let opened = JournalFile::open(rt, service.file.as_str());
+    run_over(rt, opened, Task::Serve(instrument, service))
 }
 
-/// Serves a bridge, and prints how many turns there were, or reports the fault that ended it.
-fn run_serve(rt: &HostRuntime, instrument: Instrument, service: &Service) -> io::Result<ExitCode> {
-    match serve_bridge(rt, instrument, service) {
-        Ok(end) => end_service(rt, end),
+/// Prints this of the journal in the file.
+fn run_print(rt: &HostRuntime, path: &str, print: Print<'_>) -> io::Result<ExitCode> {
+    run_over(rt, JournalFile::open_copy(rt, path), Task::Print(print))
+}
+
+/// Does this over a journal, or reports the fault that was met.
+fn run_over(
+    rt: &HostRuntime,
+    opened: Result<JournalFile, StoreFault>,
+    task: Task<'_>,
+) -> io::Result<ExitCode> {
+    match over_journal(rt, opened, task) {
+        Ok(Done::Served(end)) => end_service(rt, end),
+        Ok(Done::Printed(true)) => Ok(ExitCode::SUCCESS),
+        Ok(Done::Printed(false)) => Ok(ExitCode::from(FAULT)),
         Err(fault) => {
             eprintln!(rt; "{fault}")?;
             Ok(ExitCode::from(FAULT))
@@ -96,6 +110,7 @@ fn run_serve(rt: &HostRuntime, instrument: Instrument, service: &Service) -> io:
     }
 }
 
+/// Prints how many turns there were, or reports the fault that ended them.
 fn end_service(rt: &HostRuntime, end: ServeEnd) -> io::Result<ExitCode> {
     match end {
         ServeEnd::Turns(_) => println!(rt; "{end}")?,
@@ -115,18 +130,6 @@ fn run_look(rt: &HostRuntime, instrument: &Instrument, service: &Service) -> io:
             eprintln!(rt; "{fault}")?;
             let status = if fault.is_for_good() { REFUSED } else { FAULT };
             Ok(ExitCode::from(status))
-        }
-    }
-}
-
-/// Prints this of the journal, or reports the fault that was met.
-fn run_print(rt: &HostRuntime, source: Source<'_>, print: Print<'_>) -> io::Result<ExitCode> {
-    match print_journal(rt, source, print) {
-        Ok(true) => Ok(ExitCode::SUCCESS),
-        Ok(false) => Ok(ExitCode::from(FAULT)),
-        Err(fault) => {
-            eprintln!(rt; "{fault}")?;
-            Ok(ExitCode::from(FAULT))
         }
     }
 }

@@ -3,28 +3,9 @@ use crate::start::print_start;
 use sqlite::Alter;
 use std::{io, str};
 use wb_command::Service;
-use wb_file::JournalFile;
 use wb_instrument::Instrument;
 use wb_program::{PrintFault, What, print_check, print_export, print_migrated};
-use wb_store::{Store, StoreFault};
-
-/// Where a journal is that something is printed of.
-#[derive(Clone, Copy)]
-pub(crate) enum Source<'a> {
-    /// In the file.
-    Kept(&'a str),
-    /// In the second file, once that of version 1 in the first one was brought there.
-    Migrated(&'a str, &'a str),
-}
-
-impl Source<'_> {
-    fn open(self, rt: &HostRuntime) -> Result<JournalFile, StoreFault> {
-        match self {
-            Source::Kept(path) => JournalFile::open_copy(rt, path),
-            Source::Migrated(from, to) => JournalFile::migrate(rt, from, to),
-        }
-    }
-}
+use wb_store::Store;
 
 /// What is printed of a journal.
 #[derive(Clone, Copy)]
@@ -37,20 +18,8 @@ pub(crate) enum Print<'a> {
     Start(&'a Instrument, &'a Service),
 }
 
-/// Prints this of the journal. Answers false where a check finds damage.
-pub(crate) fn print_journal(
-    rt: &HostRuntime,
-    source: Source<'_>,
-    print: Print<'_>,
-) -> Result<bool, PrintFault> {
-    match source.open(rt) {
-        Ok(mut journal) => print_from(rt, journal.store(), print),
-        Err(fault) => Err(PrintFault::Store(fault)),
-    }
-}
-
-/// Prints this of the store's journal.
-fn print_from<D: Alter>(
+/// Prints this of the store's journal. Answers false where a check finds damage.
+pub(crate) fn print_from<D: Alter>(
     rt: &HostRuntime,
     store: &mut Store<D>,
     print: Print<'_>,

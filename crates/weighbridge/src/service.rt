@@ -5,11 +5,10 @@ use std::fmt::Display;
 use std::net::{TcpListener, TcpStream};
 use thiserror::Error;
 use wb_command::Service;
-use wb_file::JournalFile;
 use wb_guard::Guarded;
 use wb_instrument::Instrument;
 use wb_program::{PrintFault, ServeEnd, serve};
-use wb_sockets::{AddressFault, Converter, ConverterFault, Sockets, StartFault, listen};
+use wb_sockets::{AddressFault, ConverterFault, ConverterLink, Sockets, StartFault, listen};
 use wb_station::Station;
 use wb_store::{Store, StoreFault};
 use wb_window::DequeWindow;
@@ -48,6 +47,12 @@ impl ServiceFault {
     }
 }
 
+impl From<PrintFault> for ServiceFault {
+    fn from(fault: PrintFault) -> Self {
+        ServiceFault::Journal(fault)
+    }
+}
+
 impl From<StartFault> for ServiceFault {
     fn from(fault: StartFault) -> Self {
         match fault {
@@ -57,21 +62,8 @@ impl From<StartFault> for ServiceFault {
     }
 }
 
-/// Serves the bridge, and then its clients for some seconds more, so that each has what waits for it.
-pub(crate) fn serve_bridge(
-    rt: &HostRuntime,
-    instrument: Instrument,
-    service: &Service,
-) -> Result<ServeEnd, ServiceFault> {
-    match JournalFile::open(rt, service.file.as_str()) {
-        Ok(journal) => serve_store(rt, instrument, journal.into_store(), service),
-        Err(fault) => Err(journal_fault(rt, service, fault)),
-    }
-}
-
-/// The same, with the journal open. It is generic over the database, since a function that holds one over files is dear to prove, the more so the more
-/// it holds beside.
-fn serve_store<D: Alter + Drop>(
+/// Serves the bridge over the store of its journal, and then its clients for some seconds more, so that each has what waits for it.
+pub(crate) fn serve_store<D: Alter + Drop>(
     rt: &HostRuntime,
     instrument: Instrument,
     store: Store<D>,
@@ -142,8 +134,8 @@ fn listen_at(
 fn open_converter(
     rt: &HostRuntime,
     service: &Service,
-) -> Result<Converter<TcpStream>, ServiceFault> {
-    match Converter::open(rt, service.converter.as_str()) {
+) -> Result<ConverterLink<TcpStream>, ServiceFault> {
+    match ConverterLink::open(rt, service.converter.as_str()) {
         Ok(converter) => Ok(converter),
         Err(fault) => {
             tell_cause(rt, service, "converter", &service.converter, fault.0);

@@ -1,5 +1,5 @@
 //! What a service that starts tells of itself, where that is asked for.
-use crate::sources::{KIT, SOURCES};
+use crate::built::{KIT, SOURCES};
 use sqlite::Alter;
 use std::fmt;
 use std::fmt::Display;

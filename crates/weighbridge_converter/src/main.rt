@@ -1,20 +1,20 @@
 //! The program `weighbridge-converter`: the process's own streams and files around what `wb_converter` does, as its command line asks.
 #![tactic(auto)]
 
+mod built;
 mod fault;
 mod fifo;
 mod files;
 mod making;
 mod serving;
 mod showing;
-mod sources;
 
+use crate::built::{KIT, SOURCES};
 use crate::fault::Fault;
 use crate::files::{bytes_of, newest_of};
 use crate::making::{Found, finish, keep_point, sample, tenths_of};
 use crate::serving::serve;
 use crate::showing::{plot, show};
-use crate::sources::{KIT, SOURCES};
 use clap::error::ErrorKind;
 use std::io;
 use std::process::ExitCode;

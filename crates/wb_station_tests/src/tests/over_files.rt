@@ -5,7 +5,7 @@ use sqlite_disk::{Disk, Fuse, Memory};
 use std::alloc::Global;
 use std::test::Fail;
 use wb_station::Station;
-use wb_store::Store;
+use wb_store::{Store, StoreFault};
 use wb_window::{RingWindow, Window};
 
 /// Disks in memory, each of which may fail.
@@ -22,17 +22,19 @@ pub(super) const CHECK: &str = "GET /check HTTP/1.1\r\n\r\n";
 const STORE_REFUSED: &str = "503 refused 15 store\n";
 
 /// What a station does once its store is closed.
-const CLOSED: [Step; 5] = [
+const CLOSED: [Step; 4] = [
     Step::Ask(OF_AGE, CHECK, STORE_REFUSED),
     Step::Ask(OF_AGE, SECOND, STORE_REFUSED),
     Step::Load(9_170, 4, ""),
     Step::Line("SI", "S S      18340 kg\r\n"),
-    Step::Ask(
-        OF_AGE,
-        "GET /indication HTTP/1.1\r\n\r\n",
-        "200 STABLE G      18340 kg N      18340 kg\n",
-    ),
 ];
+
+/// What it goes on to answer then.
+const INDICATED: [Step; 1] = [Step::Ask(
+    OF_AGE,
+    "GET /indication HTTP/1.1\r\n\r\n",
+    "200 STABLE G      18340 kg N      18340 kg\n",
+)];
 
 /// What is asked before a stop, at it and after it.
 #[derive(Clone, Copy, Drop)]
@@ -142,10 +144,23 @@ fn are_answered<W: Window, D: Alter>(
     match hear_all(alloc, station, steps)? {
         Heard::Wanted => Ok(true),
         Heard::StoreRefused => {
+            is_fault(station.store_fault(), Some(StoreFault::Disk))?;
             hear_wanted(alloc, station, &CLOSED)?;
+            is_fault(station.store_fault(), Some(StoreFault::Closed))?;
+            hear_wanted(alloc, station, &INDICATED)?;
+            is_fault(station.store_fault(), None)?;
             Ok(false)
         }
         Heard::Other => Err("another answer".into()),
+    }
+}
+
+/// Fails unless the store refused the last request for this reason, or not at all.
+fn is_fault(found: Option<StoreFault>, wanted: Option<StoreFault>) -> Result<(), Fail> {
+    if found == wanted {
+        Ok(())
+    } else {
+        Err("another fault of the store".into())
     }
 }
 

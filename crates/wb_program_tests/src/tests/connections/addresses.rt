@@ -1,7 +1,7 @@
 //! Addresses and converters that are taken and refused.
 use std::net::{OpenListener, TcpStream};
 use std::test::Fail;
-use wb_sockets::{Converter, listen, loopback};
+use wb_sockets::{ConverterLink, listen, loopback};
 
 static TAKEN: [&str; 3] = ["127.0.0.1:0", "127.1.2.3:80", "127.255.255.255:65535"];
 
@@ -70,7 +70,7 @@ fn listens_where_nobody_else_does(rt: HostRuntime) -> Result<(), Fail> {
 
 /// Whether the converter of a text can't be opened, which is told by its words.
 fn has_no_converter(rt: &HostRuntime, text: &str) -> Result<bool, Fail> {
-    match Converter::open(rt, text) {
+    match ConverterLink::open(rt, text) {
         Ok(_) => Ok(false),
         Err(fault) => Ok(fault.to_string(rt.alloc())?.as_str() == "converter fault"),
     }

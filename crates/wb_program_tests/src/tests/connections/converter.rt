@@ -8,8 +8,8 @@ use std::net::OpenStream;
 use std::process::Abort;
 use std::test::Fail;
 use std::time::{Clock, Duration, Instant};
-use wb_connections::{Converter, ENDLESS_LINE, Source};
-use wb_sources::Converter as Said;
+use wb_connections::{ConverterLink, ENDLESS_LINE, Source};
+use wb_sources::Converter;
 use wb_window::Reading::{Load, Lost};
 
 /// Seconds, longer than a look, which is waited for at most.
@@ -28,22 +28,22 @@ enum Step {
     /// The next read finds an error.
     Fails(ErrorKind),
     /// What comes next: what it says, and at which millisecond.
-    Hears(Said, u128),
+    Hears(Converter, u128),
     /// Whether no line waits, and the last reading holds.
     IsCurrent(bool),
 }
 
 static SILENT: [Step; 9] = [
-    Hears(Said::Line(Load(9_170)), 0),
-    Hears(Said::Line(Load(9_171)), 0),
-    Hears(Said::Line(Lost), 1_000),
-    Hears(Said::Line(Lost), 2_000),
-    Hears(Said::Line(Load(9_172)), 2_400),
-    Hears(Said::Line(Load(0)), 3_340),
+    Hears(Converter::Line(Load(9_170)), 0),
+    Hears(Converter::Line(Load(9_171)), 0),
+    Hears(Converter::Line(Lost), 1_000),
+    Hears(Converter::Line(Lost), 2_000),
+    Hears(Converter::Line(Load(9_172)), 2_400),
+    Hears(Converter::Line(Load(0)), 3_340),
     // a second after the look before the line
-    Hears(Said::Line(Lost), 4_300),
+    Hears(Converter::Line(Lost), 4_300),
     Ends,
-    Hears(Said::End, 4_300),
+    Hears(Converter::End, 4_300),
 ];
 
 /// Nobody reads for less than a second, and then for three and a half.
@@ -52,33 +52,33 @@ static READ_LATE: [Step; 19] = [
     Set(990),
     // two lines came, of which none is old
     IsCurrent(false),
-    Hears(Said::Line(Load(1)), 990),
+    Hears(Converter::Line(Load(1)), 990),
     IsCurrent(false),
-    Hears(Said::Line(Load(2)), 990),
+    Hears(Converter::Line(Load(2)), 990),
     IsCurrent(true),
     // a second after the first of them may have come
     Set(1_000),
     IsCurrent(false),
-    Hears(Said::Line(Lost), 1_000),
+    Hears(Converter::Line(Lost), 1_000),
     IsCurrent(true),
     Set(4_500),
     // the lines that came meanwhile are dropped
     IsCurrent(false),
-    Hears(Said::Line(Lost), 4_500),
+    Hears(Converter::Line(Lost), 4_500),
     IsCurrent(false),
-    Hears(Said::Line(Lost), 4_500),
-    Hears(Said::Line(Lost), 4_500),
+    Hears(Converter::Line(Lost), 4_500),
+    Hears(Converter::Line(Lost), 4_500),
     IsCurrent(true),
-    Hears(Said::Line(Load(5)), 4_600),
+    Hears(Converter::Line(Load(5)), 4_600),
 ];
 
 /// A read that was interrupted is made again; a connection that is broken is a fault from then on.
 static BROKEN: [Step; 5] = [
     Fails(Interrupted),
-    Hears(Said::Line(Load(1)), 0),
+    Hears(Converter::Line(Load(1)), 0),
     Fails(ConnectionReset),
-    Hears(Said::Fault, 0),
-    Hears(Said::Fault, 0),
+    Hears(Converter::Fault, 0),
+    Hears(Converter::Fault, 0),
 ];
 
 /// A converter on a connection, and its clock.
@@ -86,7 +86,7 @@ static BROKEN: [Step; 5] = [
 struct Desk<'a> {
     bench: &'a Bench,
     wire: &'a Wire<'a>,
-    converter: Converter<Plug<'a>>,
+    converter: ConverterLink<Plug<'a>>,
 }
 
 impl Desk<'_> {
@@ -103,13 +103,13 @@ impl Desk<'_> {
     }
 
     /// What comes next: what the converter says, and at which millisecond.
-    fn hear(&mut self) -> (Said, u128) {
+    fn hear(&mut self) -> (Converter, u128) {
         for _ in 0..MOST_WAITS {
             if let Some(said) = next(&mut self.converter, self.bench) {
                 return (said, self.bench.millis());
             }
         }
-        (Said::Fault, 0)
+        (Converter::Fault, 0)
     }
 
     fn is_current(&mut self) -> bool {
@@ -119,9 +119,9 @@ impl Desk<'_> {
 
 /// What a converter says next, if it says anything while it is waited for.
 fn next<S: Read + OpenStream + Drop>(
-    converter: &mut Converter<S>,
+    converter: &mut ConverterLink<S>,
     clock: &impl Clock,
-) -> Option<Said> {
+) -> Option<Converter> {
     converter.next_within(clock, Duration::from_secs(PATIENCE))
 }
 
@@ -137,7 +137,7 @@ fn play(
     let mut desk = Desk {
         bench: &bench,
         wire: &wire,
-        converter: Converter::over(Source::Stream(Plug(&wire)), Instant::now(&bench)?),
+        converter: ConverterLink::over(Source::Stream(Plug(&wire)), Instant::now(&bench)?),
     };
     take_steps(rt, &mut desk, steps);
     Ok(())
@@ -177,16 +177,20 @@ fn tells_an_interrupted_read_from_a_broken_connection(rt: HostRuntime) -> Result
 #[test]
 fn gives_up_a_file_without_the_end_of_a_line(rt: HostRuntime) -> Result<(), Fail> {
     fs::write(&rt, "endless.txt", [b'0'; ENDLESS_LINE].as_slice())?;
-    let mut converter = Converter::open(&rt, "endless.txt")?;
-    assert_eq!(rt; next(&mut converter, &rt), Some(Said::Fault));
+    let mut converter = ConverterLink::open(&rt, "endless.txt")?;
+    assert_eq!(rt; next(&mut converter, &rt), Some(Converter::Fault));
     Ok(())
 }
 
 #[test]
 fn reads_a_plain_file_to_its_end(rt: HostRuntime) -> Result<(), Fail> {
     fs::write(&rt, "converter.txt", "9170\r\nx\n9171")?;
-    let mut converter = Converter::open(&rt, "converter.txt")?;
-    for said in [Said::Line(Load(9_170)), Said::Line(Lost), Said::End] {
+    let mut converter = ConverterLink::open(&rt, "converter.txt")?;
+    for said in [
+        Converter::Line(Load(9_170)),
+        Converter::Line(Lost),
+        Converter::End,
+    ] {
         assert_eq!(rt;
             (converter.is_current(&rt), next(&mut converter, &rt)),
             (true, Some(said))

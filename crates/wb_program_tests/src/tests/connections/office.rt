@@ -10,7 +10,7 @@ use std::io::ErrorKind::{ConnectionReset, Interrupted};
 use std::process::Abort;
 use std::test::Fail;
 use std::time::Instant;
-use wb_connections::{Office, Report};
+use wb_connections::{OfficeClients, Report};
 use wb_sockets::StationRequests;
 use wb_station::Judged;
 
@@ -280,7 +280,7 @@ struct Desk<'a> {
     alloc: Global,
     start: Instant,
     requests: StationRequests,
-    office: Office<Door<'a>, Judged>,
+    office: OfficeClients<Door<'a>, Judged>,
     wires: &'a [Wire<'a>],
     report: Report<'a, Bench>,
 }
@@ -297,7 +297,7 @@ impl<'a> Desk<'a> {
             alloc,
             start: Instant::now(bench)?,
             requests: StationRequests::new(alloc)?,
-            office: Office::new(alloc, door, Instant::now(bench)?)?,
+            office: OfficeClients::new(alloc, door, Instant::now(bench)?)?,
             wires,
             report: Report::new(bench, false),
         })

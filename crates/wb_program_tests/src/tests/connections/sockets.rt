@@ -6,9 +6,9 @@ use super::memory::{Bench, Door, Plug, Wire};
 use std::process::Abort;
 use std::test::Fail;
 use std::time::Instant;
-use wb_connections::{Converter, Source};
+use wb_connections::{ConverterLink, Source};
 use wb_sockets::Sockets;
-use wb_sources::{Converter as Said, REQUEST_ROOM, TERMINAL_ROOM};
+use wb_sources::{Converter, REQUEST_ROOM, TERMINAL_ROOM};
 use wb_station::Sources;
 use wb_window::Reading;
 use wb_window::Reading::{Load, Lost};
@@ -223,7 +223,7 @@ impl<'a> Desk<'a> {
         wires: &'a [Wire<'a>],
         course: &Course,
     ) -> Result<Self, Fail> {
-        let converter = Converter::over(Source::Stream(Plug(converter)), Instant::now(bench)?);
+        let converter = ConverterLink::over(Source::Stream(Plug(converter)), Instant::now(bench)?);
         let office = Door::new(wires.get(..course.clients).unwrap_or(wires));
         let terminal = Door::new(wires.get(course.clients..).unwrap_or(&[]));
         Ok(Desk {
@@ -239,7 +239,7 @@ impl<'a> Desk<'a> {
         match step {
             Step::Client(at, client) => return plays(self.wires, *at, client),
             Turn(reading, count, is_asked, took) => {
-                return self.turn(*took) == (Said::Line(*reading), *count, *is_asked);
+                return self.turn(*took) == (Converter::Line(*reading), *count, *is_asked);
             }
             Stopped(reading, millis) => return self.stops(*reading, *millis),
             Passes(millis) => self.bench.pass(*millis),
@@ -254,7 +254,7 @@ impl<'a> Desk<'a> {
 
     /// A turn: what the converter says, how many bytes the terminal gives, and whether a request was handed out, which is answered after
     /// so many milliseconds.
-    fn turn(&mut self, took: u64) -> (Said, usize, bool) {
+    fn turn(&mut self, took: u64) -> (Converter, usize, bool) {
         let said = self.sockets.converter();
         let (count, is_asked) = self.ask();
         if is_asked {
@@ -288,7 +288,7 @@ impl<'a> Desk<'a> {
         plays(self.wires, 0, &Sends(ASKED));
         plays(self.wires, 1, &Sends(b"SI\r\n"));
         self.bench.pass(millis);
-        said == Said::Line(reading) && self.ask() == (0, false)
+        said == Converter::Line(reading) && self.ask() == (0, false)
     }
 }
 

@@ -10,7 +10,7 @@ use std::io::ErrorKind::{ConnectionReset, Interrupted};
 use std::process::Abort;
 use std::test::Fail;
 use std::time::Instant;
-use wb_connections::{Report, Terminal};
+use wb_connections::{Report, TerminalClients};
 use wb_sources::{TERMINAL_ROOM, Taken};
 
 /// What happens at a terminal's listener, and what must be seen then.
@@ -251,7 +251,7 @@ static DISPLAY: [Step; 7] = [
 #[derive(Drop)]
 struct Desk<'a> {
     start: Instant,
-    terminal: Terminal<Door<'a>>,
+    terminal: TerminalClients<Door<'a>>,
     wires: &'a [Wire<'a>],
     report: Report<'a, Bench>,
 }
@@ -260,7 +260,7 @@ impl<'a> Desk<'a> {
     fn new(alloc: Global, bench: &'a Bench, wires: &'a [Wire<'a>]) -> Result<Self, Fail> {
         Ok(Desk {
             start: Instant::now(bench)?,
-            terminal: Terminal::new(alloc, Door::new(wires), Instant::now(bench)?)?,
+            terminal: TerminalClients::new(alloc, Door::new(wires), Instant::now(bench)?)?,
             wires,
             report: Report::new(bench, false),
         })

@@ -4,7 +4,7 @@ use Rattle.wb_scale.specs.Call.{read, tare}
 use Rattle.wb_scale.specs.History.{moments}
 use Rattle.wb_scale.specs.Indication.{indicated}
 use Rattle.wb_scale.specs.Stands.{ScaleStands}
-use Rattle.wb_base_uses.proofs.scale.weigh_net.Goals as goal
+use Rattle.wb_parts_uses.proofs.scale.weigh_net.Goals as goal
 
 -- what a call leaves is what the next one asks of
 pub returns : goal.returns

@@ -1,7 +1,7 @@
 use Rattle.std.proofs.Common.{◌≡◌, ◌∙◌, ℕ, add-one, ap, arith, replicate, subst}
 use Rattle.wb_scale.specs.Call.{read}
 use Rattle.wb_scale.specs.Stands.{ScaleTakesAll}
-use Rattle.wb_base_uses.proofs.scale.settle.Goals as goal
+use Rattle.wb_parts_uses.proofs.scale.settle.Goals as goal
 
 pub loop-preserved : goal.loop-preserved
 loop-preserved g c =
