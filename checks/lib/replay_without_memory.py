@@ -4,8 +4,7 @@ import os
 import subprocess
 import sys
 
-sys.path.insert(0, os.path.join(os.path.dirname(os.path.abspath(__file__)), "service"))
-import day  # noqa: E402
+import day
 
 PROGRAM, REFUSE = sys.argv[1], sys.argv[2]
 FIRST = "o 1741593600 POST /weighings key=K1&kind=first&plate=AB-12"

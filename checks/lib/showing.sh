@@ -1,0 +1,37 @@
+# How a check in the shell shows what it shows: by a line for each thing, or by both texts if they differ. A check sources it at its head, and may
+# define `failing`, which tells more before it ends.
+check=$(basename "$0")
+
+# Ends the check if a tool is not installed.
+skip_without() {
+    local tool
+    for tool; do
+        if ! command -v "$tool" >/dev/null; then
+            echo "$check: skipped, since $tool is not installed"
+            exit 0
+        fi
+    done
+}
+
+fail() {
+    printf '%s: %s\n' "$check" "$1" >&2
+    ! declare -F failing >/dev/null || failing || true
+    exit 1
+}
+
+# Fails if the two texts differ.
+same() {
+    [ "$2" = "$3" ] || fail "$1
+wanted: $2
+found:  $3"
+    echo "$1: ok"
+}
+
+# Fails if a file doesn't hold this text, byte by byte.
+holds() {
+    printf '%s' "$2" | cmp -s - "$3" || fail "$1
+wanted:
+$2
+found:
+$(cat "$3")"
+}
