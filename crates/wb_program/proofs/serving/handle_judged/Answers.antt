@@ -1,3 +1,4 @@
+use Rattle.std.proofs.Common.{[]}
 use Rattle.wb_program.proofs.SourceAnswers.{tells_append}
 use Rattle.wb_program.proofs.Turns.{handled_one}
 use Rattle.wb_program.specs.Turns.{handed_on}
