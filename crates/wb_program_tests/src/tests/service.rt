@@ -9,7 +9,7 @@ use std::test::Fail;
 use wb_instrument::Instrument;
 use wb_program::{ServeEnd, serve};
 use wb_road::ROAD;
-use wb_sockets::{Converter, ConverterFault, Sockets, listen};
+use wb_sockets::{ConverterFault, ConverterLink, Sockets, listen};
 use wb_station::Station;
 use wb_window::RingWindow;
 
@@ -89,10 +89,10 @@ fn connected(rt: &HostRuntime) -> Result<(Sockets<'_, HostRuntime, TcpListener>,
 }
 
 /// A converter that is played over a connection.
-fn played(rt: &HostRuntime) -> Result<(Converter<TcpStream>, TcpStream), Fail> {
+fn played(rt: &HostRuntime) -> Result<(ConverterLink<TcpStream>, TcpStream), Fail> {
     let player = TcpListener::bind(rt, "127.0.0.1:0")?;
     let text = format!(in rt.alloc(); "tcp:{}", player.local_addr()?)?;
-    let source = Converter::open(rt, text.as_str())?;
+    let source = ConverterLink::open(rt, text.as_str())?;
     let (stream, _) = player.accept()?;
     Ok((source, stream))
 }
