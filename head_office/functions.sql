@@ -25,16 +25,17 @@ create or replace function line_of(number bigint, key text, kind text, plate tex
 -- Tickets and what is open ---------------------------------------------------------------------------------------------------------------
 
 -- The tickets of each journal, from its entries alone. The partner of a Second is the plate's last entry before it that is no Single, if that is a
--- First. A preset tare above the gross makes a net below zero, as at the bridge. Rows are compared, since that is a range of entry_by_plate and of no other index: told `plate = ..`, PostgreSQL may read the journal backwards.
+-- First. A preset tare above the gross makes a net below zero, as at the bridge. Journal and number are one value, as in entry_by_plate: told a journal
+-- and an order of numbers, PostgreSQL may read that journal backwards.
 create or replace view ticket_of_journal as
     select j.bridge, e.journal, e.number as ticket, case e.kind when 'second' then 'pair' else 'preset' end as kind, e.plate, p.number as first,
         e.moment as at, greatest(e.gross_kg, p.gross_kg) as gross_kg, coalesce(e.preset_kg, least(e.gross_kg, p.gross_kg)) as tare_kg,
         coalesce(e.gross_kg - e.preset_kg, abs(e.gross_kg - p.gross_kg)) as net_kg, p.gross_kg > e.gross_kg as brought
     from entry e join journal j using (journal) left join lateral (
         select o.number, o.kind, o.gross_kg from entry o
-        where (o.plate, o.journal, o.number) > (e.plate, e.journal, 0) and (o.plate, o.journal, o.number) < (e.plate, e.journal, e.number)
+        where o.plate = e.plate and ((o.journal::bigint << 32) | o.number) > e.journal::bigint << 32 and ((o.journal::bigint << 32) | o.number) < ((e.journal::bigint << 32) | e.number)
             and e.kind = 'second' and o.kind <> 'single'
-        order by o.plate desc, o.journal desc, o.number desc limit 1) p on p.kind = 'first'
+        order by ((o.journal::bigint << 32) | o.number) desc limit 1) p on p.kind = 'first'
     where e.kind = 'single' or p.kind = 'first';
 
 create or replace view ticket_line as
@@ -429,8 +430,8 @@ begin
         from compared where sound and not known and kind <> 'single' window w as (partition by plate order by number)) n
     left join lateral (
         select o.number, o.kind, o.gross_kg from entry o
-        where not n.is_new and o.kind <> 'single' and (o.plate, o.journal, o.number) > (n.plate, it.journal, 0) and (o.plate, o.journal, o.number) < (n.plate, it.journal, n.number)
-        order by o.plate desc, o.journal desc, o.number desc limit 1) o on true
+        where not n.is_new and o.kind <> 'single' and o.plate = n.plate and ((o.journal::bigint << 32) | o.number) > it.journal::bigint << 32 and ((o.journal::bigint << 32) | o.number) < ((it.journal::bigint << 32) | n.number)
+        order by ((o.journal::bigint << 32) | o.number) desc limit 1) o on true
     union all
     select number, kind, plate, moment at time zone 'UTC', gross_kg, preset_kg, null, null, null from compared where sound and not known and kind = 'single';
 end $$;
@@ -460,8 +461,8 @@ begin
     union
     select it.journal, o.number, o.number from compared n cross join lateral (
         select o.number from entry o
-        where (o.plate, o.journal, o.number) > (n.plate, it.journal, n.number) and (o.plate, o.journal, o.number) < (n.plate, it.journal + 1, 0) and o.kind <> 'single'
-        order by o.plate, o.journal, o.number limit 1) o
+        where o.plate = n.plate and ((o.journal::bigint << 32) | o.number) > ((it.journal::bigint << 32) | n.number) and ((o.journal::bigint << 32) | o.number) < (it.journal + 1)::bigint << 32 and o.kind <> 'single'
+        order by ((o.journal::bigint << 32) | o.number) limit 1) o
     where n.sound and not n.known and n.kind <> 'single' and n.number <= behind
     union all
     select f.journal, behind + 1, it.highest from follower f where f.former = it.journal and it.highest > behind;
@@ -489,8 +490,8 @@ begin
     select it.journal, p.plate, o.number, o.moment, o.gross_kg
     from (select distinct plate from paired where kind <> 'single') p cross join lateral (
         select o.number, o.kind, o.moment, o.gross_kg from entry o
-        where (o.plate, o.journal, o.number) > (p.plate, it.journal, 0) and (o.plate, o.journal, o.number) < (p.plate, it.journal + 1, 0) and o.kind <> 'single'
-        order by o.plate desc, o.journal desc, o.number desc limit 1) o
+        where o.plate = p.plate and ((o.journal::bigint << 32) | o.number) > it.journal::bigint << 32 and ((o.journal::bigint << 32) | o.number) < (it.journal + 1)::bigint << 32 and o.kind <> 'single'
+        order by ((o.journal::bigint << 32) | o.number) desc limit 1) o
     where o.kind = 'first';
     return added;
 end $$;
@@ -604,8 +605,8 @@ begin
     select 'key again', n.number, n.number, format('key %s of number %s', n.key, o.number)
     from compared n cross join lateral (
         select o.number from entry o
-        where it.stored is not null and hashtextextended(o.key, o.journal) = hashtextextended(n.key, it.journal) and o.key = n.key and o.journal + 0 = it.journal
-            and o.number <> n.number
+        where it.stored is not null and ((o.journal::bigint << 32) | (hashtextextended(o.key, 0) & 4294967295)) = ((it.journal::bigint << 32) | (hashtextextended(n.key, 0) & 4294967295))
+            and o.key = n.key and o.journal + 0 = it.journal and o.number <> n.number
         limit 1) o
     where n.sound and not n.known;
 end $$;
@@ -845,14 +846,14 @@ begin
         select e.*, p.number as partner, e.kind = 'first' and n.number > up_to as is_open
         from entry e left join lateral (
             select o.number, o.kind from entry o
-            where (o.plate, o.journal, o.number) > (e.plate, e.journal, 0) and (o.plate, o.journal, o.number) < (e.plate, e.journal, e.number)
+            where o.plate = e.plate and ((o.journal::bigint << 32) | o.number) > e.journal::bigint << 32 and ((o.journal::bigint << 32) | o.number) < ((e.journal::bigint << 32) | e.number)
                 and e.kind = 'second' and o.kind <> 'single'
-            order by o.plate desc, o.journal desc, o.number desc limit 1) p on p.kind = 'first'
+            order by ((o.journal::bigint << 32) | o.number) desc limit 1) p on p.kind = 'first'
         left join lateral (
             select o.number from entry o
-            where (o.plate, o.journal, o.number) > (e.plate, e.journal, e.number) and (o.plate, o.journal, o.number) < (e.plate, e.journal + 1, 0)
+            where o.plate = e.plate and ((o.journal::bigint << 32) | o.number) > ((e.journal::bigint << 32) | e.number) and ((o.journal::bigint << 32) | o.number) < (e.journal + 1)::bigint << 32
                 and e.kind = 'first' and o.kind <> 'single'
-            order by o.plate, o.journal, o.number limit 1) n on true
+            order by ((o.journal::bigint << 32) | o.number) limit 1) n on true
         where e.journal = one.journal and e.number <= up_to;
         insert into sealed_entry (journal, number, year, kind, moment, gross_kg, preset_kg, interval_kg, max_kg, serial, partner)
         select journal, number, of_year, kind, moment, gross_kg, preset_kg, interval_kg, max_kg, serial, partner from sealing where is_open is not true;
