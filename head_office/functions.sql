@@ -242,7 +242,7 @@ create or replace function wants_whole(of_bridge text) returns boolean stable la
         where b.bridge = of_bridge order by j.journal desc limit 1), true)
 $$;
 
--- The records that this transaction handed in.
+-- The records that this transaction handed in. A load reads them once, into `taken`, each with its digest as bytes, if it is one.
 create or replace view at_hand as
     select number, key, kind, plate, moment, gross_kg, preset_kg, interval_kg, max_kg, serial, digest, previous
     from handed where login = session_user and within = pg_current_xact_id();
@@ -262,6 +262,7 @@ begin
         perform refuse('clock', format('fetched at %s, and here it is %s: set the clocks', fetched, date_trunc('second', now())));
     end if;
     perform 1 from standing s join journal j using (journal) where j.bridge = of_bridge order by s.journal for update of s;
+    create temporary table taken on commit drop as select *, digest_in(digest) as own from at_hand;
     it.is_newest := is_newest;
     it.fetched := fetched;
     return it;
@@ -281,11 +282,11 @@ create or replace function refuse_others(it taking) returns void language plpgsq
 declare
     other record;
 begin
-    select r.serial, i.bridge into other from at_hand r left join instrument i using (serial)
-    where r.serial not in (select serial from instrument where bridge = it.bridge) and is_sound(r) limit 1;
+    select r.serial, i.bridge into other from taken r left join instrument i using (serial)
+    where r.serial not in (select serial from instrument where bridge = it.bridge) and is_sound((r.number, r.key, r.kind, r.plate, r.moment, r.gross_kg, r.preset_kg, r.interval_kg, r.max_kg, r.serial, r.digest, r.previous)::at_hand) limit 1;
     if other.serial is not null then
         perform refuse('serial', format('serial %s is %s', other.serial, coalesce('registered for ' || other.bridge, 'not registered')));
-    elsif it.is_newest and exists (select from at_hand where previous is null) then
+    elsif it.is_newest and exists (select from taken where previous is null) then
         perform refuse('form', 'nothing ties the newest entries alone of version 1 to what is stored: load the whole export');
     end if;
 end $$;
@@ -301,8 +302,8 @@ declare
 begin
     select j.journal into its
     from journal j cross join lateral (
-        select count(*) as many from at_hand r cross join lateral (
-            select from entry e where e.journal = j.journal and e.number = r.number and e.digest = digest_in(r.digest) offset 0) e
+        select count(*) as many from taken r cross join lateral (
+            select from entry e where e.journal = j.journal and e.number = r.number and e.digest = r.own offset 0) e
         -- `exists` may read the whole table for one row, and `max` the whole journal
         where (select number from entry e where e.journal = j.journal order by number desc limit 1) is not null offset 0) m
     where j.bridge = it.bridge and m.many > 0 order by m.many desc, j.journal desc limit 1;
@@ -319,7 +320,7 @@ begin
     from (
         select r.number, r.moment, (r.key, r.kind, r.plate, r.moment at time zone 'UTC', r.gross_kg, r.preset_kg, r.interval_kg, r.max_kg, r.serial)
             is distinct from (e.key, e.kind, e.plate, e.moment, e.gross_kg, e.preset_kg, e.interval_kg, e.max_kg, e.serial) as is_other
-        from at_hand r cross join lateral (select * from entry e where e.journal = newest and e.number = r.number offset 0) e where is_sound(r)) b;
+        from taken r cross join lateral (select * from entry e where e.journal = newest and e.number = r.number offset 0) e where is_sound((r.number, r.key, r.kind, r.plate, r.moment, r.gross_kg, r.preset_kg, r.interval_kg, r.max_kg, r.serial, r.digest, r.previous)::at_hand)) b;
     if it.is_newest then
         perform refuse('newest', format('a journal of %s that is not registered, or each of these entries was changed: load the whole export', it.bridge));
     elsif beside.many > 0 and beside.others = 0 then
@@ -340,18 +341,20 @@ create or replace function place(it taking) returns taking language plpgsql as $
 declare
     last record;
 begin
-    select min(number), max(number) into it.lowest, it.highest from at_hand;
+    select min(number), max(number) into it.lowest, it.highest from taken;
     it.journal := journal_of(it);
     select sealed, fetched_at into it.sealed, it.fetched_before from standing where journal = it.journal;
     if it.fetched < it.fetched_before then
         perform refuse('older', format('this export was fetched at %s, and one of %s was loaded before', it.fetched, it.fetched_before));
     end if;
-    select min(number), max(number) into it.lowest, it.highest from at_hand where number > it.sealed;
+    if it.sealed >= it.lowest then
+        select min(number), max(number) into it.lowest, it.highest from taken where number > it.sealed;
+    end if;
     select number into it.stored from entry where journal = it.journal order by number desc limit 1;
     select number, moment into it.before, it.before_at from entry
     where journal = it.journal and (number < it.lowest or it.lowest is null) order by number desc limit 1;
-    if exists (select from at_hand r join entry e on e.journal = it.journal and e.number = r.number where r.number = it.lowest and r.previous is null and e.previous is not null)
-        and not exists (select from at_hand where previous is not null) then
+    if not exists (select from taken where previous is not null)
+        and exists (select from taken r join entry e on e.journal = it.journal and e.number = r.number where r.number = it.lowest and e.previous is not null) then
         perform refuse('form', 'the column previous is missing, which this journal has');
     end if;
     if it.is_newest and coalesce(it.lowest > greatest(it.stored, it.sealed) + 1, true) then
@@ -368,8 +371,8 @@ begin
         perform refuse('empty', format('the export has no record, and entries up to %s had to be kept: if the bridge goes on with a new file, register it', it.before));
     end if;
     select r.digest, r.previous, encode(digest_of(r.number, r.key, r.kind, r.plate, r.moment, r.gross_kg, r.preset_kg, r.interval_kg, r.max_kg, r.serial, r.previous), 'hex') as own,
-        coalesce((select b.digest from at_hand b where b.number = it.highest - 1 limit 1), repeat('0', 64)) as below into last
-    from at_hand r where r.number = it.highest limit 1;
+        coalesce((select b.digest from taken b where b.number = it.highest - 1 limit 1), repeat('0', 64)) as below into last
+    from taken r where r.number = it.highest limit 1;
     if length(last.previous) < 64 and starts_with(last.below, last.previous) or last.previous is null and length(last.digest) < 64 and starts_with(last.own, last.digest) then
         perform refuse('cut', 'the export is cut off in its last line');
     end if;
@@ -387,7 +390,7 @@ begin
             when e.digest = r.own and not s.is_other and r.previous is not distinct from encode(e.previous, 'hex') then true
             else is_sound((r.number, r.key, r.kind, r.plate, r.moment, r.gross_kg, r.preset_kg, r.interval_kg, r.max_kg, r.serial, r.digest, r.previous)::at_hand) end as sound,
         lag(r.number) over w as number_below, coalesce(lag(r.number) over w = r.number - 1, false) as is_next, lag(r.digest) over w as below, lag(r.previous) over w as below_previous
-    from (select h.*, digest_in(h.digest) as own from at_hand h where h.number > it.sealed offset 0) r
+    from (select * from taken where number > it.sealed offset 0) r
     left join lateral (select * from entry e where it.stored is not null and e.journal = it.journal and e.number = r.number offset 0) e on true
     cross join lateral (select e.number is not null and (e.key, e.kind, e.plate, e.moment, e.gross_kg, e.preset_kg, e.interval_kg, e.max_kg, e.serial)
         is distinct from (r.key, r.kind, r.plate, r.moment at time zone 'UTC', r.gross_kg, r.preset_kg, r.interval_kg, r.max_kg, r.serial) as is_other) s
@@ -453,24 +456,30 @@ end $$;
 -- the same plate, where a missing one comes late; and of a follower's entries that the former journal has from now on.
 create or replace function store(it taking) returns bigint language plpgsql as $$
 declare
-    added  bigint;
-    behind bigint := coalesce(it.stored, 0);
+    added      bigint;
+    behind     bigint := coalesce(it.stored, 0);
+    is_touched boolean;
 begin
     create temporary table touched on commit drop as
-    select it.journal as journal, n.number as first, n.number as last from compared n where n.sound and not n.known and n.number <= behind
+    select it.journal as journal, n.number as first, n.number as last from compared n where behind > 0 and n.sound and not n.known and n.number <= behind
     union
     select it.journal, o.number, o.number from compared n cross join lateral (
         select o.number from entry o
         where o.plate = n.plate and ((o.journal::bigint << 32) | o.number) > ((it.journal::bigint << 32) | n.number) and ((o.journal::bigint << 32) | o.number) < (it.journal + 1)::bigint << 32 and o.kind <> 'single'
         order by ((o.journal::bigint << 32) | o.number) limit 1) o
-    where n.sound and not n.known and n.kind <> 'single' and n.number <= behind
+    where behind > 0 and n.sound and not n.known and n.kind <> 'single' and n.number <= behind
     union all
     select f.journal, behind + 1, it.highest from follower f where f.former = it.journal and it.highest > behind;
     create temporary table delta (bridge text, day date, tickets bigint, gross_kg bigint, net_kg bigint, brought_kg bigint, taken_kg bigint, preset_kg bigint) on commit drop;
-    perform add_to_delta(-1);
+    is_touched := exists (select from touched);
+    if is_touched then
+        perform add_to_delta(-1);
+    end if;
     added := insert_new(it);
     perform pair(it);
-    perform add_to_delta(1);
+    if is_touched then
+        perform add_to_delta(1);
+    end if;
     insert into delta
     select it.bridge, (moment at time zone (select zone from bridge where bridge = it.bridge))::date, count(*), sum(greatest(gross_kg, former_gross_kg)),
         sum(coalesce(gross_kg - preset_kg, abs(gross_kg - former_gross_kg))), coalesce(sum(abs(gross_kg - former_gross_kg)) filter (where former_gross_kg > gross_kg), 0),
@@ -557,16 +566,18 @@ end $$;
 create or replace function find_in_entries(it taking) returns void language plpgsql as $$
 begin
     with below as (
-        select number, known, moment, interval_kg, max_kg, serial, coalesce(lag(moment) over w, it.before_at at time zone 'UTC') as former,
-            lag(interval_kg) over w as former_interval, lag(max_kg) over w as former_max, lag(serial) over w as former_serial
-        from compared where sound window w as (order by number)
+        select * from (
+            select number, known, moment, interval_kg, max_kg, serial, coalesce(lag(moment) over w, it.before_at at time zone 'UTC') as former,
+                lag(interval_kg) over w as former_interval, lag(max_kg) over w as former_max, lag(serial) over w as former_serial
+            from compared where sound window w as (order by number)) b
+        where moment < former or not known and (interval_kg, max_kg, serial) is distinct from (former_interval, former_max, former_serial)
     )
     insert into found
     select 'falls', number, number, format('%s, after %s', moment, former) from below where moment < former
     union all
     select 'setup', n.number, n.number, format('e %s kg, Max %s kg, serial %s; before e %s kg, Max %s kg, serial %s',
         n.interval_kg, n.max_kg, n.serial, b.interval_kg, b.max_kg, b.serial)
-    from (select * from below where not known and (former_max is null or (interval_kg, max_kg, serial) <> (former_interval, former_max, former_serial))) n
+    from (select * from below where not known) n
     left join lateral (
         select e.interval_kg, e.max_kg, e.serial from entry e where n.former_max is null and e.journal = it.journal and e.number = it.before offset 0) e on true
     cross join lateral (
@@ -615,18 +626,22 @@ end $$;
 -- whole export; what is left out in a row is one finding.
 create or replace function find_in_journals(it taking) returns void language plpgsql as $$
 begin
-    insert into found
-    select case when e.digest = n.own then 'two names' else 'no follower' end, n.number, n.number, format('journal %s of %s has this entry%s', j.journal, j.bridge, case when e.digest <> n.own then ' with another digest' end)
-    from (select * from compared where sound and number = it.lowest limit 1) n cross join journal j cross join lateral (
-        select e.digest from entry e where e.journal = j.journal and e.number = n.number and (e.digest = n.own or e.key = n.key and e.moment = n.moment at time zone 'UTC') offset 0) e
-    where it.stored is null and j.journal <> it.journal and (e.digest = n.own
-        or j.bridge = it.bridge and not exists (select from follower f where f.journal = it.journal));
+    if it.stored is null then
+        insert into found
+        select case when e.digest = n.own then 'two names' else 'no follower' end, n.number, n.number, format('journal %s of %s has this entry%s', j.journal, j.bridge, case when e.digest <> n.own then ' with another digest' end)
+        from (select * from compared where sound and number = it.lowest limit 1) n cross join journal j cross join lateral (
+            select e.digest from entry e where e.journal = j.journal and e.number = n.number and (e.digest = n.own or e.key = n.key and e.moment = n.moment at time zone 'UTC') offset 0) e
+        where j.journal <> it.journal and (e.digest = n.own
+            or j.bridge = it.bridge and not exists (select from follower f where f.journal = it.journal));
+    end if;
 
-    insert into found
-    select what, min(number), max(number), coalesce(min(record), format('%s of them stored of the former journal', count(*)))
-    from (select what, number, record, number - case when record is null then row_number() over (partition by what order by number) else 0 end as run
-        from follower_difference where journal = it.journal and not it.is_newest) d
-    group by what, run;
+    if not it.is_newest and exists (select from follower where journal = it.journal) then
+        insert into found
+        select what, min(number), max(number), coalesce(min(record), format('%s of them stored of the former journal', count(*)))
+        from (select what, number, record, number - case when record is null then row_number() over (partition by what order by number) else 0 end as run
+            from follower_difference where journal = it.journal) d
+        group by what, run;
+    end if;
 end $$;
 
 -- Writes the findings, the first hundred by what matters and how many more, and the load. Says how it went, and of each of the first twenty new findings
