@@ -196,29 +196,35 @@ $$ begin raise exception '%', why using errcode = 'HO001', hint = reason; end $$
 create or replace function may_load(of_bridge text) returns boolean stable
     return exists (select from loader l where l.login = session_user and coalesce(l.bridge, of_bridge) = of_bridge);
 
--- Writes a refused load down, and as a finding unless the next load makes up for it by itself, or an open one says the same. Of each reason a login has
--- at most a hundred a day at a bridge, so that none hides another; past that what is a new finding is written still, unless the loader itself chose
--- the words. Says it in a line.
+-- When a load of each bridge was last taken in.
+create or replace view last_load as
+    select j.bridge, max(l.at) as at from journal j cross join lateral (select at from load l where l.journal = j.journal order by load desc limit 1) l group by 1;
+
+-- Writes a refused load down, and as a finding unless an open one says the same. Of each reason a login has at most a hundred a day at a bridge, so that
+-- none hides another; past that what is a new finding is written still, unless the next load makes up for it by itself, or the loader itself chose the
+-- words. Of what the next load makes up for there is one open finding of a reason. Says it in a line.
 create or replace function write_refusal(of_bridge text, because text, told text, fetched timestamptz) returns text language plpgsql as $$
 declare
-    said    text := left(regexp_replace(told, '[^ -~]', '?', 'g'), 500);
-    named   text := left(regexp_replace(of_bridge, '[^ -~]', '?', 'g'), 32);
-    is_full boolean;
-    new_of  integer;
-    its     bigint;
+    said       text := left(regexp_replace(told, '[^ -~]', '?', 'g'), 500);
+    named      text := left(regexp_replace(of_bridge, '[^ -~]', '?', 'g'), 32);
+    is_passing boolean := because in ('older', 'newest', 'waited', 'unreachable');
+    is_full    boolean;
+    new_of     integer;
+    its        bigint;
 begin
     -- a name that nobody registered, or of another's bridge, makes no more of them
     select count(*) = 100 into is_full from (
         select from refusal where by = session_user and at > now() - interval '1 day' and reason = because
             and (bridge = named or because = 'login' or not exists (select from bridge b where b.bridge = named)) limit 100) r;
     select max(j.journal) into new_of from journal j
-    where j.bridge = named and because not in ('older', 'newest', 'waited', 'unreachable') and not exists (
-        select from finding f join journal n using (journal)
-        where n.bridge = named and f.what in ('refused', 'replaced') and f.record = said and not exists (select from acknowledgement a where a.finding = f.finding));
-    if not is_full or new_of is not null and because not in ('cut', 'form', 'listener') then
+    where j.bridge = named and not exists (
+        select from finding f join journal n using (journal) join refusal r on r.refusal = f.last
+        where n.bridge = named and case when is_passing then f.what = 'not loaded' and r.reason = because and f.at > coalesce((select at from last_load l where l.bridge = named), '-infinity')
+            else f.what in ('refused', 'replaced') and f.record = said end and not exists (select from acknowledgement a where a.finding = f.finding));
+    if not is_full or new_of is not null and not is_passing and because not in ('cut', 'form', 'listener') then
         insert into refusal (bridge, reason, why, fetched_at) values (named, because, said, fetched) returning refusal into its;
         insert into finding (journal, what, first, last, record)
-        select new_of, case because when 'replaced' then 'replaced' else 'refused' end, 0, its, said where new_of is not null;
+        select new_of, case when because = 'replaced' then 'replaced' when is_passing then 'not loaded' else 'refused' end, 0, its, said where new_of is not null;
     end if;
     return format('%s: refused: %s', named, said);
 end $$;
@@ -747,13 +753,14 @@ create or replace view follower_difference as
                 is distinct from (o.key, o.kind, o.plate, o.moment, o.gross_kg, o.preset_kg, o.interval_kg, o.max_kg, o.serial) end
     ) d;
 
--- Each finding with what stands here beside it, what is to be done, and who acknowledged it. A follower's stands beside the former journal's, and so
--- where it had no entry.
+-- Each finding with what stands here beside it, what is to be done, who acknowledged it, and whether a later load made up for it. A follower's stands
+-- beside the former journal's, and so where it had no entry.
 create or replace view finding_beside_stored as
     select f.finding, j.bridge, j.journal, f.what, f.first, f.last, case when f.first > 0 then concat_ws('-', f.first, nullif(f.last, f.first)) end as numbers,
         f.record, f.at, case when e.number is not null then line_of(e.number, e.key, e.kind, e.plate, e.moment at time zone 'UTC', e.gross_kg,
             e.preset_kg, e.interval_kg, e.max_kg, e.serial, encode(e.digest, 'hex'), encode(e.previous, 'hex')) end as stored,
-        a.means, a.to_do, a.rank, k.at as acknowledged_at, k.by as acknowledged_by, k.note
+        a.means, a.to_do, a.rank, k.at as acknowledged_at, k.by as acknowledged_by, k.note,
+        f.what = 'not loaded' and coalesce(f.at < (select l.at from last_load l where l.bridge = j.bridge), false) as is_made_up
     from finding f join journal j using (journal) join advice a using (what) left join follower l on l.journal = f.journal
     left join acknowledgement k on k.finding = f.finding
     left join lateral (
@@ -762,7 +769,7 @@ create or replace view finding_beside_stored as
             select from entry n where n.journal = f.journal and n.number = f.first) then coalesce(l.former, f.journal) else f.journal end offset 0) e on true;
 
 create or replace view open_finding as
-    select finding, bridge, journal, what, numbers, record, stored, at, means, to_do, rank from finding_beside_stored where acknowledged_at is null;
+    select finding, bridge, journal, what, numbers, record, stored, at, means, to_do, rank from finding_beside_stored where acknowledged_at is null and not is_made_up;
 
 -- When each bridge's newest journal was heard of last, and whether it fell silent; when its last whole export was loaded, and whether the next is overdue.
 create or replace view heard as
@@ -914,7 +921,8 @@ insert into advice (rank, what, means, to_do) values
     (22, 'lowered', 'the days of retention that are registered here were lowered', 'ask who did it, and compare the service''s --retention; entries that were purged since are no finding any more'),
     (23, 'setup', 'e, Max or the serial is another one than in the entry before', 'ask whether the instrument was changed or verified anew; if not, keep the bridge''s files'),
     (24, 'nearly full', 'nine of ten places of the journal are taken', 'purge, or give the service a greater --capacity and register it as places'),
-    (25, 'more', 'a load had more findings than a hundred', 'see to the others first, and load again')
+    (25, 'more', 'a load had more findings than a hundred', 'see to the others first, and load again'),
+    (26, 'not loaded', 'a load was refused for what the next one makes up for: no export came, it was an older one, it didn''t reach what is stored, or another load took too long', 'nothing, if the next load is taken: then this is closed by itself; else ask the bridge, or look who loads')
 on conflict (what) do update set rank = excluded.rank, means = excluded.means, to_do = excluded.to_do;
 
 -- Rights ---------------------------------------------------------------------------------------------------------------------------------
