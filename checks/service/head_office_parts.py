@@ -15,6 +15,7 @@ import time
 
 import cluster as clusters
 from books import Book
+from browser import Browser
 from counted import case, same
 from journal import digest_of
 
@@ -983,6 +984,32 @@ def show_pages(office, folder):
         "a digest is shortened, with the whole in a title",
         re.search(r'<span title="([0-9a-f]{8})([0-9a-f]{56})">\1…</span>', page) and not re.search(r">[^<]*[0-9a-f]{64}", page),
     )
+    found = re.findall(r"<dt>(.*?)</dt>", page)
+    case("what is to be done is told once of each kind of finding", found and len(set(found)) == len(found) and set(re.findall(r'<td title="[^"]*">([a-z ]+)</td>', page)) <= set(found), found)
+    show_widths(folder, {"200 bridges": it.run([f"{PARTS}/report"])[1], "findings": page})
+
+
+def show_widths(folder, pages):
+    """Each page in a browser, on a phone and on a screen: nothing but a table of its own scrolls sideways."""
+    if not (shutil.which("chromedriver") and shutil.which("chromium")):
+        print("skip   the page in a browser: chromium and chromium-driver aren't installed", flush=True)
+        return
+    with socket.socket() as it:
+        it.bind(("127.0.0.1", 0))
+        port = it.getsockname()[1]
+    os.makedirs(f"{folder}/browser")
+    browser = Browser(port, f"{folder}/browser", 1280, 900)
+    try:
+        for name, page in pages.items():
+            with open(f"{folder}/browser/page.html", "w") as out:
+                out.write(page)
+            for width in (360, 1280):
+                browser.look(width, 900)
+                browser.go(f"file://{folder}/browser/page.html")
+                wide = browser.run("return document.documentElement.scrollWidth")
+                case(f"the page of {name} is no wider than {width} pixels", wide <= width, wide)
+    finally:
+        browser.close()
 
 
 def show_haulier(office, folder):
