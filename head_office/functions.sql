@@ -782,10 +782,11 @@ create or replace view heard as
     left join lateral (select e.number, e.moment from entry e where e.journal = l.journal order by e.number desc limit 1) e on true
     left join standing s on s.journal = l.journal;
 
--- The tickets of a haulier, with the day of the bridge's own zone.
+-- The tickets of a haulier, with the day of the bridge's own zone. His plates are looked up one by one: told that they are equal, PostgreSQL may read the
+-- entries of all plates from the first one to his.
 create or replace view haulier_ticket as
     select h.haulier, t.bridge, t.ticket, t.kind, t.plate, t.first, t.at, (t.at at time zone b.zone)::date as day, t.gross_kg, t.tare_kg, t.net_kg, t.brought
-    from haulier h join ticket t using (plate) join bridge b using (bridge);
+    from haulier h join ticket t on t.plate = any (array[h.plate]) join bridge b using (bridge);
 
 -- A text within HTML, and a number with its thousands apart.
 create or replace function html(it text) returns text immutable parallel safe

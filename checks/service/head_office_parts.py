@@ -103,6 +103,15 @@ def show_growth(office, folder):
             break
     case("a first load of twice the entries takes at most 2.5 times as long, after ANALYZE", twice <= 2.5 * once, (once, twice))
     case("and a load of the newest few reads few of what is stored", *newest_reads_few(it, folder))
+    # plates that stand one behind the other, with others before them
+    it.told("INSERT INTO head_office.haulier SELECT 'five', 'P-' || g FROM generate_series(105, 109) g")
+    it.told("ANALYZE", user=clusters.OWNER)
+    read = "SELECT sum(idx_tup_read) FROM pg_stat_user_indexes WHERE indexrelname = 'entry_by_plate'"
+    before = int(it.told(read, user=clusters.OWNER))
+    tickets = int(it.told("SELECT count(*) FROM head_office.haulier_ticket WHERE haulier = 'five'", user=READER))
+    until(lambda: int(it.told(read, user=clusters.OWNER)) > before, 5)
+    after = int(it.told(read, user=clusters.OWNER))
+    case("and a haulier's tickets the entries of his plates alone", tickets > 100 and 0 < after - before < 3 * tickets, (tickets, after - before))
 
 
 def newest_reads_few(it, folder):
