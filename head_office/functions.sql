@@ -253,7 +253,8 @@ create or replace view at_hand as
     select number, key, kind, plate, moment, gross_kg, preset_kg, interval_kg, max_kg, serial, digest, previous
     from handed where login = session_user and within = pg_current_xact_id();
 
--- Who loads what, under the lock of the bridge: one load at a time, and what follows sees what the one before stored.
+-- Who loads what, under the lock of the bridge: one load at a time, and what follows sees what the one before stored. Of a first load `taken` has already
+-- what `compare` says of records beside which nothing is stored: it is the same, and isn't written twice.
 create or replace function admit(of_bridge text, is_newest boolean, fetched timestamptz) returns taking language plpgsql as $$
 declare
     it taking;
@@ -268,7 +269,15 @@ begin
         perform refuse('clock', format('fetched at %s, and here it is %s: set the clocks', fetched, date_trunc('second', now())));
     end if;
     perform 1 from standing s join journal j using (journal) where j.bridge = of_bridge order by s.journal for update of s;
-    create temporary table taken on commit drop as select *, digest_in(digest) as own from at_hand;
+    it.is_first := (select number from entry where journal = (select max(journal) from journal where bridge = of_bridge) order by number desc limit 1) is null;
+    if it.is_first then
+        create temporary table taken on commit drop as
+        select h.*, is_formed(own, previous, moment) as sound, false as known, false as differs, false as is_other,
+            lag(number) over w as number_below, coalesce(lag(number) over w = number - 1, false) as is_next, lag(digest) over w as below, lag(previous) over w as below_previous
+        from (select *, digest_in(digest) as own from at_hand offset 0) h window w as (order by number);
+    else
+        create temporary table taken on commit drop as select *, digest_in(digest) as own from at_hand;
+    end if;
     it.is_newest := is_newest;
     it.fetched := fetched;
     return it;
@@ -282,6 +291,10 @@ create or replace function is_sound(it at_hand) returns boolean stable
 -- A digest of 64 hexadecimal digits; of any other text NULL.
 create or replace function digest_in(it text) returns bytea immutable parallel safe
     return case when length(it) = 64 and it !~ '[^0-9a-f]' then decode(it, 'hex') end;
+
+-- Whether digests and moment have their form.
+create or replace function is_formed(own bytea, previous text, moment timestamp) returns boolean immutable parallel safe
+    return own is not null and (previous is null or digest_in(previous) is not null) and moment = date_trunc('second', moment);
 
 -- Refuses what can't be of this bridge.
 create or replace function refuse_others(it taking) returns void language plpgsql as $$
@@ -389,10 +402,15 @@ end $$;
 -- new one the constraint of the table decides when it is stored.
 create or replace function compare(it taking) returns void language plpgsql as $$
 begin
+    create temporary table found (what text not null, first bigint not null, last bigint not null, record text not null) on commit drop;
+    if it.is_first and it.stored is null and it.sealed = 0 then
+        alter table taken rename to compared;
+        return;
+    end if;
     create temporary table compared on commit drop as
     select r.number, r.key, r.kind, r.plate, r.moment, r.gross_kg, r.preset_kg, r.interval_kg, r.max_kg, r.serial, r.digest, r.previous, r.own,
         e.number is not null as known, e.digest <> r.own as differs, s.is_other,
-        case when e.number is null then r.own is not null and (r.previous is null or digest_in(r.previous) is not null) and r.moment = date_trunc('second', r.moment)
+        case when e.number is null then is_formed(r.own, r.previous, r.moment)
             when e.digest = r.own and not s.is_other and r.previous is not distinct from encode(e.previous, 'hex') then true
             else is_sound((r.number, r.key, r.kind, r.plate, r.moment, r.gross_kg, r.preset_kg, r.interval_kg, r.max_kg, r.serial, r.digest, r.previous)::at_hand) end as sound,
         lag(r.number) over w as number_below, coalesce(lag(r.number) over w = r.number - 1, false) as is_next, lag(r.digest) over w as below, lag(r.previous) over w as below_previous
@@ -401,7 +419,6 @@ begin
     cross join lateral (select e.number is not null and (e.key, e.kind, e.plate, e.moment, e.gross_kg, e.preset_kg, e.interval_kg, e.max_kg, e.serial)
         is distinct from (r.key, r.kind, r.plate, r.moment at time zone 'UTC', r.gross_kg, r.preset_kg, r.interval_kg, r.max_kg, r.serial) as is_other) s
     window w as (order by r.number);
-    create temporary table found (what text not null, first bigint not null, last bigint not null, record text not null) on commit drop;
 end $$;
 
 -- Stores the new entries that are sound. Only if one of them isn't, each is held against its digest.
