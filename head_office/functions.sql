@@ -25,16 +25,17 @@ create or replace function line_of(number bigint, key text, kind text, plate tex
 -- Tickets and what is open ---------------------------------------------------------------------------------------------------------------
 
 -- The tickets of each journal, from its entries alone. The partner of a Second is the plate's last entry before it that is no Single, if that is a
--- First. A preset tare above the gross makes a net below zero, as at the bridge. Rows are compared, since that is a range of entry_by_plate and of no other index: told `plate = ..`, PostgreSQL may read the journal backwards.
+-- First. A preset tare above the gross makes a net below zero, as at the bridge. Journal and number are one value, as in entry_by_plate: told a journal
+-- and an order of numbers, PostgreSQL may read that journal backwards.
 create or replace view ticket_of_journal as
     select j.bridge, e.journal, e.number as ticket, case e.kind when 'second' then 'pair' else 'preset' end as kind, e.plate, p.number as first,
         e.moment as at, greatest(e.gross_kg, p.gross_kg) as gross_kg, coalesce(e.preset_kg, least(e.gross_kg, p.gross_kg)) as tare_kg,
         coalesce(e.gross_kg - e.preset_kg, abs(e.gross_kg - p.gross_kg)) as net_kg, p.gross_kg > e.gross_kg as brought
     from entry e join journal j using (journal) left join lateral (
         select o.number, o.kind, o.gross_kg from entry o
-        where (o.plate, o.journal, o.number) > (e.plate, e.journal, 0) and (o.plate, o.journal, o.number) < (e.plate, e.journal, e.number)
+        where o.plate = e.plate and ((o.journal::bigint << 32) | o.number) > e.journal::bigint << 32 and ((o.journal::bigint << 32) | o.number) < ((e.journal::bigint << 32) | e.number)
             and e.kind = 'second' and o.kind <> 'single'
-        order by o.plate desc, o.journal desc, o.number desc limit 1) p on p.kind = 'first'
+        order by ((o.journal::bigint << 32) | o.number) desc limit 1) p on p.kind = 'first'
     where e.kind = 'single' or p.kind = 'first';
 
 create or replace view ticket_line as
@@ -195,29 +196,35 @@ $$ begin raise exception '%', why using errcode = 'HO001', hint = reason; end $$
 create or replace function may_load(of_bridge text) returns boolean stable
     return exists (select from loader l where l.login = session_user and coalesce(l.bridge, of_bridge) = of_bridge);
 
--- Writes a refused load down, and as a finding unless the next load makes up for it by itself, or an open one says the same. Of each reason a login has
--- at most a hundred a day at a bridge, so that none hides another; past that what is a new finding is written still, unless the loader itself chose
--- the words. Says it in a line.
+-- When a load of each bridge was last taken in.
+create or replace view last_load as
+    select j.bridge, max(l.at) as at from journal j cross join lateral (select at from load l where l.journal = j.journal order by load desc limit 1) l group by 1;
+
+-- Writes a refused load down, and as a finding unless an open one says the same. Of each reason a login has at most a hundred a day at a bridge, so that
+-- none hides another; past that what is a new finding is written still, unless the next load makes up for it by itself, or the loader itself chose the
+-- words. Of what the next load makes up for there is one open finding of a reason. Says it in a line.
 create or replace function write_refusal(of_bridge text, because text, told text, fetched timestamptz) returns text language plpgsql as $$
 declare
-    said    text := left(regexp_replace(told, '[^ -~]', '?', 'g'), 500);
-    named   text := left(regexp_replace(of_bridge, '[^ -~]', '?', 'g'), 32);
-    is_full boolean;
-    new_of  integer;
-    its     bigint;
+    said       text := left(regexp_replace(told, '[^ -~]', '?', 'g'), 500);
+    named      text := left(regexp_replace(of_bridge, '[^ -~]', '?', 'g'), 32);
+    is_passing boolean := because in ('older', 'newest', 'waited', 'unreachable');
+    is_full    boolean;
+    new_of     integer;
+    its        bigint;
 begin
     -- a name that nobody registered, or of another's bridge, makes no more of them
     select count(*) = 100 into is_full from (
         select from refusal where by = session_user and at > now() - interval '1 day' and reason = because
             and (bridge = named or because = 'login' or not exists (select from bridge b where b.bridge = named)) limit 100) r;
     select max(j.journal) into new_of from journal j
-    where j.bridge = named and because not in ('older', 'newest', 'waited', 'unreachable') and not exists (
-        select from finding f join journal n using (journal)
-        where n.bridge = named and f.what in ('refused', 'replaced') and f.record = said and not exists (select from acknowledgement a where a.finding = f.finding));
-    if not is_full or new_of is not null and because not in ('cut', 'form', 'listener') then
+    where j.bridge = named and not exists (
+        select from finding f join journal n using (journal) join refusal r on r.refusal = f.last
+        where n.bridge = named and case when is_passing then f.what = 'not loaded' and r.reason = because and f.at > coalesce((select at from last_load l where l.bridge = named), '-infinity')
+            else f.what in ('refused', 'replaced') and f.record = said end and not exists (select from acknowledgement a where a.finding = f.finding));
+    if not is_full or new_of is not null and not is_passing and because not in ('cut', 'form', 'listener') then
         insert into refusal (bridge, reason, why, fetched_at) values (named, because, said, fetched) returning refusal into its;
         insert into finding (journal, what, first, last, record)
-        select new_of, case because when 'replaced' then 'replaced' else 'refused' end, 0, its, said where new_of is not null;
+        select new_of, case when because = 'replaced' then 'replaced' when is_passing then 'not loaded' else 'refused' end, 0, its, said where new_of is not null;
     end if;
     return format('%s: refused: %s', named, said);
 end $$;
@@ -241,12 +248,13 @@ create or replace function wants_whole(of_bridge text) returns boolean stable la
         where b.bridge = of_bridge order by j.journal desc limit 1), true)
 $$;
 
--- The records that this transaction handed in.
+-- The records that this transaction handed in. A load reads them once, into `taken`, each with its digest as bytes, if it is one.
 create or replace view at_hand as
     select number, key, kind, plate, moment, gross_kg, preset_kg, interval_kg, max_kg, serial, digest, previous
     from handed where login = session_user and within = pg_current_xact_id();
 
--- Who loads what, under the lock of the bridge: one load at a time, and what follows sees what the one before stored.
+-- Who loads what, under the lock of the bridge: one load at a time, and what follows sees what the one before stored. Of a first load `taken` has already
+-- what `compare` says of records beside which nothing is stored: it is the same, and isn't written twice.
 create or replace function admit(of_bridge text, is_newest boolean, fetched timestamptz) returns taking language plpgsql as $$
 declare
     it taking;
@@ -261,6 +269,15 @@ begin
         perform refuse('clock', format('fetched at %s, and here it is %s: set the clocks', fetched, date_trunc('second', now())));
     end if;
     perform 1 from standing s join journal j using (journal) where j.bridge = of_bridge order by s.journal for update of s;
+    it.is_first := (select number from entry where journal = (select max(journal) from journal where bridge = of_bridge) order by number desc limit 1) is null;
+    if it.is_first then
+        create temporary table taken on commit drop as
+        select h.*, is_formed(own, previous, moment) as sound, false as known, false as differs, false as is_other,
+            lag(number) over w as number_below, coalesce(lag(number) over w = number - 1, false) as is_next, lag(digest) over w as below, lag(previous) over w as below_previous
+        from (select *, digest_in(digest) as own from at_hand offset 0) h window w as (order by number);
+    else
+        create temporary table taken on commit drop as select *, digest_in(digest) as own from at_hand;
+    end if;
     it.is_newest := is_newest;
     it.fetched := fetched;
     return it;
@@ -275,16 +292,20 @@ create or replace function is_sound(it at_hand) returns boolean stable
 create or replace function digest_in(it text) returns bytea immutable parallel safe
     return case when length(it) = 64 and it !~ '[^0-9a-f]' then decode(it, 'hex') end;
 
+-- Whether digests and moment have their form.
+create or replace function is_formed(own bytea, previous text, moment timestamp) returns boolean immutable parallel safe
+    return own is not null and (previous is null or digest_in(previous) is not null) and moment = date_trunc('second', moment);
+
 -- Refuses what can't be of this bridge.
 create or replace function refuse_others(it taking) returns void language plpgsql as $$
 declare
     other record;
 begin
-    select r.serial, i.bridge into other from at_hand r left join instrument i using (serial)
-    where r.serial not in (select serial from instrument where bridge = it.bridge) and is_sound(r) limit 1;
+    select r.serial, i.bridge into other from taken r left join instrument i using (serial)
+    where r.serial not in (select serial from instrument where bridge = it.bridge) and is_sound((r.number, r.key, r.kind, r.plate, r.moment, r.gross_kg, r.preset_kg, r.interval_kg, r.max_kg, r.serial, r.digest, r.previous)::at_hand) limit 1;
     if other.serial is not null then
         perform refuse('serial', format('serial %s is %s', other.serial, coalesce('registered for ' || other.bridge, 'not registered')));
-    elsif it.is_newest and exists (select from at_hand where previous is null) then
+    elsif it.is_newest and exists (select from taken where previous is null) then
         perform refuse('form', 'nothing ties the newest entries alone of version 1 to what is stored: load the whole export');
     end if;
 end $$;
@@ -300,8 +321,8 @@ declare
 begin
     select j.journal into its
     from journal j cross join lateral (
-        select count(*) as many from at_hand r cross join lateral (
-            select from entry e where e.journal = j.journal and e.number = r.number and e.digest = digest_in(r.digest) offset 0) e
+        select count(*) as many from taken r cross join lateral (
+            select from entry e where e.journal = j.journal and e.number = r.number and e.digest = r.own offset 0) e
         -- `exists` may read the whole table for one row, and `max` the whole journal
         where (select number from entry e where e.journal = j.journal order by number desc limit 1) is not null offset 0) m
     where j.bridge = it.bridge and m.many > 0 order by m.many desc, j.journal desc limit 1;
@@ -318,7 +339,7 @@ begin
     from (
         select r.number, r.moment, (r.key, r.kind, r.plate, r.moment at time zone 'UTC', r.gross_kg, r.preset_kg, r.interval_kg, r.max_kg, r.serial)
             is distinct from (e.key, e.kind, e.plate, e.moment, e.gross_kg, e.preset_kg, e.interval_kg, e.max_kg, e.serial) as is_other
-        from at_hand r cross join lateral (select * from entry e where e.journal = newest and e.number = r.number offset 0) e where is_sound(r)) b;
+        from taken r cross join lateral (select * from entry e where e.journal = newest and e.number = r.number offset 0) e where is_sound((r.number, r.key, r.kind, r.plate, r.moment, r.gross_kg, r.preset_kg, r.interval_kg, r.max_kg, r.serial, r.digest, r.previous)::at_hand)) b;
     if it.is_newest then
         perform refuse('newest', format('a journal of %s that is not registered, or each of these entries was changed: load the whole export', it.bridge));
     elsif beside.many > 0 and beside.others = 0 then
@@ -339,18 +360,20 @@ create or replace function place(it taking) returns taking language plpgsql as $
 declare
     last record;
 begin
-    select min(number), max(number) into it.lowest, it.highest from at_hand;
+    select min(number), max(number) into it.lowest, it.highest from taken;
     it.journal := journal_of(it);
     select sealed, fetched_at into it.sealed, it.fetched_before from standing where journal = it.journal;
     if it.fetched < it.fetched_before then
         perform refuse('older', format('this export was fetched at %s, and one of %s was loaded before', it.fetched, it.fetched_before));
     end if;
-    select min(number), max(number) into it.lowest, it.highest from at_hand where number > it.sealed;
+    if it.sealed >= it.lowest then
+        select min(number), max(number) into it.lowest, it.highest from taken where number > it.sealed;
+    end if;
     select number into it.stored from entry where journal = it.journal order by number desc limit 1;
     select number, moment into it.before, it.before_at from entry
     where journal = it.journal and (number < it.lowest or it.lowest is null) order by number desc limit 1;
-    if exists (select from at_hand r join entry e on e.journal = it.journal and e.number = r.number where r.number = it.lowest and r.previous is null and e.previous is not null)
-        and not exists (select from at_hand where previous is not null) then
+    if not exists (select from taken where previous is not null)
+        and exists (select from taken r join entry e on e.journal = it.journal and e.number = r.number where r.number = it.lowest and e.previous is not null) then
         perform refuse('form', 'the column previous is missing, which this journal has');
     end if;
     if it.is_newest and coalesce(it.lowest > greatest(it.stored, it.sealed) + 1, true) then
@@ -367,8 +390,8 @@ begin
         perform refuse('empty', format('the export has no record, and entries up to %s had to be kept: if the bridge goes on with a new file, register it', it.before));
     end if;
     select r.digest, r.previous, encode(digest_of(r.number, r.key, r.kind, r.plate, r.moment, r.gross_kg, r.preset_kg, r.interval_kg, r.max_kg, r.serial, r.previous), 'hex') as own,
-        coalesce((select b.digest from at_hand b where b.number = it.highest - 1 limit 1), repeat('0', 64)) as below into last
-    from at_hand r where r.number = it.highest limit 1;
+        coalesce((select b.digest from taken b where b.number = it.highest - 1 limit 1), repeat('0', 64)) as below into last
+    from taken r where r.number = it.highest limit 1;
     if length(last.previous) < 64 and starts_with(last.below, last.previous) or last.previous is null and length(last.digest) < 64 and starts_with(last.own, last.digest) then
         perform refuse('cut', 'the export is cut off in its last line');
     end if;
@@ -379,19 +402,23 @@ end $$;
 -- new one the constraint of the table decides when it is stored.
 create or replace function compare(it taking) returns void language plpgsql as $$
 begin
+    create temporary table found (what text not null, first bigint not null, last bigint not null, record text not null) on commit drop;
+    if it.is_first and it.stored is null and it.sealed = 0 then
+        alter table taken rename to compared;
+        return;
+    end if;
     create temporary table compared on commit drop as
     select r.number, r.key, r.kind, r.plate, r.moment, r.gross_kg, r.preset_kg, r.interval_kg, r.max_kg, r.serial, r.digest, r.previous, r.own,
         e.number is not null as known, e.digest <> r.own as differs, s.is_other,
-        case when e.number is null then r.own is not null and (r.previous is null or digest_in(r.previous) is not null) and r.moment = date_trunc('second', r.moment)
+        case when e.number is null then is_formed(r.own, r.previous, r.moment)
             when e.digest = r.own and not s.is_other and r.previous is not distinct from encode(e.previous, 'hex') then true
             else is_sound((r.number, r.key, r.kind, r.plate, r.moment, r.gross_kg, r.preset_kg, r.interval_kg, r.max_kg, r.serial, r.digest, r.previous)::at_hand) end as sound,
         lag(r.number) over w as number_below, coalesce(lag(r.number) over w = r.number - 1, false) as is_next, lag(r.digest) over w as below, lag(r.previous) over w as below_previous
-    from (select h.*, digest_in(h.digest) as own from at_hand h where h.number > it.sealed offset 0) r
+    from (select * from taken where number > it.sealed offset 0) r
     left join lateral (select * from entry e where it.stored is not null and e.journal = it.journal and e.number = r.number offset 0) e on true
     cross join lateral (select e.number is not null and (e.key, e.kind, e.plate, e.moment, e.gross_kg, e.preset_kg, e.interval_kg, e.max_kg, e.serial)
         is distinct from (r.key, r.kind, r.plate, r.moment at time zone 'UTC', r.gross_kg, r.preset_kg, r.interval_kg, r.max_kg, r.serial) as is_other) s
     window w as (order by r.number);
-    create temporary table found (what text not null, first bigint not null, last bigint not null, record text not null) on commit drop;
 end $$;
 
 -- Stores the new entries that are sound. Only if one of them isn't, each is held against its digest.
@@ -429,8 +456,8 @@ begin
         from compared where sound and not known and kind <> 'single' window w as (partition by plate order by number)) n
     left join lateral (
         select o.number, o.kind, o.gross_kg from entry o
-        where not n.is_new and o.kind <> 'single' and (o.plate, o.journal, o.number) > (n.plate, it.journal, 0) and (o.plate, o.journal, o.number) < (n.plate, it.journal, n.number)
-        order by o.plate desc, o.journal desc, o.number desc limit 1) o on true
+        where not n.is_new and o.kind <> 'single' and o.plate = n.plate and ((o.journal::bigint << 32) | o.number) > it.journal::bigint << 32 and ((o.journal::bigint << 32) | o.number) < ((it.journal::bigint << 32) | n.number)
+        order by ((o.journal::bigint << 32) | o.number) desc limit 1) o on true
     union all
     select number, kind, plate, moment at time zone 'UTC', gross_kg, preset_kg, null, null, null from compared where sound and not known and kind = 'single';
 end $$;
@@ -452,24 +479,30 @@ end $$;
 -- the same plate, where a missing one comes late; and of a follower's entries that the former journal has from now on.
 create or replace function store(it taking) returns bigint language plpgsql as $$
 declare
-    added  bigint;
-    behind bigint := coalesce(it.stored, 0);
+    added      bigint;
+    behind     bigint := coalesce(it.stored, 0);
+    is_touched boolean;
 begin
     create temporary table touched on commit drop as
-    select it.journal as journal, n.number as first, n.number as last from compared n where n.sound and not n.known and n.number <= behind
+    select it.journal as journal, n.number as first, n.number as last from compared n where behind > 0 and n.sound and not n.known and n.number <= behind
     union
     select it.journal, o.number, o.number from compared n cross join lateral (
         select o.number from entry o
-        where (o.plate, o.journal, o.number) > (n.plate, it.journal, n.number) and (o.plate, o.journal, o.number) < (n.plate, it.journal + 1, 0) and o.kind <> 'single'
-        order by o.plate, o.journal, o.number limit 1) o
-    where n.sound and not n.known and n.kind <> 'single' and n.number <= behind
+        where o.plate = n.plate and ((o.journal::bigint << 32) | o.number) > ((it.journal::bigint << 32) | n.number) and ((o.journal::bigint << 32) | o.number) < (it.journal + 1)::bigint << 32 and o.kind <> 'single'
+        order by ((o.journal::bigint << 32) | o.number) limit 1) o
+    where behind > 0 and n.sound and not n.known and n.kind <> 'single' and n.number <= behind
     union all
     select f.journal, behind + 1, it.highest from follower f where f.former = it.journal and it.highest > behind;
     create temporary table delta (bridge text, day date, tickets bigint, gross_kg bigint, net_kg bigint, brought_kg bigint, taken_kg bigint, preset_kg bigint) on commit drop;
-    perform add_to_delta(-1);
+    is_touched := exists (select from touched);
+    if is_touched then
+        perform add_to_delta(-1);
+    end if;
     added := insert_new(it);
     perform pair(it);
-    perform add_to_delta(1);
+    if is_touched then
+        perform add_to_delta(1);
+    end if;
     insert into delta
     select it.bridge, (moment at time zone (select zone from bridge where bridge = it.bridge))::date, count(*), sum(greatest(gross_kg, former_gross_kg)),
         sum(coalesce(gross_kg - preset_kg, abs(gross_kg - former_gross_kg))), coalesce(sum(abs(gross_kg - former_gross_kg)) filter (where former_gross_kg > gross_kg), 0),
@@ -489,8 +522,8 @@ begin
     select it.journal, p.plate, o.number, o.moment, o.gross_kg
     from (select distinct plate from paired where kind <> 'single') p cross join lateral (
         select o.number, o.kind, o.moment, o.gross_kg from entry o
-        where (o.plate, o.journal, o.number) > (p.plate, it.journal, 0) and (o.plate, o.journal, o.number) < (p.plate, it.journal + 1, 0) and o.kind <> 'single'
-        order by o.plate desc, o.journal desc, o.number desc limit 1) o
+        where o.plate = p.plate and ((o.journal::bigint << 32) | o.number) > it.journal::bigint << 32 and ((o.journal::bigint << 32) | o.number) < (it.journal + 1)::bigint << 32 and o.kind <> 'single'
+        order by ((o.journal::bigint << 32) | o.number) desc limit 1) o
     where o.kind = 'first';
     return added;
 end $$;
@@ -556,16 +589,18 @@ end $$;
 create or replace function find_in_entries(it taking) returns void language plpgsql as $$
 begin
     with below as (
-        select number, known, moment, interval_kg, max_kg, serial, coalesce(lag(moment) over w, it.before_at at time zone 'UTC') as former,
-            lag(interval_kg) over w as former_interval, lag(max_kg) over w as former_max, lag(serial) over w as former_serial
-        from compared where sound window w as (order by number)
+        select * from (
+            select number, known, moment, interval_kg, max_kg, serial, coalesce(lag(moment) over w, it.before_at at time zone 'UTC') as former,
+                lag(interval_kg) over w as former_interval, lag(max_kg) over w as former_max, lag(serial) over w as former_serial
+            from compared where sound window w as (order by number)) b
+        where moment < former or not known and (interval_kg, max_kg, serial) is distinct from (former_interval, former_max, former_serial)
     )
     insert into found
     select 'falls', number, number, format('%s, after %s', moment, former) from below where moment < former
     union all
     select 'setup', n.number, n.number, format('e %s kg, Max %s kg, serial %s; before e %s kg, Max %s kg, serial %s',
         n.interval_kg, n.max_kg, n.serial, b.interval_kg, b.max_kg, b.serial)
-    from (select * from below where not known and (former_max is null or (interval_kg, max_kg, serial) <> (former_interval, former_max, former_serial))) n
+    from (select * from below where not known) n
     left join lateral (
         select e.interval_kg, e.max_kg, e.serial from entry e where n.former_max is null and e.journal = it.journal and e.number = it.before offset 0) e on true
     cross join lateral (
@@ -604,8 +639,8 @@ begin
     select 'key again', n.number, n.number, format('key %s of number %s', n.key, o.number)
     from compared n cross join lateral (
         select o.number from entry o
-        where it.stored is not null and hashtextextended(o.key, o.journal) = hashtextextended(n.key, it.journal) and o.key = n.key and o.journal + 0 = it.journal
-            and o.number <> n.number
+        where it.stored is not null and ((o.journal::bigint << 32) | (hashtextextended(o.key, 0) & 4294967295)) = ((it.journal::bigint << 32) | (hashtextextended(n.key, 0) & 4294967295))
+            and o.key = n.key and o.journal + 0 = it.journal and o.number <> n.number
         limit 1) o
     where n.sound and not n.known;
 end $$;
@@ -614,18 +649,22 @@ end $$;
 -- whole export; what is left out in a row is one finding.
 create or replace function find_in_journals(it taking) returns void language plpgsql as $$
 begin
-    insert into found
-    select case when e.digest = n.own then 'two names' else 'no follower' end, n.number, n.number, format('journal %s of %s has this entry%s', j.journal, j.bridge, case when e.digest <> n.own then ' with another digest' end)
-    from (select * from compared where sound and number = it.lowest limit 1) n cross join journal j cross join lateral (
-        select e.digest from entry e where e.journal = j.journal and e.number = n.number and (e.digest = n.own or e.key = n.key and e.moment = n.moment at time zone 'UTC') offset 0) e
-    where it.stored is null and j.journal <> it.journal and (e.digest = n.own
-        or j.bridge = it.bridge and not exists (select from follower f where f.journal = it.journal));
+    if it.stored is null then
+        insert into found
+        select case when e.digest = n.own then 'two names' else 'no follower' end, n.number, n.number, format('journal %s of %s has this entry%s', j.journal, j.bridge, case when e.digest <> n.own then ' with another digest' end)
+        from (select * from compared where sound and number = it.lowest limit 1) n cross join journal j cross join lateral (
+            select e.digest from entry e where e.journal = j.journal and e.number = n.number and (e.digest = n.own or e.key = n.key and e.moment = n.moment at time zone 'UTC') offset 0) e
+        where j.journal <> it.journal and (e.digest = n.own
+            or j.bridge = it.bridge and not exists (select from follower f where f.journal = it.journal));
+    end if;
 
-    insert into found
-    select what, min(number), max(number), coalesce(min(record), format('%s of them stored of the former journal', count(*)))
-    from (select what, number, record, number - case when record is null then row_number() over (partition by what order by number) else 0 end as run
-        from follower_difference where journal = it.journal and not it.is_newest) d
-    group by what, run;
+    if not it.is_newest and exists (select from follower where journal = it.journal) then
+        insert into found
+        select what, min(number), max(number), coalesce(min(record), format('%s of them stored of the former journal', count(*)))
+        from (select what, number, record, number - case when record is null then row_number() over (partition by what order by number) else 0 end as run
+            from follower_difference where journal = it.journal) d
+        group by what, run;
+    end if;
 end $$;
 
 -- Writes the findings, the first hundred by what matters and how many more, and the load. Says how it went, and of each of the first twenty new findings
@@ -731,13 +770,14 @@ create or replace view follower_difference as
                 is distinct from (o.key, o.kind, o.plate, o.moment, o.gross_kg, o.preset_kg, o.interval_kg, o.max_kg, o.serial) end
     ) d;
 
--- Each finding with what stands here beside it, what is to be done, and who acknowledged it. A follower's stands beside the former journal's, and so
--- where it had no entry.
+-- Each finding with what stands here beside it, what is to be done, who acknowledged it, and whether a later load made up for it. A follower's stands
+-- beside the former journal's, and so where it had no entry.
 create or replace view finding_beside_stored as
     select f.finding, j.bridge, j.journal, f.what, f.first, f.last, case when f.first > 0 then concat_ws('-', f.first, nullif(f.last, f.first)) end as numbers,
         f.record, f.at, case when e.number is not null then line_of(e.number, e.key, e.kind, e.plate, e.moment at time zone 'UTC', e.gross_kg,
             e.preset_kg, e.interval_kg, e.max_kg, e.serial, encode(e.digest, 'hex'), encode(e.previous, 'hex')) end as stored,
-        a.means, a.to_do, a.rank, k.at as acknowledged_at, k.by as acknowledged_by, k.note
+        a.means, a.to_do, a.rank, k.at as acknowledged_at, k.by as acknowledged_by, k.note,
+        f.what = 'not loaded' and coalesce(f.at < (select l.at from last_load l where l.bridge = j.bridge), false) as is_made_up
     from finding f join journal j using (journal) join advice a using (what) left join follower l on l.journal = f.journal
     left join acknowledgement k on k.finding = f.finding
     left join lateral (
@@ -746,7 +786,7 @@ create or replace view finding_beside_stored as
             select from entry n where n.journal = f.journal and n.number = f.first) then coalesce(l.former, f.journal) else f.journal end offset 0) e on true;
 
 create or replace view open_finding as
-    select finding, bridge, journal, what, numbers, record, stored, at, means, to_do, rank from finding_beside_stored where acknowledged_at is null;
+    select finding, bridge, journal, what, numbers, record, stored, at, means, to_do, rank from finding_beside_stored where acknowledged_at is null and not is_made_up;
 
 -- When each bridge's newest journal was heard of last, and whether it fell silent; when its last whole export was loaded, and whether the next is overdue.
 create or replace view heard as
@@ -759,10 +799,11 @@ create or replace view heard as
     left join lateral (select e.number, e.moment from entry e where e.journal = l.journal order by e.number desc limit 1) e on true
     left join standing s on s.journal = l.journal;
 
--- The tickets of a haulier, with the day of the bridge's own zone.
+-- The tickets of a haulier, with the day of the bridge's own zone. His plates are looked up one by one: told that they are equal, PostgreSQL may read the
+-- entries of all plates from the first one to his.
 create or replace view haulier_ticket as
     select h.haulier, t.bridge, t.ticket, t.kind, t.plate, t.first, t.at, (t.at at time zone b.zone)::date as day, t.gross_kg, t.tare_kg, t.net_kg, t.brought
-    from haulier h join ticket t using (plate) join bridge b using (bridge);
+    from haulier h join ticket t on t.plate = any (array[h.plate]) join bridge b using (bridge);
 
 -- A text within HTML, and a number with its thousands apart.
 create or replace function html(it text) returns text immutable parallel safe
@@ -845,14 +886,14 @@ begin
         select e.*, p.number as partner, e.kind = 'first' and n.number > up_to as is_open
         from entry e left join lateral (
             select o.number, o.kind from entry o
-            where (o.plate, o.journal, o.number) > (e.plate, e.journal, 0) and (o.plate, o.journal, o.number) < (e.plate, e.journal, e.number)
+            where o.plate = e.plate and ((o.journal::bigint << 32) | o.number) > e.journal::bigint << 32 and ((o.journal::bigint << 32) | o.number) < ((e.journal::bigint << 32) | e.number)
                 and e.kind = 'second' and o.kind <> 'single'
-            order by o.plate desc, o.journal desc, o.number desc limit 1) p on p.kind = 'first'
+            order by ((o.journal::bigint << 32) | o.number) desc limit 1) p on p.kind = 'first'
         left join lateral (
             select o.number from entry o
-            where (o.plate, o.journal, o.number) > (e.plate, e.journal, e.number) and (o.plate, o.journal, o.number) < (e.plate, e.journal + 1, 0)
+            where o.plate = e.plate and ((o.journal::bigint << 32) | o.number) > ((e.journal::bigint << 32) | e.number) and ((o.journal::bigint << 32) | o.number) < (e.journal + 1)::bigint << 32
                 and e.kind = 'first' and o.kind <> 'single'
-            order by o.plate, o.journal, o.number limit 1) n on true
+            order by ((o.journal::bigint << 32) | o.number) limit 1) n on true
         where e.journal = one.journal and e.number <= up_to;
         insert into sealed_entry (journal, number, year, kind, moment, gross_kg, preset_kg, interval_kg, max_kg, serial, partner)
         select journal, number, of_year, kind, moment, gross_kg, preset_kg, interval_kg, max_kg, serial, partner from sealing where is_open is not true;
@@ -875,12 +916,12 @@ end $$;
 
 insert into advice (rank, what, means, to_do) values
     (1, 'replaced', 'the whole journal was changed and each digest made anew, or another one put in its place', 'stop the bridge, keep its files, hold them against what is stored here and the printed slips'),
-    (2, 'differs', 'another entry of this number was stored before: it was changed at the bridge and its digest made anew, or the number was given again', 'stop the bridge, keep its files, hold both records against the printed slips; of entries that differ in their digests alone the first one counts'),
+    (2, 'differs', 'another entry of this number was stored before: it was changed at the bridge and its digest made anew, or the number was given again', 'stop the bridge, keep its files, hold both records against the printed slips; of entries that differ in their digests alone the first one counts; after a backup was restored both were weighed: add the second one''s ticket by hand'),
     (3, 'unsound', 'the record doesn''t fit its digest, or no service writes such a previous digest: it was changed at the bridge', 'stop the bridge, keep its files, hold the record that is stored here against the printed slips; if none is stored here, the record that came: its entry is missing in the totals until a sound one comes'),
     (4, 'missing', 'entries that are stored here are gone at the bridge, between others', 'stop the bridge and keep its files; what is gone there stands here'),
     (5, 'unchained', 'a new record doesn''t hold the digest of the one before: the one before was changed at the bridge and its digest made anew, or this one was put in its place', 'stop the bridge, keep its files, hold this record and the one before it against the printed slips'),
     (6, 'altered', 'the entry of this number in the former journal has another key, kind, plate, moment, weight, setup or serial: it was changed when the journal was brought over, or before that and after it was loaded', 'stop the bridge, keep the old files and the new ones, hold both records against the printed slips'),
-    (7, 'left out', 'entries of the former journal aren''t in the one that was brought over', 'stop the bridge, keep the old files and the new ones; what is left out stands here'),
+    (7, 'left out', 'entries of the former journal aren''t in the one that was brought over', 'stop the bridge, keep the old files and the new ones; what is left out stands here; of the first ones alone compare the service''s --retention with what is registered'),
     (8, 'put in', 'the former journal has no entry of this number, and others behind it', 'stop the bridge, keep the old files and the new ones, ask for the printed slip'),
     (9, 'shorter', 'the bridge''s journal ends before what is stored here: a backup was restored, or the end was taken out', 'if a backup was restored, go on with a new file and register it; else keep the bridge''s files'),
     (10, 'early', 'entries are gone that had to be kept for some days yet', 'compare the service''s --retention with what is registered here; if they agree, keep the bridge''s files'),
@@ -898,7 +939,8 @@ insert into advice (rank, what, means, to_do) values
     (22, 'lowered', 'the days of retention that are registered here were lowered', 'ask who did it, and compare the service''s --retention; entries that were purged since are no finding any more'),
     (23, 'setup', 'e, Max or the serial is another one than in the entry before', 'ask whether the instrument was changed or verified anew; if not, keep the bridge''s files'),
     (24, 'nearly full', 'nine of ten places of the journal are taken', 'purge, or give the service a greater --capacity and register it as places'),
-    (25, 'more', 'a load had more findings than a hundred', 'see to the others first, and load again')
+    (25, 'more', 'a load had more findings than a hundred', 'see to the others first, and load again'),
+    (26, 'not loaded', 'a load was refused for what the next one makes up for: no export came, it was an older one, it didn''t reach what is stored, or another load took too long', 'nothing, if the next load is taken: then this is closed by itself; else ask the bridge, or look who loads')
 on conflict (what) do update set rank = excluded.rank, means = excluded.means, to_do = excluded.to_do;
 
 -- Rights ---------------------------------------------------------------------------------------------------------------------------------

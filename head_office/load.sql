@@ -1,5 +1,6 @@
 -- psql -X -v ON_ERROR_STOP=1 -v bridge=NORTH -f load.sql < journal.csv; with -v is_chained=0 an export of version 1, without the column previous;
--- with -v is_newest=1 one of the newest entries alone; with -v fetched=MOMENT the moment at which it was fetched.
+-- with -v is_newest=1 one of the newest entries alone; with -v fetched=MOMENT the moment at which it was fetched; with -v asks_first=1 nothing but `whole`
+-- where the whole export is wanted.
 -- One transaction: whatever breaks off before the commit leaves nothing. `\copy` takes no variable, so the export comes on standard input.
 \set QUIET on
 \set VERBOSITY terse
@@ -17,9 +18,20 @@
 \else
 \set fetched ''
 \endif
+\if :{?asks_first}
+\else
+\set asks_first 0
+\endif
 -- a client that was killed, or whose machine went away, ends its statement and leaves the lock of the bridge
 set client_connection_check_interval = '2s';
 set idle_in_transaction_session_timeout = '60s';
+\if :asks_first
+select head_office.wants_whole(:'bridge') as wants_whole \gset
+\if :wants_whole
+\echo whole
+\quit
+\endif
+\endif
 begin;
 \if :is_chained
 \copy head_office.handed (number, key, kind, plate, moment, gross_kg, preset_kg, interval_kg, max_kg, serial, digest, previous) from pstdin with (format csv, header match, force_not_null (key, kind, plate, serial, digest, previous), encoding 'UTF8')

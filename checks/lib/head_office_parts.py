@@ -15,6 +15,7 @@ import time
 
 import cluster as clusters
 from books import Book
+from browser import Browser
 from counted import case, same
 from journal import digest_of
 
@@ -41,6 +42,14 @@ def findings(office, name, columns="what, first, last"):
 
 def refusals(office, name):
     return [it for it in office.reads(f"SELECT reason, by FROM head_office.refusal WHERE bridge = '{name}' ORDER BY refusal").split("\n") if it]
+
+
+def passing(office, name):
+    """The findings of a bridge that the next load makes up for: open or made up, in their order; none of the latter is an open finding."""
+    asked = f"SELECT CASE WHEN is_made_up THEN 'made up' ELSE 'open' END FROM head_office.finding_beside_stored WHERE bridge = '{name}' AND what = 'not loaded' ORDER BY finding"
+    found = [it for it in office.reads(asked).split("\n") if it]
+    shown = office.reads(f"SELECT count(*) FROM head_office.open_finding WHERE bridge = '{name}' AND what = 'not loaded'")
+    return found if found.count("open") == int(shown) else (found, shown)
 
 
 class Database:
@@ -94,6 +103,15 @@ def show_growth(office, folder):
             break
     case("a first load of twice the entries takes at most 2.5 times as long, after ANALYZE", twice <= 2.5 * once, (once, twice))
     case("and a load of the newest few reads few of what is stored", *newest_reads_few(it, folder))
+    # plates that stand one behind the other, with others before them
+    it.told("INSERT INTO head_office.haulier SELECT 'five', 'P-' || g FROM generate_series(105, 109) g")
+    it.told("ANALYZE", user=clusters.OWNER)
+    read = "SELECT sum(idx_tup_read) FROM pg_stat_user_indexes WHERE indexrelname = 'entry_by_plate'"
+    before = int(it.told(read, user=clusters.OWNER))
+    tickets = int(it.told("SELECT count(*) FROM head_office.haulier_ticket WHERE haulier = 'five'", user=READER))
+    until(lambda: int(it.told(read, user=clusters.OWNER)) > before, 5)
+    after = int(it.told(read, user=clusters.OWNER))
+    case("and a haulier's tickets the entries of his plates alone", tickets > 100 and 0 < after - before < 3 * tickets, (tickets, after - before))
 
 
 def newest_reads_few(it, folder):
@@ -139,12 +157,14 @@ def show_stopped(office, folder, held):
         "STOP",
         export,
     )
+    same("  and is an open finding", ["open"], passing(office, "STOP"))
     open(f"{folder}/goes_on", "w").close()
     process.wait(60)
     office.cluster.run([f"{PARTS}/upgrade"])
     limit = "SELECT array_to_string(proconfig, ' ') ~ 'lock_timeout=60s' FROM pg_proc WHERE proname = 'take_in'"
     same("which is a minute", "t", office.cluster.told(limit))
     office.shows("and then it is taken", 0, "^STOP: records 30, added 0, findings 0", "STOP", export)
+    same("  which makes up for the one that waited", ["made up"], passing(office, "STOP"))
 
 
 def show_one_stops_all(office, folder):
@@ -301,7 +321,9 @@ def show_listener(office, folder):
         same("  but the refusal and a finding", (["listener|loads"], ["refused"]), (refusals(office, "PORT"), findings(office, "PORT", "what")))
         office.shows("a user that there isn't is told", 2, "this machine has no user nowhere", "PORT", address, HEAD_OFFICE_LISTENER="nowhere")
         office.shows("another machine is no service of this one", 2, "192.0.2.1 is another machine", "PORT", "http://192.0.2.1:880/journal.csv")
-        office.shows("a port on which nobody listens", 2, "nobody listens there", "PORT", "http://127.0.0.1:1/journal.csv")
+        for _ in range(3):
+            office.shows("a port on which nobody listens", 2, "nobody listens there", "PORT", "http://127.0.0.1:1/journal.csv")
+        same("  three times are one open finding", ["open"], passing(office, "PORT"))
         office.shows(
             "the user that is named: the load says whom it asked",
             0,
@@ -310,6 +332,11 @@ def show_listener(office, folder):
             address,
             HEAD_OFFICE_LISTENER=stranger,
         )
+        same("  which makes up for the export that didn't come", ["made up"], passing(office, "PORT"))
+        office.shows("and the next one that doesn't come", 2, "nobody listens there", "PORT", "http://127.0.0.1:1/journal.csv")
+        same("  is a finding again", ["made up", "open"], passing(office, "PORT"))
+        page = office.cluster.run([f"{PARTS}/report"], user=READER)[1].split("<h3>Loads that were refused")[0]
+        same("  which the page shows, and none that was made up for", 1, len(re.findall('<td>PORT</td><td title="[^"]*">not loaded</td>', page)))
     finally:
         server.kill()
         server.wait()
@@ -343,7 +370,7 @@ def show_newest_by_itself(office, folder):
         shows(
             "the whole export follows where they don't reach", 0, "^SELF: refused: the newest entries begin at 71.*\nSELF: records 90, added 40", 90
         )
-        same("  which is a refusal, and no finding", (["newest|loads"], []), (refusals(office, "SELF"), findings(office, "SELF")))
+        same("  which is a refusal, and a finding that the whole export made up for", (["newest|loads"], ["made up"]), (refusals(office, "SELF"), passing(office, "SELF")))
         office.cluster.told(
             "UPDATE head_office.standing SET whole_at = whole_at - interval '8 days' WHERE journal = (SELECT journal FROM head_office.journal WHERE bridge = 'SELF')"
         )
@@ -426,6 +453,7 @@ def show_floods(office, folder):
     older = "INSERT INTO head_office.handed (number, key, kind, plate, moment, interval_kg, max_kg, serial, digest) VALUES (31, 'K', 'void', 'X', now(), 20, 60000, 'FLOOD1', ''); SELECT head_office.take_in('FLOOD', false, '2020-01-01Z')"
     office.cluster.told(*[older] * 101, user=LOADER)
     same("of 101 older exports a hundred are written down", ["older|loads"] * 100, refusals(office, "FLOOD"))
+    same("  and are one finding", ["open"], passing(office, "FLOOD"))
     office.load("FLOOD", Book("FLOOD1", age=DAY + 300).fill(30).write(f"{folder}/t.csv", fetched=time.time()))
     page = office.cluster.run([f"{PARTS}/report"], user=READER)[1]
     case(
@@ -437,6 +465,21 @@ def show_floods(office, folder):
         "SELECT to_char(max(at) AT TIME ZONE 'Europe/Berlin', 'YYYY-MM-DD HH24:MI') FROM head_office.refusal WHERE bridge = 'FLOOD' AND reason = 'older'"
     )
     case("  beside the refused loads, of the bridge's own zone", f'<tr><td>FLOOD</td><td>loads</td><td>{at}</td><td class="n">100</td>' in page, at)
+    same("  which made up for none", ["open"], passing(office, "FLOOD"))
+    for name in ("LOUD", "STILL"):
+        office.register(name, f"{name}1")
+    office.cluster.told(
+        "INSERT INTO head_office.refusal (at, by, bridge, reason, why) SELECT now() - interval '1 minute', 'login' || g, 'LOUD', 'serial', 'of another bridge' FROM generate_series(1, 60) g",
+        "INSERT INTO head_office.refusal (at, by, bridge, reason, why) SELECT now() - interval '2 minutes', 'login', 'NOBODYS' || g, 'bridge', 'no bridge' FROM generate_series(1, 60) g",
+        "INSERT INTO head_office.refusal (at, by, bridge, reason, why) VALUES (now() - interval '6 days', 'login1', 'STILL', 'serial', 'of another bridge')",
+    )
+    page = office.cluster.run([f"{PARTS}/report"], user=READER)[1].split("<h3>Loads that were refused")[1].split("<h3>")[0]
+    case(
+        "sixty logins whose loads of a bridge are refused don't take another bridge's refusal off the page",
+        page.count("<td>LOUD</td>") == 10 and page.count("<td>NOBODYS") == 10 and page.count("<td>STILL</td>") == 1,
+        page,
+    )
+    case("  and how many more is said of each", re.search("and more, in the table refusal: (.*, )?50 of LOUD, .*[0-9]+ of bridges that nobody registered</p>", page), page[-500:])
     office.cluster.told("SELECT head_office.note_refusal('REFUSED', 'listener', 'who took the port')", user="chatty")
     same("a login that had its hundred of one reason is heard with another", ["who took the port"], findings(office, "REFUSED", "record")[-1:])
     for name in ("MANY", "LOST"):
@@ -540,9 +583,10 @@ def show_ages(office, folder, held):
     office.shows(
         "an older honest export is refused as such", 2, "^AGE: refused: this export was fetched at .*, and one of .* was loaded before$", "AGE", older
     )
-    same("  and is no finding", (["older|loads"], []), (refusals(office, "AGE"), findings(office, "AGE")))
+    same("  and is an open finding", (["older|loads"], ["open"]), (refusals(office, "AGE"), passing(office, "AGE")))
     same("  and changes nothing", before, office.state())
     office.shows("the same export again is none", 0, "^AGE: records 40, added 0, findings 0", "AGE", newer)
+    same("  and makes up for it", ["made up"], passing(office, "AGE"))
     status, said = office.cluster.run([f"{PARTS}/load", "--fetched", "2020-01-01T00:00:00Z", "AGE", newer], user=LOADER)
     case("the moment may be said", status == 2 and "refused: this export was fetched at 2020-01-01" in said, said)
     # one that overtakes: the older one waits for the newer one
@@ -559,7 +603,7 @@ def show_ages(office, folder, held):
     open(f"{folder}/goes_on", "w").close()
     process.wait(60)
     said = second.communicate(timeout=60)[0]
-    case("  and is refused as older", second.returncode == 2 and "was loaded before" in said and findings(office, "RACE") == [], said)
+    case("  and is refused as older", second.returncode == 2 and "was loaded before" in said and findings(office, "RACE", "what") == ["not loaded"], said)
     # a bridge whose clock is ahead
     office.shows(
         "an export of the future",
@@ -832,7 +876,7 @@ def show_upgrade(office, folder, loaded_by_1):
     said = sorted(it.communicate(timeout=120)[0] for it in both)
     same(
         "two upgrades of version 4 at once: one makes it, the other waits",
-        (["the schema is of version 6\n", "version 5\nversion 6\nthe schema is of version 6\n"], [0, 0]),
+        (["the schema is of version 7\n", "version 5\nversion 6\nversion 7\nthe schema is of version 7\n"], [0, 0]),
         (said, [it.returncode for it in both]),
     )
     same(
@@ -866,7 +910,7 @@ def show_upgrade(office, folder, loaded_by_1):
     shutil.copytree(PARTS, copy)
     with open(f"{copy}/functions.sql", "a") as it:
         it.write("-- one more line\n")
-    same("functions that changed are run again, and recorded", (0, "the schema is of version 6\n"), cluster.run([f"{copy}/upgrade"], database="four"))
+    same("functions that changed are run again, and recorded", (0, "the schema is of version 7\n"), cluster.run([f"{copy}/upgrade"], database="four"))
     with open(f"{copy}/functions.sql", "rb") as it:
         same(
             "  by their checksum",
@@ -898,7 +942,7 @@ def show_upgrade(office, folder, loaded_by_1):
     status, said = cluster.run([f"{PARTS}/upgrade"], user="dba", database="managed")
     case(
         "the owner of a database who is no superuser makes the schema, and is told what a superuser has to do",
-        status == 0 and "the schema is of version 6" in said and "REVOKE EXECUTE ON FUNCTION lo_creat" in said,
+        status == 0 and "the schema is of version 7" in said and "REVOKE EXECUTE ON FUNCTION lo_creat" in said,
         said,
     )
     same("  and again", 0, cluster.run([f"{PARTS}/upgrade"], user="dba", database="managed")[0])
@@ -949,6 +993,32 @@ def show_pages(office, folder):
         "a digest is shortened, with the whole in a title",
         re.search(r'<span title="([0-9a-f]{8})([0-9a-f]{56})">\1…</span>', page) and not re.search(r">[^<]*[0-9a-f]{64}", page),
     )
+    found = re.findall(r"<dt>(.*?)</dt>", page)
+    case("what is to be done is told once of each kind of finding", found and len(set(found)) == len(found) and set(re.findall(r'<td title="[^"]*">([a-z ]+)</td>', page)) <= set(found), found)
+    show_widths(folder, {"200 bridges": it.run([f"{PARTS}/report"])[1], "findings": page})
+
+
+def show_widths(folder, pages):
+    """Each page in a browser, on a phone and on a screen: nothing but a table of its own scrolls sideways."""
+    if not (shutil.which("chromedriver") and shutil.which("chromium")):
+        print("skip   the page in a browser: chromium and chromium-driver aren't installed", flush=True)
+        return
+    with socket.socket() as it:
+        it.bind(("127.0.0.1", 0))
+        port = it.getsockname()[1]
+    os.makedirs(f"{folder}/browser")
+    browser = Browser(port, f"{folder}/browser", 1280, 900)
+    try:
+        for name, page in pages.items():
+            with open(f"{folder}/browser/page.html", "w") as out:
+                out.write(page)
+            for width in (360, 1280):
+                browser.look(width, 900)
+                browser.go(f"file://{folder}/browser/page.html")
+                wide = browser.run("return document.documentElement.scrollWidth")
+                case(f"the page of {name} is no wider than {width} pixels", wide <= width, wide)
+    finally:
+        browser.close()
 
 
 def show_haulier(office, folder):
