@@ -219,7 +219,7 @@ begin
     select max(j.journal) into new_of from journal j
     where j.bridge = named and not exists (
         select from finding f join journal n using (journal) join refusal r on r.refusal = f.last
-        where n.bridge = named and case when is_passing then f.what = 'not loaded' and r.reason = because and f.at > coalesce((select at from last_load l where l.bridge = named), '-infinity')
+        where n.bridge = named and f.what in ('refused', 'replaced', 'not loaded') and case when is_passing then f.what = 'not loaded' and r.reason = because and f.at > coalesce((select at from last_load l where l.bridge = named), '-infinity')
             else f.what in ('refused', 'replaced') and f.record = said end and not exists (select from acknowledgement a where a.finding = f.finding));
     if not is_full or new_of is not null and not is_passing and because not in ('cut', 'form', 'listener') then
         insert into refusal (bridge, reason, why, fetched_at) values (named, because, said, fetched) returning refusal into its;
@@ -777,9 +777,9 @@ create or replace view finding_beside_stored as
         f.record, f.at, case when e.number is not null then line_of(e.number, e.key, e.kind, e.plate, e.moment at time zone 'UTC', e.gross_kg,
             e.preset_kg, e.interval_kg, e.max_kg, e.serial, encode(e.digest, 'hex'), encode(e.previous, 'hex')) end as stored,
         a.means, a.to_do, a.rank, k.at as acknowledged_at, k.by as acknowledged_by, k.note,
-        f.what = 'not loaded' and coalesce(f.at < (select l.at from last_load l where l.bridge = j.bridge), false) as is_made_up
+        f.what = 'not loaded' and coalesce(f.at < m.at, false) as is_made_up
     from finding f join journal j using (journal) join advice a using (what) left join follower l on l.journal = f.journal
-    left join acknowledgement k on k.finding = f.finding
+    left join acknowledgement k on k.finding = f.finding left join last_load m on m.bridge = j.bridge
     left join lateral (
         select * from entry e
         where e.number = f.first and e.journal = case when f.what in ('altered', 'left out', 'put in') or f.what = 'early' and not exists (
