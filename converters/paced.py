@@ -71,8 +71,8 @@ def print_readings(name, given, read):
 def words(description):
     """The words that each reader has: what it is read from is added to them."""
     it = argparse.ArgumentParser(description=description)
-    it.add_argument("--pace", type=float, default=10, help="readings a second, as the service's --pace (10)")
-    it.add_argument("--timeout", type=float, help="seconds after which a reading is lost (a period of the pace and 0.15)")
+    it.add_argument("--pace", type=float, default=10, help="readings a second, a rate that the device keeps up with, and the service's --pace too (10)")
+    it.add_argument("--timeout", type=float, help="seconds after which a reading is lost: longer than the device takes (a period of the pace and 0.15)")
     return it
 
 
