@@ -7,6 +7,7 @@ import time
 
 # Counts of the converter have 32 bits.
 LEAST, GREATEST = -(2**31), 2**31 - 1
+OUTSIDE = "look at --bits, the order of words and the sign; or the converter is at its end"
 
 
 class Lost(Exception):
@@ -41,14 +42,14 @@ class Told:
 def checked(counts, bits):
     """Counts that fit in so many bits with a sign, and in those of the converter."""
     if not max(LEAST, -(2 ** (bits - 1))) <= counts <= min(GREATEST, 2 ** (bits - 1) - 1):
-        raise Lost(f"{counts} is outside of {bits} bits")
+        raise Lost(f"{counts} is outside of {bits} bits: {OUTSIDE}")
     return counts
 
 
 def from_middle(raw, bits):
     """Counts that the device gives as offset binary: 0 stands for the least, the middle of its range for none."""
     if not 0 <= raw < 2**bits:
-        raise Lost(f"{raw} is outside of {bits} bits")
+        raise Lost(f"{raw} is outside of {bits} bits: {OUTSIDE}")
     return raw - 2 ** (bits - 1)
 
 
