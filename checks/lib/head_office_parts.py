@@ -1075,7 +1075,7 @@ def show_timers(office, folder):
         (said, mail),
     )
     os.remove(f"{folder}/mail")
-    for name in ("upgrade", "watch", "alarm"):
+    for name in ("upgrade", "load", "compare", "report", "haulier", "watch", "alarm", "backup", "restore"):
         status, said = office.cluster.run([f"{PARTS}/{name}", "--help"], PGHOST="/nowhere", SENDMAIL=sendmail)
         case(f"{name} --help prints its usage, and does nothing", status == 0 and said.startswith(f"Usage: {name}"), said)
     case("  and mails none", not os.path.exists(f"{folder}/mail"))
