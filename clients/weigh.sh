@@ -8,7 +8,7 @@
 # place. If this program is stopped before, it is called again with the key that it printed on standard error, as long as the vehicle is on
 # the bridge. WEIGHBRIDGE is the office, http://127.0.0.1:8080 if it isn't set. Needs curl.
 #
-# Status: 0 the weighing is stored and its text was printed, 1 refused, for the reason on standard error, 2 wrong words, 3 no answer in time.
+# Status: 0 the weighing is stored and its text was printed, 1 refused, for the reason on standard error, 2 wrong words, 3 no answer in time, or stopped before.
 set -eu
 case "${1-} $#" in
     first\ [23] | second\ [23] | single\ [23] | void\ [23]) ;;
@@ -23,7 +23,7 @@ target=weighings
 [ "$kind" != void ] || target=voids
 answer=$(mktemp)
 trap 'rm -f "$answer"' EXIT
-trap 'exit 1' INT TERM
+trap 'exit 3' INT TERM
 end_of_head=$(printf '^\r$')
 seconds=${WEIGHBRIDGE_SECONDS:-30}
 end=$(($(date +%s) + seconds))
