@@ -13,7 +13,7 @@ use std::marker::Model;
 use wb_window::Reading;
 
 /// The points that a calibration has at most.
-const MOST_POINTS: usize = 8;
+pub const MOST_POINTS: usize = 8;
 
 /// A calibration, seen as its points.
 #[derive(Debug, Drop)]

@@ -4,13 +4,12 @@ ghost use Rattle.wb_calibration.specs.Fault.{counts_are_apart, loads_are_apart, 
 ghost use Rattle.wb_calibration.specs.Turned.{counts_fall};
 
 use crate::Point;
+use crate::calibration::MOST_POINTS;
 use crate::point::turned;
 use thiserror::Error;
 
-/// The points that a calibration has.
+/// The points that a calibration has at least.
 const LEAST_POINTS: usize = 2;
-
-const MOST_POINTS: usize = 8;
 
 /// The greatest load that a converter hands in, in tenths of the verification scale interval.
 const GREATEST_LOAD: i32 = 2_000_000;

@@ -15,7 +15,7 @@ mod point;
 mod readings;
 mod segment;
 
-pub use calibration::Calibration;
+pub use calibration::{Calibration, MOST_POINTS};
 pub use fault::CalibrationFault;
 pub use filter::Filter;
 pub use point::Point;

@@ -89,8 +89,8 @@ impl<S: Read + OpenStream + Drop> ConverterLink<S> {
         Some(Converter::Line(Reading::Lost))
     }
 
-    /// Whether no line waits that has come, and the last one holds that was handed in: it came less than a second before, or a silent
-    /// second was handed in since. A plain file always stands so: its lines don't come in a time of their own.
+    /// Whether the last reading that was handed in still holds, and no newer line waits. A reading holds for a second after its line came,
+    /// or after the silent second that was handed in. That of a plain file always holds: its lines don't come in a time of their own.
     pub fn is_current(&mut self, clock: &impl Clock) -> bool {
         if !self.source.is_live() {
             return true;

@@ -22,7 +22,7 @@ pub use cause::Cause;
 pub use connection::Requests;
 pub use converter::{ConverterFault, ConverterLink};
 pub use converter_lines::{CONVERTER_ROOM, Lines};
-pub use limits::{ENDLESS_LINE, FINISH_SECONDS, LOOK_MILLIS, PAUSE_MILLIS};
+pub use limits::{ENDLESS_LINE, FINISH_SECONDS, FRESH_SECONDS, LOOK_MILLIS, PAUSE_MILLIS};
 pub use office::OfficeClients;
 pub use ready::is_past;
 pub use report::Report;

@@ -63,7 +63,7 @@ pub const FINISH_SECONDS: u64 = 5;
 /// A reading holds for so many seconds after its line came: then a line that still waits is old, and is dropped, and a converter that
 /// sent no whole line since hands in a lost reading. The slowest converters send twice a second, so a second without a line is a
 /// fault, and nobody is shown an older weight.
-pub(crate) const FRESH_SECONDS: u64 = 1;
+pub const FRESH_SECONDS: u64 = 1;
 
 /// A wait for the converter is broken off after so many milliseconds, to see that nothing came. What is found by the next look came
 /// since, so the age of a line is known to that.

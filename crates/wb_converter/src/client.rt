@@ -6,11 +6,7 @@ use std::io::{ErrorKind, Read, Write};
 use std::net::{OpenListener, OpenStream, SocketAddr};
 use std::time::Instant;
 use std::{fmt, io};
-use wb_connections::{Report, is_past};
-
-/// After so many seconds a line is handed to nobody: the slowest converters send twice a second, and nobody is to be shown an
-/// older weight.
-const FRESH_SECONDS: u64 = 1;
+use wb_connections::{FRESH_SECONDS, Report, is_past};
 
 /// How many pieces are written in a turn at most: the rest of a line that was begun, and the newest line.
 const PIECES: usize = 2;

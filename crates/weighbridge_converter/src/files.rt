@@ -7,8 +7,8 @@ use std::io::{ErrorKind, Write};
 use std::os::unix::fs::OpenOptionsExt;
 use std::{fs, io};
 use wb_calibration::Point;
-use wb_calibration_file::{Made, last_of};
-use wb_converter::{MOST_POINTS, points_of};
+use wb_calibration_file::{MOST_READ, Made, last_of};
+use wb_converter::points_of;
 
 /// The most bytes of a file that is read: more than 2,000 calibrations.
 const MOST_BYTES: u64 = 1_048_576;
@@ -40,7 +40,7 @@ pub(crate) fn points_path(rt: &HostRuntime, path: &str) -> Result<String, Fault>
 }
 
 /// The points that were taken. None, if there is no file of them.
-pub(crate) fn taken(rt: &HostRuntime, path: &str) -> Result<ArrayVec<Point, MOST_POINTS>, Fault> {
+pub(crate) fn taken(rt: &HostRuntime, path: &str) -> Result<ArrayVec<Point, MOST_READ>, Fault> {
     let bytes = bytes_of(rt, path)?;
     match points_of(bytes.as_slice()) {
         Some(points) => Ok(points),

@@ -5,10 +5,8 @@ use arrayvec::ArrayVec;
 use std::fs;
 use std::time::{SystemTime, UNIX_EPOCH};
 use wb_calibration::{Calibration, Filter, Point};
-use wb_calibration_file::{Made, addition, last_of};
-use wb_converter::{
-    MOST_POINTS, mean, read_counts, spread, tenths_of_weights, text_of, with_point,
-};
+use wb_calibration_file::{MOST_READ, Made, addition, last_of};
+use wb_converter::{mean, read_counts, spread, tenths_of_weights, text_of, with_point};
 use wb_converter_command::{Load, Sampling};
 use wb_journal::Moment;
 
@@ -55,7 +53,7 @@ pub(crate) fn keep_point(
     sampling: Sampling,
     tenths: i32,
     found: Found,
-) -> Result<ArrayVec<Point, MOST_POINTS>, Fault> {
+) -> Result<ArrayVec<Point, MOST_READ>, Fault> {
     if found.spread > i64::from(sampling.spread) {
         return Err(Fault::Spread(found.spread, sampling.spread));
     }
@@ -148,7 +146,7 @@ fn is_same(made: &Made, filter: &Option<Filter>, calibration: &Calibration) -> b
 }
 
 /// The points that are kept of a calibration which isn't finished.
-fn kept_points(rt: &HostRuntime, path: &str) -> Result<ArrayVec<Point, MOST_POINTS>, Fault> {
+fn kept_points(rt: &HostRuntime, path: &str) -> Result<ArrayVec<Point, MOST_READ>, Fault> {
     let path = points_path(rt, path)?;
     taken(rt, path.as_str())
 }
