@@ -63,6 +63,8 @@ impl From<StartFault> for ServiceFault {
 }
 
 /// Serves the bridge over the store of its journal, and then its clients for some seconds more, so that each has what waits for it.
+///
+/// What owns the station, what owns the sources and what may be told of their end are three functions, since one that owns is dear to prove by its exits.
 pub(crate) fn serve_store<D: Alter + Drop>(
     rt: &HostRuntime,
     instrument: Instrument,
@@ -73,8 +75,26 @@ pub(crate) fn serve_store<D: Alter + Drop>(
     tell_start(rt, &instrument, service, &mut store);
     let (interval_kg, pace) = (instrument.interval_kg(), instrument.pace());
     let mut station = station_over(rt, instrument, store)?;
+    serve_station(rt, &mut station, interval_kg, pace, service)
+}
+
+fn serve_station<D: Alter + Drop>(
+    rt: &HostRuntime,
+    station: &mut Station<DequeWindow, D>,
+    interval_kg: u32,
+    pace: u32,
+    service: &Service,
+) -> Result<ServeEnd, ServiceFault> {
     let mut sources = open_guarded(rt, interval_kg, pace, service)?;
-    let end = serve(&mut station, &mut sources, service.turns);
+    serve_sources(station, &mut sources, service.turns)
+}
+
+fn serve_sources<D: Alter + Drop>(
+    station: &mut Station<DequeWindow, D>,
+    sources: &mut Guarded<'_, Sockets<'_, HostRuntime, TcpListener>>,
+    turns: u64,
+) -> Result<ServeEnd, ServiceFault> {
+    let end = serve(station, sources, turns);
     sources.sources.finish();
     if sources.is_lost() {
         return Err(lost());
