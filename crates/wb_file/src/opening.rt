@@ -1,6 +1,6 @@
 //! A store over what was opened. One function alone calls what is generic with a store over files: each such call is dear to prove.
-use crate::migration::{fault_or, store_of};
-use crate::progress::Progress;
+use crate::version_one::migration::{fault_or, store_of};
+use crate::version_one::progress::Progress;
 use crate::{JournalFile, store_to_look_at, store_to_serve};
 use sqlite::{Alter, Connection, File, FileStore};
 use wb_store::{Store, StoreFault};

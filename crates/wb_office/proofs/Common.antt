@@ -40,16 +40,16 @@ pub use Rattle.wb_scale.specs.Zero.{zero_now}
 unfoldable pub use Rattle.wb_scale.specs.Zero.{above_zero}
 pub use Rattle.wb_scale.specs.declared.answers.TareNow.{TareNow}
 pub use Rattle.wb_scale.specs.declared.answers.TareNow.TheVariants.{Empty, Preset, Weighed}
-pub use Rattle.wb_store.proofs.offered.LaterLists.{left_rises, next_from_newest, next_stays, one, open_count_more}
+pub use Rattle.wb_tables.proofs.offered.LaterLists.{left_rises, next_from_newest, next_stays, one, open_count_more}
 pub use Rattle.wb_store.specs.Faults.{closed_by, is_disk}
 pub use Rattle.wb_store.specs.Journal.{IsHonest, Reopens, StoreStands, StoreView}
 pub use Rattle.wb_store.specs.Keeping.{Closes, Keeps, LeavesEither, LeavesOnly}
-pub use Rattle.wb_store.specs.Lists.{AreLists, HaveOwnKeys, IsNext, entry_by_key, greatest, greatest_spent, has_key, is_of_key, is_spent, newest_entry, number_after, previous_after}
-pub use Rattle.wb_store.specs.Rows.{SpentKey}
+pub use Rattle.wb_tables.specs.Lists.{AreLists, HaveOwnKeys, IsNext, entry_by_key, greatest, greatest_spent, has_key, is_of_key, is_spent, newest_entry, number_after, previous_after}
+pub use Rattle.wb_tables.specs.Rows.{SpentKey}
 pub use Rattle.wb_store.specs.declared.fault.StoreFault.{StoreFault}
 pub use Rattle.wb_store.specs.declared.fault.StoreFault.TheVariants.{Closed, Disk, Foreign, Memory}
 pub use Rattle.wb_window.specs.Stability.{is_stable}
-pub use Rattle.wb_store.specs.Purging.{entries_below, spent_by}
+pub use Rattle.wb_tables.specs.Purging.{entries_below, spent_by}
 pub use Rattle.wb_events.specs.Content.{Content, purged_content, ticket_content}
 pub use Rattle.wb_office.specs.Answer.{IsBoundAt, Outcome, adds, office_answer, answer_by_verdict, asking, entries_after, entries_left, entry_content, finding_content, makes_a_ticket, if_sound, is_marked, nothing, outcome, outcome_of, purges, spent_by_outcome, spent_left, text_of_indication, ticket_answer, ticket_if_sound, ticket_of, tickets_answer, unless_damaged}
 pub use Rattle.wb_office.specs.Conditions.{clock_back, holds_of, is_damaged_entry, is_other, gross_is_above_preset, journal_full, key_gone, places, places_needed, asks_to_weigh}

@@ -16,9 +16,9 @@ use Rattle.wb_journal.specs.Texts.{slip, ticket}
 use Rattle.wb_scale.specs.declared.answers.Indicated.{Indicated}
 use Rattle.wb_scale.specs.declared.answers.Indicated.TheVariants.{NoLoad, Over, Under, Shown}
 use Rattle.wb_scale.specs.Indication.{indicated}
-use Rattle.wb_store.specs.Lists.{number_after}
-use Rattle.wb_store.specs.Purging.{entries_below, spent_after_purge}
-use Rattle.wb_store.specs.Rows.{SpentKey}
+use Rattle.wb_tables.specs.Lists.{number_after}
+use Rattle.wb_tables.specs.Purging.{entries_below, spent_after_purge}
+use Rattle.wb_tables.specs.Rows.{SpentKey}
 use Rattle.wb_events.specs.Content.{Content, csv_content, damaged_content, purged_content, slip_content, sound_content, text_content, ticket_content}
 use Rattle.wb_events.specs.declared.refusal.Refusal.{Refusal}
 use Rattle.wb_events.specs.declared.refusal.Refusal.TheVariants as refusal

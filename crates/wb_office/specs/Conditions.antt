@@ -14,7 +14,7 @@ use Rattle.wb_scale.specs.Cleared.{is_cleared}
 use Rattle.wb_scale.specs.Indication.{gross}
 use Rattle.wb_scale.specs.Moment.{readings}
 use Rattle.wb_scale.specs.Tare.{is_preset, is_weighed, tare_now}
-use Rattle.wb_store.specs.Lists.{entry_by_key, is_spent, newest_entry, number_after}
+use Rattle.wb_tables.specs.Lists.{entry_by_key, is_spent, newest_entry, number_after}
 use Rattle.wb_window.specs.Stability.{is_stable}
 use Rattle.wb_office.specs.Situation.{Asking}
 

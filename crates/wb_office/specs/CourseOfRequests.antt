@@ -4,7 +4,7 @@ use Rattle.wb_instrument.specs.Setup.{Setup}
 use Rattle.wb_journal.specs.declared.entry.EntryParts.{EntryParts}
 use Rattle.wb_journal.specs.declared.kind.Kind.TheVariants.{Void}
 use Rattle.wb_scale.specs.Moment.{Moment}
-use Rattle.wb_store.specs.Rows.{SpentKey}
+use Rattle.wb_tables.specs.Rows.{SpentKey}
 use Rattle.wb_events.specs.declared.refusal.Refusal.{Refusal}
 use Rattle.wb_events.specs.declared.request.Request.{Request}
 use Rattle.wb_events.specs.declared.request.Request.TheVariants.{Weigh, VoidOpen}

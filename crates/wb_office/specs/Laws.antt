@@ -15,7 +15,7 @@ use Rattle.wb_scale.specs.Indication.{indicated}
 use Rattle.wb_scale.specs.Moment.{Moment, readings}
 use Rattle.wb_scale.specs.Steady.{IsNear}
 use Rattle.wb_scale.specs.Zero.{zero_now}
-use Rattle.wb_store.specs.Lists.{AreLists, entry_by_key, has_key, is_spent, number_after}
+use Rattle.wb_tables.specs.Lists.{AreLists, entry_by_key, has_key, is_spent, number_after}
 use Rattle.wb_events.specs.declared.refusal.Refusal.{Refusal}
 use Rattle.wb_events.specs.declared.refusal.Refusal.TheVariants as refusal
 use Rattle.wb_events.specs.declared.request.Request.{Request}

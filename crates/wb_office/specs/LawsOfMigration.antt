@@ -5,9 +5,9 @@ use Rattle.wb_journal.specs.Chaining.{chained}
 use Rattle.wb_journal.specs.LawsOfChain.{but_digests}
 use Rattle.wb_journal.specs.Pairs.{partner_in, with_number}
 use Rattle.wb_journal.specs.Rising.{IsRising}
-use Rattle.wb_store.specs.Lists.{AreLists, entry_by_key, is_spent}
-use Rattle.wb_store.specs.Migrated.{MayBeChained}
-use Rattle.wb_store.specs.Rows.{SpentKey}
+use Rattle.wb_tables.specs.Lists.{AreLists, entry_by_key, is_spent}
+use Rattle.wb_store.specs.version_one.Migrated.{MayBeChained}
+use Rattle.wb_tables.specs.Rows.{SpentKey}
 use Rattle.wb_events.specs.declared.refusal.Refusal.TheVariants as refusal
 use Rattle.wb_events.specs.declared.request.Request.{Request}
 use Rattle.wb_office.specs.Answer.{entry_content, makes_a_ticket, office_answer, ticket_answer}

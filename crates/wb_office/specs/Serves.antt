@@ -11,7 +11,7 @@ use Rattle.wb_store.specs.declared.fault.StoreFault.TheVariants.{Closed, Foreign
 use Rattle.wb_store.specs.Faults.{is_disk}
 use Rattle.wb_store.specs.Journal.{IsHonest, StoreView, StoreStands}
 use Rattle.wb_store.specs.Keeping.{LeavesEither, LeavesOnly}
-use Rattle.wb_store.specs.Rows.{SpentKey}
+use Rattle.wb_tables.specs.Rows.{SpentKey}
 use Rattle.wb_store.specs.Versions.{IsOfCall}
 use Rattle.wb_events.specs.declared.answer.Answer.{Answer}
 use Rattle.wb_events.specs.declared.refusal.Refusal.{Refusal}

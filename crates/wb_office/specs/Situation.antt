@@ -4,7 +4,7 @@ use Rattle.wb_instrument.specs.Setup.{Setup}
 use Rattle.wb_journal.specs.declared.entry.EntryParts.{EntryParts}
 use Rattle.wb_journal.specs.declared.kind.Kind.{Kind}
 use Rattle.wb_scale.specs.Moment.{Moment}
-use Rattle.wb_store.specs.Rows.{SpentKey}
+use Rattle.wb_tables.specs.Rows.{SpentKey}
 
 -- what there is when the office is asked; the entries and the spent keys are the lists of a store
 pub record Situation : Type 0 where

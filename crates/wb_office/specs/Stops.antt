@@ -6,9 +6,10 @@ use Rattle.sqlite.specs.Store.{Ghosts}
 use Rattle.wb_journal.specs.declared.entry.EntryParts.{EntryParts}
 use Rattle.wb_journal.specs.declared.kind.Kind.TheVariants.{Void}
 use Rattle.wb_scale.specs.State.{State}
-use Rattle.wb_store.specs.HasTables.{HasTables, MayHaveOpen}
-use Rattle.wb_store.specs.Journal.{Holds, IsHonest, StoreView, StoreStands}
-use Rattle.wb_store.specs.Lists.{entry_by_key, is_spent}
+use Rattle.wb_tables.specs.HasTables.{HasTables, MayHaveOpen}
+use Rattle.wb_store.specs.Journal.{IsHonest, StoreView, StoreStands}
+use Rattle.wb_tables.specs.Holds.{Holds}
+use Rattle.wb_tables.specs.Lists.{entry_by_key, is_spent}
 use Rattle.wb_events.specs.declared.answer.Answer.{Answer}
 use Rattle.wb_events.specs.declared.refusal.Refusal.{Refusal}
 use Rattle.wb_events.specs.declared.refusal.Refusal.TheVariants as refusal

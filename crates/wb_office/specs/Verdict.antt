@@ -9,7 +9,7 @@ use Rattle.wb_scale.specs.declared.answers.TareNow.{TareNow}
 use Rattle.wb_scale.specs.declared.answers.TareNow.TheVariants.{Empty, Weighed, Preset}
 use Rattle.wb_scale.specs.Indication.{gross}
 use Rattle.wb_scale.specs.Tare.{tare_now}
-use Rattle.wb_store.specs.Lists.{entry_by_key, newest_entry, number_after, previous_after}
+use Rattle.wb_tables.specs.Lists.{entry_by_key, newest_entry, number_after, previous_after}
 use Rattle.wb_events.specs.declared.refusal.Refusal.{Refusal}
 use Rattle.wb_events.specs.declared.refusal.Refusal.TheVariants.{KeyReused, Gone, ClockBack, NoLoad, Overload, Underload, Unstable, BelowMin, TareActive, NoPreset, NotCleared, AlreadyOpen, NoOpen, JournalFull, Damaged}
 use Rattle.wb_office.specs.Situation.{Asking}

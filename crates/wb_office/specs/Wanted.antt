@@ -6,7 +6,7 @@ use Rattle.wb_events.specs.Content.{Content}
 use Rattle.wb_office.specs.Answer.{IsBoundAt, office_answer, entries_left, marks, spent_left}
 use Rattle.wb_office.specs.Situation.{Situation}
 use Rattle.wb_journal.specs.declared.entry.EntryParts.{EntryParts}
-use Rattle.wb_store.specs.Rows.{SpentKey}
+use Rattle.wb_tables.specs.Rows.{SpentKey}
 use Rattle.wb_events.specs.declared.refusal.Refusal.{Refusal}
 
 -- what is wanted in a situation: an answer, the lists that it leaves, and whether the scale is marked

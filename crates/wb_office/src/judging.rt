@@ -12,7 +12,7 @@ ghost use Rattle.wb_office.specs.helpers.LookUps.{LooksUpInStore};
 ghost use Rattle.wb_office.specs.helpers.Partners.{is_damaged_with};
 ghost use Rattle.wb_scale.specs.Indication.{IsIndicationInRange};
 ghost use Rattle.wb_scale.specs.Tare.{IsTare};
-ghost use Rattle.wb_store.specs.Lists.{AreLists, entry_by_key};
+ghost use Rattle.wb_tables.specs.Lists.{AreLists, entry_by_key};
 ghost use Rattle.wb_store.specs.Sight.{IsSeen, overview};
 
 use crate::conditions::is_second;

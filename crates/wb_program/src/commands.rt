@@ -7,7 +7,7 @@ ghost use Rattle.wb_journal.specs.declared.entry.EntryParts.{EntryParts};
 ghost use Rattle.wb_program.specs.CheckAndExports.{export_text, finding_line, is_sound_finding};
 ghost use Rattle.wb_program.specs.declared.commands.PrintFault.TheVariants as fault;
 ghost use Rattle.wb_store.specs.Journal.{IsHonest, StoreStands};
-ghost use Rattle.wb_store.specs.Rows.{SpentKey};
+ghost use Rattle.wb_tables.specs.Rows.{SpentKey};
 ghost use Rattle.wb_store.specs.Versions.{IsOfCall};
 ghost use Rattle.wb_store.specs.declared.fault.StoreFault.{StoreFault as Fault};
 

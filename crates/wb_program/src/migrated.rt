@@ -5,7 +5,7 @@ ghost use Rattle.wb_journal.specs.declared.entry.EntryParts.{EntryParts};
 ghost use Rattle.wb_program.specs.Migrated.{migrated_line};
 ghost use Rattle.wb_program.specs.declared.commands.PrintFault.TheVariants as fault;
 ghost use Rattle.wb_store.specs.Journal.{IsHonest, StoreStands};
-ghost use Rattle.wb_store.specs.Rows.{SpentKey};
+ghost use Rattle.wb_tables.specs.Rows.{SpentKey};
 ghost use Rattle.wb_store.specs.declared.fault.StoreFault.TheVariants.{Closed};
 
 use crate::commands::{PrintFault, print_number};

@@ -12,8 +12,8 @@ use Rattle.wb_sics.specs.Stands.{TerminalTakesAll, TerminalState, TerminalStands
 use Rattle.wb_journal.specs.declared.entry.EntryParts.{EntryParts}
 use Rattle.wb_store.specs.Journal.{Reopens, StoreView, StoreStands}
 use Rattle.wb_store.specs.Keeping.{LeavesOnly}
-use Rattle.wb_store.specs.Rows.{SpentKey}
-use Rattle.wb_store.specs.Lists.{AreLists}
+use Rattle.wb_tables.specs.Rows.{SpentKey}
+use Rattle.wb_tables.specs.Lists.{AreLists}
 use Rattle.wb_sics.proofs.Theorems.{law_of_replies}
 use Rattle.wb_station.specs.Account.{Account, Comes, IsAccount, IsResponseOut, Out, hears, nothing, opened, replied, responded}
 use Rattle.wb_http.specs.Response.{IsDateOf, ResponseContent, response_text}

@@ -7,7 +7,7 @@ use Rattle.wb_office.specs.CourseOfRequests as course
 use Rattle.wb_office.specs.CourseOfRequests.{AreBounds, Journal, RequestTurn, after, answer_in, left}
 use Rattle.wb_office.specs.Laws.{IsGone, IsKeptEntry}
 use Rattle.wb_office.specs.Wanted.{Wanted, HasBound, IsWanted}
-use Rattle.wb_store.specs.Lists.{entry_by_key, is_spent}
+use Rattle.wb_tables.specs.Lists.{entry_by_key, is_spent}
 use Rattle.wb_office.proofs.Theorems.{law_of_repeated_requests}
 use Rattle.wb_http.specs.declared.fault.HttpFault.{HttpFault}
 use Rattle.wb_station.specs.Account.{Account, ComesOf, IsAccount, Out, account_left, situation_at}

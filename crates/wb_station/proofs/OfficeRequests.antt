@@ -39,8 +39,8 @@ use Rattle.wb_sics.specs.Stands.{TerminalState, TerminalStands}
 use Rattle.wb_store.specs.declared.fault.StoreFault.TheVariants.{Closed}
 use Rattle.wb_store.specs.Journal.{IsHonest, Reopens, StoreView, StoreStands}
 use Rattle.wb_store.specs.Keeping.{LeavesOnly}
-use Rattle.wb_store.specs.Rows.{IsStorable}
-use Rattle.wb_store.specs.Lists.{AreLists, number_after}
+use Rattle.wb_tables.specs.Rows.{IsStorable}
+use Rattle.wb_tables.specs.Lists.{AreLists, number_after}
 use Rattle.wb_journal.proofs.Theorems.{law_of_one_bound}
 use Rattle.wb_sics.proofs.Theorems.{law_of_stored_weighings}
 use Rattle.wb_http.specs.declared.fault.HttpFault.{HttpFault}

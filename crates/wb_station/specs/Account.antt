@@ -12,7 +12,7 @@ use Rattle.wb_sics.specs.Event as terminal
 use Rattle.wb_sics.specs.Event.{TerminalEvent}
 use Rattle.wb_sics.specs.Replies.{replies}
 use Rattle.wb_sics.specs.ReplyText.{reply_bytes}
-use Rattle.wb_store.specs.Rows.{SpentKey}
+use Rattle.wb_tables.specs.Rows.{SpentKey}
 use Rattle.wb_http.specs.declared.fault.HttpFault.{HttpFault}
 use Rattle.wb_http.specs.declared.fault.HttpFault.TheVariants.{Memory}
 use Rattle.wb_events.specs.Happening.{Happening, reading, byte, hang_up, office}

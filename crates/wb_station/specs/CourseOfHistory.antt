@@ -8,7 +8,7 @@ use Rattle.wb_office.specs.Laws.{IsGone, IsKeptEntry}
 use Rattle.wb_office.specs.Wanted.{Wanted, IsWanted}
 use Rattle.wb_scale.specs.History.{moments}
 use Rattle.wb_sics.specs.Calls.{calls}
-use Rattle.wb_store.specs.Lists.{AreLists, entry_by_key, is_spent}
+use Rattle.wb_tables.specs.Lists.{AreLists, entry_by_key, is_spent}
 use Rattle.wb_http.specs.declared.fault.HttpFault.{HttpFault}
 use Rattle.wb_station.specs.Account.{Account, IsAccount, account_left, situation_at}
 use Rattle.wb_events.specs.Happening.{Happening, reading, byte, hang_up, office}

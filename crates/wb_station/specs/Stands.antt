@@ -20,7 +20,7 @@ use Rattle.wb_sics.specs.Replies.{replies}
 use Rattle.wb_sics.specs.Stands.{TerminalState, TerminalStands}
 use Rattle.wb_store.specs.Journal.{IsHonest, Reopens, StoreView, StoreStands}
 use Rattle.wb_store.specs.Keeping.{LeavesOnly}
-use Rattle.wb_store.specs.Lists.{AreLists}
+use Rattle.wb_tables.specs.Lists.{AreLists}
 use Rattle.wb_http.specs.declared.fault.HttpFault.{HttpFault}
 use Rattle.wb_http.specs.declared.fault.HttpFault.TheVariants.{Memory}
 use Rattle.wb_station.specs.Account.{Account, Comes, IsAccount, IsResponseOut, Out, nothing, replied}

@@ -10,7 +10,7 @@ ghost use Rattle.wb_station.specs.Stands.{Hears, StationStands, Took};
 ghost use Rattle.wb_http.specs.UnlessMemoryRefused.{WasJudged};
 ghost use Rattle.wb_station.specs.helpers.RoomShows.{shown_in};
 ghost use Rattle.wb_store.specs.Journal.{StoreStands};
-ghost use Rattle.wb_store.specs.Rows.{SpentKey};
+ghost use Rattle.wb_tables.specs.Rows.{SpentKey};
 ghost use Rattle.wb_window.specs.Reading.{IsReading};
 
 use crate::asking::ask;

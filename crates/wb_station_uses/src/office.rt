@@ -12,7 +12,7 @@ ghost use Rattle.wb_scale.specs.Call.{Call, read};
 ghost use Rattle.wb_scale.specs.History.{moments};
 ghost use Rattle.wb_scale.specs.Stands.{ScaleStands};
 ghost use Rattle.wb_store.specs.Journal.{IsHonest, StoreStands};
-ghost use Rattle.wb_store.specs.Rows.{SpentKey};
+ghost use Rattle.wb_tables.specs.Rows.{SpentKey};
 ghost use Rattle.wb_window.specs.Reading.{IsReading};
 
 use sqlite::Alter;

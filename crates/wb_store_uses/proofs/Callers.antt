@@ -6,7 +6,7 @@ use Rattle.sqlite.specs.Store.{Ghosts}
 use Rattle.wb_journal.specs.declared.entry.EntryParts.{EntryParts}
 use Rattle.wb_store.specs.Journal.{IsHonest, StoreView, StoreStands}
 use Rattle.wb_store.specs.Keeping.{Closes, Keeps, LeavesOnly}
-use Rattle.wb_store.specs.Rows.{SpentKey}
+use Rattle.wb_tables.specs.Rows.{SpentKey}
 
 -- a look-up that was answered leaves the lists
 pub left : {D X : Type 0} (g : Ghosts D) {old new : StoreView D} {x : X} → Keeps g old new (Ok x) → Closes g old new (Ok x)

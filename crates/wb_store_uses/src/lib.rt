@@ -10,8 +10,8 @@ ghost use Rattle.std.specs.Prelude.{◌++◌, [], ◌∷◌, if◌then◌else◌
 ghost use Rattle.wb_journal.specs.declared.entry.EntryParts.{EntryParts};
 ghost use Rattle.wb_store.specs.Journal.{IsHonest, StoreStands};
 ghost use Rattle.wb_store.specs.Keeping.{LeavesOnly};
-ghost use Rattle.wb_store.specs.Lists.{IsNext};
-ghost use Rattle.wb_store.specs.Rows.{SpentKey};
+ghost use Rattle.wb_tables.specs.Lists.{IsNext};
+ghost use Rattle.wb_tables.specs.Rows.{SpentKey};
 
 use sqlite::{Alter, Connection, MemStore};
 use std::alloc::Global;

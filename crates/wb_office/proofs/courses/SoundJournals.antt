@@ -2,7 +2,7 @@
 use Rattle.std.proofs.Common.{◌≡◌, ◌∙◌, sym, ap, subst, ℕ, ◌+◌, ◌≤◌, nat_le, List, [], ◌∷◌, ◌++◌, Option, Some, None, refl, arith}
 use Rattle.wb_office.proofs.Common.{EntryParts, day_of, kept, IsRising, left_rises, sound-sealed, law_of_addition, law_of_kept, newest-more, newest-none, newest-some, newest_entry, next_from_newest, next_stays, number_after, SpentKey, Request, IsBoundAt, Outcome, entries_after, entries_left, spent_by_outcome, spent_left, Asking, Situation, situation_of_turn, AreSound, StaysSound, accepted, verdict, HasBound}
 use Rattle.wb_journal.specs.LawsOfChain.{Follows}
-use Rattle.wb_store.specs.Purging.{spent_after_purge}
+use Rattle.wb_tables.specs.Purging.{spent_after_purge}
 use Rattle.wb_office.proofs.FoundEntries.{is_some_same, none_some}
 use Rattle.wb_office.proofs.Members.{among_kept, kept_among}
 use Rattle.wb_office.proofs.NewEntries.{unsealed}

@@ -7,7 +7,7 @@ use Rattle.wb_scale.specs.Call.{Call}
 use Rattle.wb_scale.specs.History.{moments}
 use Rattle.wb_scale.specs.Stands.{ScaleStands}
 use Rattle.wb_scale.specs.State.{State}
-use Rattle.wb_store.specs.Lists.{IsNext}
+use Rattle.wb_tables.specs.Lists.{IsNext}
 use Rattle.wb_office.specs.declared.judging.Asked.{Asked}
 use Rattle.wb_office.specs.declared.judging.Judgement.{Judgement}
 use Rattle.wb_office.specs.declared.judging.Judgement.TheVariants.{Refused, Repeated, Accepted}

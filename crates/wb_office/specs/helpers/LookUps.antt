@@ -5,7 +5,7 @@ use Rattle.wb_journal.specs.declared.entry.EntryParts.{EntryParts}
 use Rattle.wb_store.specs.declared.fault.StoreFault.{StoreFault}
 use Rattle.wb_store.specs.Journal.{StoreView}
 use Rattle.wb_store.specs.Keeping.{Closes, Keeps, Tells}
-use Rattle.wb_store.specs.Rows.{SpentKey}
+use Rattle.wb_tables.specs.Rows.{SpentKey}
 
 module _ {D : Type 0} (g : Ghosts D) (old new : StoreView D) where
   -- the store is read: what is found is such for the lists that it holds, and it holds them still

@@ -1,7 +1,7 @@
 use Rattle.std.proofs.Common.{◌≡◌, ◌∙◌, ap₂, false, refl, rules, sym, true, true≢false}
 use Rattle.std.specs.List.{list_any}
 use Rattle.std.specs.Option.{option_copied}
-use Rattle.wb_store.specs.Lists.{IsNext, has_key, is_spent, newest_entry, number_after, previous_after}
+use Rattle.wb_tables.specs.Lists.{IsNext, has_key, is_spent, newest_entry, number_after, previous_after}
 use Rattle.wb_store_uses.proofs.Callers.{left, none_passes, not_next, some_passes}
 use Rattle.wb_store_uses.proofs.add_if_free.Goals as goal
 

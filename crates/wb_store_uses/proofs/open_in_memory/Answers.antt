@@ -1,6 +1,6 @@
 use Rattle.std.proofs.Common.{refl}
 use Rattle.sqlite.specs.View.{doubt}
-use Rattle.wb_store.proofs.offered.EmptyDatabases.{lacks_all}
+use Rattle.wb_tables.proofs.offered.EmptyDatabases.{lacks_all}
 use Rattle.wb_store_uses.proofs.open_in_memory.Goals as goal
 
 pub returns-in-Ok-open-clause-stands : goal.returns-in-Ok-open-clause-stands

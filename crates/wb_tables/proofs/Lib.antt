@@ -1,0 +1,3 @@
+mod Common
+pub mod lemmas
+pub mod offered

@@ -1,0 +1,14 @@
+use Rattle.wb_tables.proofs.Common.{state}
+use Rattle.wb_tables.proofs.lemmas.meaning.OnlyAsks.{rowids_asks}
+use Rattle.wb_tables.proofs.lemmas.open_weighings.Shown.{finds_rowids}
+use Rattle.wb_tables.proofs.lemmas.open_weighings.Texts.{rowids_means}
+use Rattle.wb_tables.proofs.lemmas.queries.Selects.{selects_weaker}
+use Rattle.wb_tables.proofs.agreeing.keys_of_rows.Goals as goal
+
+pub returns-clause-reads : goal.returns-clause-reads
+returns-clause-reads g c = c.select.ensures.reads (rowids_asks c.args.conn.now.schema)
+
+pub returns-clause-shows : goal.returns-clause-shows
+returns-clause-shows g c beside =
+    selects_weaker g.S.Store c.args.conn.now c.select.new.conn c.select.result _ _ (λ rows sound shown. finds_rowids (state g.S.Store c.args.conn.now) (state g.S.Store c.select.new.conn) rows beside shown)
+    (c.select.ensures.selects (rowids_means _ _ beside.table).plain)

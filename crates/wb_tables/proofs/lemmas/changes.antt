@@ -1,0 +1,2 @@
+pub mod OneTable
+pub mod PurgeTexts

@@ -1,0 +1,10 @@
+pub mod Agreed
+pub mod Collected
+pub mod Counts
+pub mod Filled
+pub mod Kept
+pub mod LookUps
+pub mod Plates
+pub mod Shown
+pub mod Texts
+pub mod WhatIsOpen

@@ -1,0 +1,12 @@
+pub mod AcceptedRows
+pub mod Asking
+pub mod Collected
+pub mod CountingPass
+pub mod EntriesText
+pub mod JournalRows
+pub mod Kept
+pub mod NearestBelow
+pub mod OwnRowids
+pub mod Reading
+pub mod RowBelow
+pub mod Texts
