@@ -6,7 +6,7 @@ use sqlite::Error;
 pub enum Failure {
     /// The database refused.
     Database(Error),
-    /// Some of the tables are missing, or a row isn't one of this project's.
+    /// Some of the tables are there without the others, a column is missing, the version is none of this project's, or a row isn't.
     Foreign,
     /// Memory was refused.
     Memory,
