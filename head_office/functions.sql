@@ -26,16 +26,20 @@ create or replace function line_of(number bigint, key text, kind text, plate tex
 
 -- The tickets of each journal, from its entries alone. The partner of a Second is the plate's last entry before it that is no Single, if that is a
 -- First. A preset tare above the gross makes a net below zero, as at the bridge. Journal and number are one value, as in entry_by_plate: told a journal
--- and an order of numbers, PostgreSQL may read that journal backwards.
+-- and an order of numbers, PostgreSQL may read that journal backwards. It is looked for in the table of the entry's own year, and only if it isn't there in
+-- those of years before: in each the last one before it in any journal, since PostgreSQL takes what lies between two bounds for so few that it sorts them.
 create or replace view ticket_of_journal as
     select j.bridge, e.journal, e.number as ticket, case e.kind when 'second' then 'pair' else 'preset' end as kind, e.plate, p.number as first,
         e.moment as at, greatest(e.gross_kg, p.gross_kg) as gross_kg, coalesce(e.preset_kg, least(e.gross_kg, p.gross_kg)) as tare_kg,
         coalesce(e.gross_kg - e.preset_kg, abs(e.gross_kg - p.gross_kg)) as net_kg, p.gross_kg > e.gross_kg as brought
     from entry e join journal j using (journal) left join lateral (
-        select o.number, o.kind, o.gross_kg from entry o
-        where o.plate = e.plate and ((o.journal::bigint << 32) | o.number) > e.journal::bigint << 32 and ((o.journal::bigint << 32) | o.number) < ((e.journal::bigint << 32) | e.number)
-            and e.kind = 'second' and o.kind <> 'single'
-        order by ((o.journal::bigint << 32) | o.number) desc limit 1) p on p.kind = 'first'
+        select o.number, o.kind, o.gross_kg from journal_year y cross join lateral (
+            select o.journal, o.number, o.kind, o.gross_kg from entry o
+            where o.plate = e.plate and ((o.journal::bigint << 32) | o.number) < ((e.journal::bigint << 32) | e.number)
+                and o.kind <> 'single' and o.year between y.since and y.until
+            order by ((o.journal::bigint << 32) | o.number) desc limit 1) o
+        where e.kind = 'second' and y.journal = e.journal and y.first < e.number and o.journal = e.journal and o.number >= y.begins
+        order by y.first desc limit 1) p on p.kind = 'first'
     where e.kind = 'single' or p.kind = 'first';
 
 create or replace view ticket_line as
@@ -45,7 +49,8 @@ create or replace view ticket_line as
 
 -- The last number of the former journal, up to which a follower's tickets were received before.
 create or replace view received_before as
-    select f.journal, greatest(s.sealed, (select number from entry where journal = f.former order by number desc limit 1)) as number from follower f join standing s on s.journal = f.former;
+    select f.journal, greatest(s.sealed, (select max(last) from journal_year y where y.journal = f.former)) as number
+    from follower f join standing s on s.journal = f.former;
 
 -- Each ticket once: of a follower those that come behind the former journal, whose own were received first.
 create or replace view ticket as
@@ -86,7 +91,11 @@ create or replace view on_site as
     select j.bridge, o.plate, o.number, o.since, o.gross_kg
     from open_entry o join (select bridge, max(journal) as journal from journal group by bridge) j using (journal);
 
--- Sums and open Firsts that differ from what the entries say: none.
+-- What the entries say of each journal and year.
+create or replace view computed_journal_year as
+    select journal, year, min(number) as first, max(number) as last, count(*) as entries, max(received_at) as received_at from entry group by 1, 2;
+
+-- Sums, open Firsts and years that differ from what the entries say: none.
 create or replace view sum_difference as
     select coalesce(s.bridge, c.bridge) as bridge, coalesce(s.day, c.day)::text as what, to_jsonb(s) as kept, to_jsonb(c) as computed
     from day_total s full join computed_day_total c on c.bridge = s.bridge and c.day = s.day
@@ -94,12 +103,87 @@ create or replace view sum_difference as
     union all
     select j.bridge, coalesce(o.plate, c.plate), to_jsonb(o), to_jsonb(c)
     from open_entry o full join computed_open_entry c on c.journal = o.journal and c.plate = o.plate join journal j on j.journal = coalesce(o.journal, c.journal)
-    where (o.number, o.since, o.gross_kg) is distinct from (c.number, c.since, c.gross_kg);
+    where (o.number, o.since, o.gross_kg) is distinct from (c.number, c.since, c.gross_kg)
+    union all
+    select j.bridge, coalesce(y.year, c.year)::text, to_jsonb(y), to_jsonb(c)
+    from journal_year y full join computed_journal_year c on c.journal = y.journal and c.year = y.year
+    join journal j on j.journal = coalesce(y.journal, c.journal)
+    where (y.first, y.last, y.entries, y.received_at) is distinct from (c.first, c.last, c.entries, c.received_at);
+
+-- Years -----------------------------------------------------------------------------------------------------------------------------------
+
+-- The year in whose table an entry stands; `ends` is when the last year ends of which there can be one.
+create or replace function year_of(moment timestamp, ends timestamp) returns integer immutable parallel safe
+    return case when moment >= timestamp '2000-01-01' and moment < ends then date_part('year', moment)::integer else 9999 end;
+create or replace function next_year() returns timestamp stable parallel safe
+    return date_trunc('year', now() at time zone 'UTC' + interval '5 minutes') + interval '1 year';
+
+create or replace function table_of(its integer) returns text immutable parallel safe
+    return case its when 0 then 'entry_before' when 9999 then 'entry_misdated' else 'entry_' || its end;
+
+-- Makes the table of a year, if there is none, and says whether there is one now. Nobody writes into it by its own name: a load does by that of all. Neither
+-- loads nor readers wait meanwhile; of two that make a table one waits for the other, but not for a transaction that its login leaves open.
+create or replace function make_year(its integer) returns boolean
+language plpgsql security definer set search_path = head_office, pg_temp set lock_timeout = '10s' as $$
+declare
+    name text := table_of(its);
+begin
+    if to_regclass('head_office.' || name) is null then
+        lock table only entry in share update exclusive mode;
+    end if;
+    if to_regclass('head_office.' || name) is null then
+        execute format('create table %I (like entry including defaults including constraints, primary key (journal, number), '
+            'constraint of_year check (year = %s))', name, its);
+        if its < 9999 then
+            execute format('alter table %I add constraint moment_of_year check (moment >= %L and moment < %L)', name,
+                make_timestamptz(its, 1, 1, 0, 0, 0, 'UTC'), make_timestamptz(its + 1, 1, 1, 0, 0, 0, 'UTC'));
+        end if;
+        execute format('create trigger never_changed before insert or update or delete or truncate on %I for each statement '
+            'execute function never_changed()', name);
+        execute format('grant select on %I to head_office_registrar, head_office_reader', name);
+        execute format('alter table entry attach partition %I for values in (%s)', name, its);
+    end if;
+    return true;
+exception when lock_not_available then
+    return false;
+end $$;
+
+-- Makes the tables of this year and the next one, so that the first load of a year needn't.
+create or replace function make_years() returns boolean
+    return make_year(date_part('year', now() at time zone 'UTC')::integer) and make_year(date_part('year', now() at time zone 'UTC')::integer + 1);
+
+-- The years in which entries of a journal with these numbers are looked for.
+create or replace function years_of(its integer, a bigint, z bigint, out since integer, out until integer) stable language sql as
+$$ select min(y.since), max(y.until) from journal_year y where y.journal = its and y.first <= z and y.last >= a $$;
+
+-- Years of which the numbers of one lie among those of another are looked through together.
+create or replace function widen_years(its integer) returns void language plpgsql as $$
+begin
+    loop
+        update journal_year y set begins = w.begins, since = w.since, until = w.until
+        from (
+            select a.year, min(b.begins) as begins, min(b.since) as since, max(b.until) as until
+            from journal_year a join journal_year b on b.journal = a.journal and b.first <= a.last and b.last >= a.first
+            where a.journal = its group by a.year) w
+        where y.journal = its and y.year = w.year and (y.begins > w.begins or y.since > w.since or y.until < w.until);
+        exit when not found;
+    end loop;
+end $$;
+
+-- What a journal has of each year, made anew from its entries.
+create or replace function rebuild_years(its integer) returns void language plpgsql as $$
+begin
+    delete from journal_year where journal = its;
+    insert into journal_year (journal, year, first, last, entries, received_at, begins, since, until)
+    select journal, year, first, last, entries, received_at, first, year, year from computed_journal_year where journal = its;
+    perform widen_years(its);
+end $$;
 
 -- Makes the sums and open Firsts of a bridge anew from its entries, where more than a load changes them.
 create or replace function rebuild_sums(of_bridge text) returns void language plpgsql security definer set search_path = head_office, pg_temp as $$
 begin
     perform 1 from standing s join journal j using (journal) where j.bridge = of_bridge order by s.journal for update of s;
+    perform rebuild_years(journal) from journal where bridge = of_bridge;
     delete from day_sum where bridge = of_bridge;
     insert into day_sum (day, bridge, tickets, gross_kg, net_kg, brought_kg, taken_kg, preset_kg)
     select day, bridge, tickets, gross_kg, net_kg, brought_kg, taken_kg, preset_kg from computed_day_total where bridge = of_bridge;
@@ -112,6 +196,18 @@ end $$;
 
 create or replace function never_changed() returns trigger language plpgsql as
 $$ begin raise exception '% is never changed', tg_table_name; end $$;
+-- A load alone stores entries, also late ones of a year that is over: nobody else does by a statement, the owner neither.
+create or replace function stored_by_a_load() returns trigger language plpgsql as $$
+declare
+    within text;
+begin
+    get diagnostics within = pg_context;
+    if within !~ 'function (head_office[.])?insert_new[(]' then
+        raise exception '% is stored by a load alone', tg_table_name;
+    end if;
+    return null;
+end $$;
+create or replace trigger stored_by_a_load before insert on entry for each statement execute function stored_by_a_load();
 create or replace trigger never_changed before update or delete or truncate on acknowledgement for each statement execute function never_changed();
 create or replace trigger never_changed before update or delete or truncate on refusal for each statement execute function never_changed();
 create or replace trigger never_changed before update or delete or truncate on change for each statement execute function never_changed();
@@ -257,7 +353,8 @@ create or replace view at_hand as
 -- what `compare` says of records beside which nothing is stored: it is the same, and isn't written twice.
 create or replace function admit(of_bridge text, is_newest boolean, fetched timestamptz) returns taking language plpgsql as $$
 declare
-    it taking;
+    it   taking;
+    ends timestamp := next_year();
 begin
     if not may_load(of_bridge) then
         perform refuse('login', format('%s hands nothing in for %s', session_user, of_bridge));
@@ -269,14 +366,14 @@ begin
         perform refuse('clock', format('fetched at %s, and here it is %s: set the clocks', fetched, date_trunc('second', now())));
     end if;
     perform 1 from standing s join journal j using (journal) where j.bridge = of_bridge order by s.journal for update of s;
-    it.is_first := (select number from entry where journal = (select max(journal) from journal where bridge = of_bridge) order by number desc limit 1) is null;
+    it.is_first := not exists (select from journal_year where journal = (select max(journal) from journal where bridge = of_bridge));
     if it.is_first then
         create temporary table taken on commit drop as
-        select h.*, is_formed(own, previous, moment) as sound, false as known, false as differs, false as is_other,
+        select h.*, year_of(moment, ends) as year, is_formed(own, previous, moment) as sound, false as known, false as differs, false as is_other,
             lag(number) over w as number_below, coalesce(lag(number) over w = number - 1, false) as is_next, lag(digest) over w as below, lag(previous) over w as below_previous
         from (select *, digest_in(digest) as own from at_hand offset 0) h window w as (order by number);
     else
-        create temporary table taken on commit drop as select *, digest_in(digest) as own from at_hand;
+        create temporary table taken on commit drop as select *, digest_in(digest) as own, year_of(moment, ends) as year from at_hand;
     end if;
     it.is_newest := is_newest;
     it.fetched := fetched;
@@ -311,40 +408,51 @@ begin
 end $$;
 
 -- The journal of an export: the bridge's that has most of its records; else the newest one, if all of them come behind what it has. `offset 0` keeps a
--- look-up by the primary key what it is, whatever the statistics say.
+-- look-up by the primary key what it is, whatever the statistics say. Years that are named leave the tables of others out of the plan.
 create or replace function journal_of(it taking) returns integer language plpgsql as $$
 declare
     its    integer;
+    one    integer;
+    many   bigint;
+    most   bigint := 0;
     newest integer;
-    last   entry;
+    last   bigint;
+    years  record;
     beside record;
 begin
-    select j.journal into its
-    from journal j cross join lateral (
-        select count(*) as many from taken r cross join lateral (
-            select from entry e where e.journal = j.journal and e.number = r.number and e.digest = r.own offset 0) e
-        -- `exists` may read the whole table for one row, and `max` the whole journal
-        where (select number from entry e where e.journal = j.journal order by number desc limit 1) is not null offset 0) m
-    where j.bridge = it.bridge and m.many > 0 order by m.many desc, j.journal desc limit 1;
+    for one in select journal from journal where bridge = it.bridge order by journal desc loop
+        years := years_of(one, it.lowest, it.highest);
+        select count(*) into many from taken r cross join lateral (
+            select from entry e where e.journal = one and e.number = r.number and e.digest = r.own and e.year between years.since and years.until offset 0) e;
+        if many > most then
+            its := one;
+            most := many;
+        end if;
+    end loop;
     if its is not null then
         return its;
     end if;
     select max(journal) into newest from journal where bridge = it.bridge;
-    select * into last from entry where journal = newest order by number desc limit 1;
-    if newest is not null and (it.lowest is null or last.number is null or it.lowest > last.number) then
+    select max(y.last) into last from journal_year y where y.journal = newest;
+    if newest is not null and (it.lowest is null or last is null or it.lowest > last) then
         return newest;
     end if;
     -- numbers of stored entries, and none of these: brought over, replaced, or begun anew
+    years := years_of(newest, it.lowest, last);
     select count(*) as many, min(moment) as since, count(*) filter (where is_other) as others, min(number) filter (where is_other) as first into beside
     from (
         select r.number, r.moment, (r.key, r.kind, r.plate, r.moment at time zone 'UTC', r.gross_kg, r.preset_kg, r.interval_kg, r.max_kg, r.serial)
             is distinct from (e.key, e.kind, e.plate, e.moment, e.gross_kg, e.preset_kg, e.interval_kg, e.max_kg, e.serial) as is_other
-        from taken r cross join lateral (select * from entry e where e.journal = newest and e.number = r.number offset 0) e where is_sound((r.number, r.key, r.kind, r.plate, r.moment, r.gross_kg, r.preset_kg, r.interval_kg, r.max_kg, r.serial, r.digest, r.previous)::at_hand)) b;
+        from taken r cross join lateral (
+            select * from entry e where e.journal = newest and e.number = r.number and e.year between years.since and years.until offset 0) e
+        where is_sound((r.number, r.key, r.kind, r.plate, r.moment, r.gross_kg, r.preset_kg, r.interval_kg, r.max_kg, r.serial, r.digest,
+            r.previous)::at_hand)) b;
     if it.is_newest then
         perform refuse('newest', format('a journal of %s that is not registered, or each of these entries was changed: load the whole export', it.bridge));
     elsif beside.many > 0 and beside.others = 0 then
         perform refuse('journal', format('a journal of %s that is not registered: its entries are those of journal %s with other digests; if it was brought over, register it as the follower', it.bridge, newest));
-    elsif beside.since <= last.moment at time zone 'UTC' then
+    elsif beside.since <= (
+        select e.moment at time zone 'UTC' from entry e where e.journal = newest and e.number = last and e.year between years.since and years.until) then
         perform refuse('replaced', format('the journal of %s was replaced whole: none of its digests is one that is stored, and %s of %s entries differ in more, the first of them %s',
             it.bridge, beside.others, beside.many, beside.first));
     end if;
@@ -369,11 +477,14 @@ begin
     if it.sealed >= it.lowest then
         select min(number), max(number) into it.lowest, it.highest from taken where number > it.sealed;
     end if;
-    select number into it.stored from entry where journal = it.journal order by number desc limit 1;
+    select max(y.last) into it.stored from journal_year y where y.journal = it.journal;
+    select y.since, y.until into it.since, it.until from journal_year y
+    where y.journal = it.journal and (y.first < it.lowest or it.lowest is null) order by y.first desc limit 1;
     select number, moment into it.before, it.before_at from entry
-    where journal = it.journal and (number < it.lowest or it.lowest is null) order by number desc limit 1;
-    if not exists (select from taken where previous is not null)
-        and exists (select from taken r join entry e on e.journal = it.journal and e.number = r.number where r.number = it.lowest and e.previous is not null) then
+    where journal = it.journal and year between it.since and it.until and (number < it.lowest or it.lowest is null) order by number desc limit 1;
+    select * into it.since, it.until from years_of(it.journal, coalesce(it.before, it.lowest), it.highest);
+    if not exists (select from taken where previous is not null) and exists (
+        select from entry e where e.journal = it.journal and e.number = it.lowest and e.year between it.since and it.until and e.previous is not null) then
         perform refuse('form', 'the column previous is missing, which this journal has');
     end if;
     if it.is_newest and coalesce(it.lowest > greatest(it.stored, it.sealed) + 1, true) then
@@ -381,7 +492,7 @@ begin
     end if;
     -- a follower begins behind what was purged of the former journal
     it.is_former := false;
-    if it.before is null then
+    if it.before is null and exists (select from follower where journal = it.journal) then
         select true, e.number, e.moment into it.is_former, it.before, it.before_at from follower f join entry e on e.journal = f.former
         where f.journal = it.journal and (e.number < it.lowest or it.lowest is null) order by e.number desc limit 1;
         it.is_former := it.is_former is true;
@@ -408,55 +519,81 @@ begin
         return;
     end if;
     create temporary table compared on commit drop as
-    select r.number, r.key, r.kind, r.plate, r.moment, r.gross_kg, r.preset_kg, r.interval_kg, r.max_kg, r.serial, r.digest, r.previous, r.own,
+    select r.number, r.key, r.kind, r.plate, r.moment, r.gross_kg, r.preset_kg, r.interval_kg, r.max_kg, r.serial, r.digest, r.previous, r.own, r.year,
         e.number is not null as known, e.digest <> r.own as differs, s.is_other,
         case when e.number is null then is_formed(r.own, r.previous, r.moment)
             when e.digest = r.own and not s.is_other and r.previous is not distinct from encode(e.previous, 'hex') then true
             else is_sound((r.number, r.key, r.kind, r.plate, r.moment, r.gross_kg, r.preset_kg, r.interval_kg, r.max_kg, r.serial, r.digest, r.previous)::at_hand) end as sound,
         lag(r.number) over w as number_below, coalesce(lag(r.number) over w = r.number - 1, false) as is_next, lag(r.digest) over w as below, lag(r.previous) over w as below_previous
     from (select * from taken where number > it.sealed offset 0) r
-    left join lateral (select * from entry e where it.stored is not null and e.journal = it.journal and e.number = r.number offset 0) e on true
+    left join lateral (select * from entry e where e.journal = it.journal and e.number = r.number and e.year between it.since and it.until offset 0) e on true
     cross join lateral (select e.number is not null and (e.key, e.kind, e.plate, e.moment, e.gross_kg, e.preset_kg, e.interval_kg, e.max_kg, e.serial)
         is distinct from (r.key, r.kind, r.plate, r.moment at time zone 'UTC', r.gross_kg, r.preset_kg, r.interval_kg, r.max_kg, r.serial) as is_other) s
     window w as (order by r.number);
 end $$;
 
--- Stores the new entries that are sound. Only if one of them isn't, each is held against its digest.
+-- Stores the new entries that are sound, each in the table of its year, and notes which years these are. Only if one of them isn't, each is held against its
+-- digest.
 create or replace function insert_new(it taking) returns bigint language plpgsql as $$
 declare
     added bigint;
+    lacks integer;
+    may   boolean := true;
 begin
+    for lacks in
+        select year from (select distinct year from compared where sound and not known offset 0) y where to_regclass('head_office.' || table_of(year)) is null
+    loop
+        -- a record that doesn't fit its digest makes no table; where none can be made now the entry stands in entry_before
+        if exists (select from compared where year = lacks and sound and not known
+            and own = digest_of(number, key, kind, plate, moment, gross_kg, preset_kg, interval_kg, max_kg, serial, previous)) then
+            may := may and make_year(lacks);
+            update compared set year = 0 where year = lacks and not may;
+        end if;
+    end loop;
     begin
-        insert into entry (journal, number, key, kind, plate, moment, gross_kg, preset_kg, interval_kg, max_kg, serial, digest, previous)
-        select it.journal, number, key, kind, plate, moment at time zone 'UTC', gross_kg, preset_kg, interval_kg, max_kg, serial, own, decode(previous, 'hex')
-        from compared where sound and not known order by number;
+        insert into entry (journal, number, key, kind, plate, moment, gross_kg, preset_kg, interval_kg, max_kg, serial, digest, previous, year)
+        select it.journal, number, key, kind, plate, moment at time zone 'UTC', gross_kg, preset_kg, interval_kg, max_kg, serial, own,
+            decode(previous, 'hex'), year from compared where sound and not known order by number;
         get diagnostics added = row_count;
-        return added;
     exception when check_violation then
         update compared set sound = false where sound and not known
             and own is distinct from digest_of(number, key, kind, plate, moment, gross_kg, preset_kg, interval_kg, max_kg, serial, previous);
+        insert into entry (journal, number, key, kind, plate, moment, gross_kg, preset_kg, interval_kg, max_kg, serial, digest, previous, year)
+        select it.journal, number, key, kind, plate, moment at time zone 'UTC', gross_kg, preset_kg, interval_kg, max_kg, serial, own,
+            decode(previous, 'hex'), year from compared where sound and not known order by number;
+        get diagnostics added = row_count;
     end;
-    insert into entry (journal, number, key, kind, plate, moment, gross_kg, preset_kg, interval_kg, max_kg, serial, digest, previous)
-    select it.journal, number, key, kind, plate, moment at time zone 'UTC', gross_kg, preset_kg, interval_kg, max_kg, serial, own, decode(previous, 'hex')
-    from compared where sound and not known order by number;
-    get diagnostics added = row_count;
+    -- the table of a year holds a number once, and an export may have it in two years
+    if exists (select from compared where number_below = number)
+        and exists (select from compared where sound and not known group by number having count(*) > 1) then
+        raise unique_violation using message = 'a number stands twice in the export';
+    end if;
+    insert into journal_year as y (journal, year, first, last, entries, received_at, begins, since, until)
+    select it.journal, year, min(number), max(number), count(*), now(), min(number), year, year from compared where sound and not known group by year
+    on conflict (journal, year) do update set first = least(y.first, excluded.first), last = greatest(y.last, excluded.last),
+        entries = y.entries + excluded.entries, received_at = excluded.received_at, begins = least(y.begins, excluded.begins);
+    perform widen_years(it.journal);
     return added;
 end $$;
 
--- The new entries, each with the plate's last entry before it that is no Single: a new one, behind what was stored, or one that is looked up.
-create or replace function pair(it taking) returns void language plpgsql as $$
+-- The new entries, each with the plate's last entry before it that is no Single: a new one, behind what was stored; the First that is open; or, where one of
+-- them comes late, what is looked up.
+create or replace function pair(it taking, is_late boolean) returns void language plpgsql as $$
 begin
     create temporary table paired on commit drop as
     select n.number, n.kind, n.plate, n.moment at time zone 'UTC' as moment, n.gross_kg, n.preset_kg,
-        case when is_new then l_number else o.number end as former_number, case when is_new then l_kind else o.kind end as former_kind,
-        case when is_new then l_gross_kg else o.gross_kg end as former_gross_kg
+        case when is_new then l_number when is_late then o.number else f.number end as former_number,
+        case when is_new then l_kind when is_late then o.kind when f.number is not null then 'first' end as former_kind,
+        case when is_new then l_gross_kg when is_late then o.gross_kg else f.gross_kg end as former_gross_kg
     from (
         select number, kind, plate, moment, gross_kg, preset_kg, lag(number) over w as l_number, lag(kind) over w as l_kind, lag(gross_kg) over w as l_gross_kg,
             coalesce(lag(number) over w > coalesce(it.stored, 0), false) as is_new
         from compared where sound and not known and kind <> 'single' window w as (partition by plate order by number)) n
+    left join open_entry f on f.journal = it.journal and f.plate = n.plate
     left join lateral (
         select o.number, o.kind, o.gross_kg from entry o
-        where not n.is_new and o.kind <> 'single' and o.plate = n.plate and ((o.journal::bigint << 32) | o.number) > it.journal::bigint << 32 and ((o.journal::bigint << 32) | o.number) < ((it.journal::bigint << 32) | n.number)
+        where is_late and not n.is_new and o.kind <> 'single' and o.plate = n.plate and ((o.journal::bigint << 32) | o.number) > it.journal::bigint << 32
+            and ((o.journal::bigint << 32) | o.number) < ((it.journal::bigint << 32) | n.number)
         order by ((o.journal::bigint << 32) | o.number) desc limit 1) o on true
     union all
     select number, kind, plate, moment at time zone 'UTC', gross_kg, preset_kg, null, null, null from compared where sound and not known and kind = 'single';
@@ -481,25 +618,29 @@ create or replace function store(it taking) returns bigint language plpgsql as $
 declare
     added      bigint;
     behind     bigint := coalesce(it.stored, 0);
+    is_late    boolean := behind > 0 and exists (select from compared where sound and not known and number <= behind);
     is_touched boolean;
 begin
     create temporary table touched on commit drop as
-    select it.journal as journal, n.number as first, n.number as last from compared n where behind > 0 and n.sound and not n.known and n.number <= behind
-    union
-    select it.journal, o.number, o.number from compared n cross join lateral (
-        select o.number from entry o
-        where o.plate = n.plate and ((o.journal::bigint << 32) | o.number) > ((it.journal::bigint << 32) | n.number) and ((o.journal::bigint << 32) | o.number) < (it.journal + 1)::bigint << 32 and o.kind <> 'single'
-        order by ((o.journal::bigint << 32) | o.number) limit 1) o
-    where behind > 0 and n.sound and not n.known and n.kind <> 'single' and n.number <= behind
-    union all
-    select f.journal, behind + 1, it.highest from follower f where f.former = it.journal and it.highest > behind;
+    select f.journal, behind + 1 as first, it.highest as last from follower f where f.former = it.journal and it.highest > behind;
+    if is_late then
+        insert into touched
+        select it.journal, n.number, n.number from compared n where n.sound and not n.known and n.number <= behind
+        union
+        select it.journal, o.number, o.number from compared n cross join lateral (
+            select o.number from entry o
+            where o.plate = n.plate and ((o.journal::bigint << 32) | o.number) > ((it.journal::bigint << 32) | n.number)
+                and ((o.journal::bigint << 32) | o.number) < (it.journal + 1)::bigint << 32 and o.kind <> 'single'
+            order by ((o.journal::bigint << 32) | o.number) limit 1) o
+        where n.sound and not n.known and n.kind <> 'single' and n.number <= behind;
+    end if;
     create temporary table delta (bridge text, day date, tickets bigint, gross_kg bigint, net_kg bigint, brought_kg bigint, taken_kg bigint, preset_kg bigint) on commit drop;
     is_touched := exists (select from touched);
     if is_touched then
         perform add_to_delta(-1);
     end if;
     added := insert_new(it);
-    perform pair(it);
+    perform pair(it, is_late);
     if is_touched then
         perform add_to_delta(1);
     end if;
@@ -518,11 +659,19 @@ begin
     delete from day_sum s using (select distinct day, bridge from delta) d where s.day = d.day and s.bridge = d.bridge and s.tickets = 0;
 
     delete from open_entry where journal = it.journal and plate = any (array(select distinct plate from paired where kind <> 'single'));
+    if not is_late then
+        insert into open_entry (journal, plate, number, since, gross_kg)
+        select it.journal, p.plate, p.number, p.moment, p.gross_kg
+        from (select distinct on (plate) plate, number, kind, moment, gross_kg from paired where kind <> 'single' order by plate, number desc) p
+        where p.kind = 'first';
+        return added;
+    end if;
     insert into open_entry (journal, plate, number, since, gross_kg)
     select it.journal, p.plate, o.number, o.moment, o.gross_kg
     from (select distinct plate from paired where kind <> 'single') p cross join lateral (
         select o.number, o.kind, o.moment, o.gross_kg from entry o
-        where o.plate = p.plate and ((o.journal::bigint << 32) | o.number) > it.journal::bigint << 32 and ((o.journal::bigint << 32) | o.number) < (it.journal + 1)::bigint << 32 and o.kind <> 'single'
+        where o.plate = p.plate and o.kind <> 'single' and ((o.journal::bigint << 32) | o.number) > it.journal::bigint << 32
+            and ((o.journal::bigint << 32) | o.number) < (it.journal + 1)::bigint << 32
         order by ((o.journal::bigint << 32) | o.number) desc limit 1) o
     where o.kind = 'first';
     return added;
@@ -530,6 +679,9 @@ end $$;
 
 -- What is wrong of the export, beside what was stored before it.
 create or replace function find_in_export(it taking) returns void language plpgsql as $$
+declare
+    its_former integer := (select former from follower where journal = it.journal);
+    years      record := years_of(its_former, 1, it.highest);
 begin
     insert into found
     select 'unsound', number, number, line_of(number, key, kind, plate, moment, gross_kg, preset_kg, interval_kg, max_kg, serial, digest, previous)
@@ -551,7 +703,8 @@ begin
     select 'unchained', r.number, r.number, format('previous %s, after %s', coalesce(r.previous, 'none'), coalesce(case when is_next then r.below end, encode(e.digest, 'hex'), 'none'))
     from compared r left join lateral (
         select e.number, e.digest, e.previous, e.moment from entry e
-        where e.journal = it.journal and e.number = r.number - 1 and (not r.is_next or r.below is distinct from r.previous) offset 0) e on true
+        where e.journal = it.journal and e.number = r.number - 1 and e.year between it.since and it.until
+            and (not r.is_next or r.below is distinct from r.previous) offset 0) e on true
     where r.sound and not r.known and case
         when r.previous is null then r.is_next and r.below_previous is not null or e.previous is not null
         when r.is_next and r.previous = r.below or r.previous = encode(e.digest, 'hex') then false
@@ -562,10 +715,11 @@ begin
     insert into found
     select case when s.many > 0 then 'missing' else 'unseen' end, g.a, g.z, format('%s of them stored then', s.many)
     from (select coalesce(number_below, it.before, it.sealed) + 1 as a, number - 1 as z from compared) g
-    cross join lateral (select count(*) as many from entry e where e.journal = it.journal and e.number between g.a and g.z offset 0) s
+    cross join lateral (
+        select count(*) as many from entry e where e.journal = it.journal and e.number between g.a and g.z and e.year between it.since and it.until offset 0) s
     -- what the former journal alone has of them is left out
     where g.a <= g.z and (s.many > 0 or not exists (
-        select from follower f join entry o on o.journal = f.former where f.journal = it.journal and o.number between g.a and g.z));
+        select from entry o where o.journal = its_former and o.number between g.a and g.z and o.year between years.since and years.until));
 
     -- of the bridge's newest journal: an older export of a former one is no news
     insert into found
@@ -587,6 +741,8 @@ end $$;
 
 -- What is wrong of single entries, and of one beside the sound one below it.
 create or replace function find_in_entries(it taking) returns void language plpgsql as $$
+declare
+    years record := years_of(it.journal, 1, 4294967295);
 begin
     with below as (
         select * from (
@@ -602,7 +758,8 @@ begin
         n.interval_kg, n.max_kg, n.serial, b.interval_kg, b.max_kg, b.serial)
     from (select * from below where not known) n
     left join lateral (
-        select e.interval_kg, e.max_kg, e.serial from entry e where n.former_max is null and e.journal = it.journal and e.number = it.before offset 0) e on true
+        select e.interval_kg, e.max_kg, e.serial from entry e
+        where n.former_max is null and e.journal = it.journal and e.number = it.before and e.year between it.since and it.until offset 0) e on true
     cross join lateral (
         select coalesce(n.former_interval, e.interval_kg) as interval_kg, coalesce(n.former_max, e.max_kg) as max_kg, coalesce(n.former_serial, e.serial) as serial) b
     where (n.interval_kg, n.max_kg, n.serial) <> (b.interval_kg, b.max_kg, b.serial);
@@ -640,7 +797,7 @@ begin
     from compared n cross join lateral (
         select o.number from entry o
         where it.stored is not null and ((o.journal::bigint << 32) | (hashtextextended(o.key, 0) & 4294967295)) = ((it.journal::bigint << 32) | (hashtextextended(n.key, 0) & 4294967295))
-            and o.key = n.key and o.journal + 0 = it.journal and o.number <> n.number
+            and o.key = n.key and o.journal + 0 = it.journal and o.number <> n.number and o.year between years.since and years.until
         limit 1) o
     where n.sound and not n.known;
 end $$;
@@ -691,6 +848,9 @@ begin
     update standing set fetched_at = greatest(fetched_at, it.fetched), whole_at = case when it.is_newest then whole_at else coalesce(it.fetched, now()) end
     where journal = it.journal;
     return next format('%s: records %s, added %s, findings %s, new %s', it.bridge, done.records, done.added, done.findings, done.new_findings);
+    if done.new_findings = 0 then
+        return;
+    end if;
     for one in
         select * from finding_beside_stored f where f.journal = it.journal and f.at = now() order by f.finding limit 20
     loop
@@ -708,8 +868,10 @@ end $$;
 -- Takes in the export of a bridge's journal that this transaction handed in, fetched at that moment. What is new and without fault is stored, what is
 -- stored already stays as it is, and everything else is a finding. What is refused changes nothing, and is written down. An export of the newest entries
 -- alone is no finding for what it hasn't from before.
-create or replace function take_in(of_bridge text, is_newest boolean default false, fetched timestamptz default null) returns setof text language plpgsql security definer
-set search_path = head_office, pg_temp set work_mem = '64MB' set jit = off set lock_timeout = '60s' as $$
+create or replace function take_in(of_bridge text, is_newest boolean default false, fetched timestamptz default null) returns setof text
+language plpgsql security definer
+set search_path = head_office, pg_temp set work_mem = '64MB' set jit = off set constraint_exclusion = off set plan_cache_mode = force_custom_plan
+set lock_timeout = '60s' as $$
 declare
     it     taking;
     added  bigint;
@@ -753,7 +915,7 @@ create or replace view follower_difference as
     join bridge b using (bridge)
     cross join lateral (select max(sealed) as number from standing s where s.journal in (f.journal, f.former)) s
     cross join lateral (select number, (received_at at time zone 'UTC')::date as day from entry where journal = f.journal order by number limit 1) a
-    cross join lateral (select number from entry where journal = f.former order by number desc limit 1) z
+    cross join lateral (select max(last) as number from journal_year y where y.journal = f.former having max(last) is not null) z
     cross join lateral (
         select coalesce(n.number, o.number) as number,
             case when o.number is null then 'put in' when n.number is null then 'left out' else 'altered' end as what,
@@ -781,9 +943,11 @@ create or replace view finding_beside_stored as
     from finding f join journal j using (journal) join advice a using (what) left join follower l on l.journal = f.journal
     left join acknowledgement k on k.finding = f.finding left join last_load m on m.bridge = j.bridge
     left join lateral (
-        select * from entry e
-        where e.number = f.first and e.journal = case when f.what in ('altered', 'left out', 'put in') or f.what = 'early' and not exists (
-            select from entry n where n.journal = f.journal and n.number = f.first) then coalesce(l.former, f.journal) else f.journal end offset 0) e on true;
+        select e.* from journal_year y cross join lateral (
+            select * from entry e where e.journal = y.journal and e.number = f.first and e.year between y.since and y.until offset 0) e
+        where f.first between y.first and y.last and y.journal = case when f.what in ('altered', 'left out', 'put in') or f.what = 'early' and not exists (
+            select from journal_year n where n.journal = f.journal and f.first between n.first and n.last) then coalesce(l.former, f.journal) else f.journal end
+        limit 1) e on true;
 
 create or replace view open_finding as
     select finding, bridge, journal, what, numbers, record, stored, at, means, to_do, rank from finding_beside_stored where acknowledged_at is null and not is_made_up;
@@ -796,7 +960,9 @@ create or replace view heard as
     from bridge b
     left join lateral (
         select l.* from load l where l.journal = (select max(j.journal) from journal j where j.bridge = b.bridge) order by l.load desc limit 1) l on true
-    left join lateral (select e.number, e.moment from entry e where e.journal = l.journal order by e.number desc limit 1) e on true
+    left join lateral (
+        select e.number, e.moment from (select * from journal_year y where y.journal = l.journal order by y.last desc limit 1) y
+        cross join lateral (select e.number, e.moment from entry e where e.journal = y.journal and e.year = y.year and e.number = y.last offset 0) e) e on true
     left join standing s on s.journal = l.journal;
 
 -- The tickets of a haulier, with the day of the bridge's own zone. His plates are looked up one by one: told that they are equal, PostgreSQL may read the
@@ -850,7 +1016,10 @@ create or replace view unsound_year as
 create or replace view due_year as
     select b.bridge, y.year
     from bridge b join journal j using (bridge)
-    cross join lateral (select extract(year from e.moment at time zone b.zone)::integer as year from entry e where e.journal = j.journal order by e.number limit 1) y
+    cross join lateral (
+        select extract(year from e.moment at time zone b.zone)::integer as year
+        from (select * from journal_year y where y.journal = j.journal order by y.first limit 1) y
+        cross join lateral (select e.moment from entry e where e.journal = y.journal and e.year = y.year and e.number = y.first offset 0) e) y
     where y.year + b.plate_years < extract(year from now() at time zone b.zone) group by 1, 2;
 
 -- Drops the plates of a bridge's entries up to the end of a year: what is kept of them has no plate, key or digest, and one digest stays over those of
@@ -901,7 +1070,8 @@ begin
         select one.journal, of_year, min(number), up_to, count(*), sha256(string_agg(digest, ''::bytea order by number)), kept_digest_of(one.journal, of_year)
         from sealing where number > one.sealed
         returning * into done;
-        delete from entry e using sealing s where e.journal = s.journal and e.number = s.number and s.is_open is not true;
+        delete from entry e using sealing s where e.journal = s.journal and e.number = s.number and e.year = s.year and s.is_open is not true;
+        perform rebuild_years(one.journal);
         delete from open_entry where journal = one.journal and number <= up_to and number in (select number from sealing where is_open is not true);
         update finding set record = format('sealed with %s', of_year) || ', ' || finding where journal = one.journal and first between 1 and up_to;
         update standing set sealed = up_to where journal = one.journal;
@@ -911,6 +1081,8 @@ begin
     alter table entry enable trigger never_changed;
     alter table finding enable trigger never_changed;
 end $$;
+
+do $$ begin perform make_years(); end $$;
 
 -- What a finding means, and what is to be done -------------------------------------------------------------------------------------------
 

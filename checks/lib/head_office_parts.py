@@ -1,6 +1,7 @@
 """Parts of checks/head_office whose journals are made here: plans that stay linear, bridges that can't stop others, refused loads, runs, what is named,
-sums, upgrades, people's pages and years whose plates are dropped."""
+sums, upgrades, tables of the years, people's pages and years whose plates are dropped."""
 
+import calendar
 import getpass
 import glob
 import hashlib
@@ -106,7 +107,7 @@ def show_growth(office, folder):
     # plates that stand one behind the other, with others before them
     it.told("INSERT INTO head_office.haulier SELECT 'five', 'P-' || g FROM generate_series(105, 109) g")
     it.told("ANALYZE", user=clusters.OWNER)
-    read = "SELECT sum(idx_tup_read) FROM pg_stat_user_indexes WHERE indexrelname = 'entry_by_plate'"
+    read = "SELECT sum(idx_tup_read) FROM pg_stat_user_indexes JOIN pg_inherits ON inhrelid = indexrelid WHERE inhparent = 'head_office.entry_by_plate'::regclass"
     before = int(it.told(read, user=clusters.OWNER))
     tickets = int(it.told("SELECT count(*) FROM head_office.haulier_ticket WHERE haulier = 'five'", user=READER))
     until(lambda: int(it.told(read, user=clusters.OWNER)) > before, 5)
@@ -122,7 +123,7 @@ def newest_reads_few(it, folder):
     lines = [book.line(number) + "\n" for number in range(15_900, 16_011)]
     with open(book.write(f"{folder}/growth.csv", 0), "a") as out:
         out.writelines(lines)
-    read = "SELECT sum(seq_tup_read + idx_tup_fetch) FROM pg_stat_user_tables WHERE relname IN ('entry', 'finding', 'load', 'refusal')"
+    read = "SELECT sum(seq_tup_read + idx_tup_fetch) FROM pg_stat_user_tables WHERE relname IN ('finding', 'load', 'refusal') OR relname LIKE 'entry\_%'"
     time.sleep(1)
     before = it.told(read, user=clusters.OWNER)
     status, said = it.cluster.run([f"{PARTS}/load", "--newest", "N1", f"{folder}/growth.csv"], user=LOADER, database=it.name)
@@ -852,7 +853,7 @@ def show_upgrade(office, folder, loaded_by_1):
     for number in range(1, 5):
         cluster.run(["psql", "-X", "-q", "-v", "ON_ERROR_STOP=1", "--single-transaction", "-f", f"{PARTS}/schema/{number}.sql"], database="four")
     books = {}
-    for name in ("ONE", "TWO", "TARE"):
+    for name in ("ONE", "TWO", "TARE", "GAP"):
         cluster.told(
             f"INSERT INTO head_office.bridge (bridge, zone, retention_days) VALUES ('{name}', 'Europe/Berlin', 30)",
             f"INSERT INTO head_office.instrument VALUES ('{name}1', '{name}')",
@@ -865,6 +866,10 @@ def show_upgrade(office, folder, loaded_by_1):
         loaded_by_1(office, name, books[name].write(f"{folder}/four.csv"), "four", ", previous")
     # version 4 showed a net below zero without its sign
     loaded_by_1(office, "TARE", Book("TARE1").add("single", "T-1", 20_000, preset=26_000).write(f"{folder}/four.csv"), "four", ", previous")
+    gap = Book("GAP1", age=20 * DAY, step=5_000).fill(60)
+    loaded_by_1(office, "GAP", gap.write(f"{folder}/four.csv", without=(29, 30)), "four", ", previous")
+    stored = "SELECT pg_relation_filenode('head_office.{0}'), pg_relation_filenode('head_office.{0}_pkey'), (SELECT count(*) FROM head_office.{0})"
+    stands = cluster.told(stored.format("entry"), database="four")
     book = books["TWO"]
     book.change(50, gross=9_000)
     loaded_by_1(office, "TWO", book.write(f"{folder}/four.csv"), "four", ", previous")
@@ -876,7 +881,7 @@ def show_upgrade(office, folder, loaded_by_1):
     said = sorted(it.communicate(timeout=120)[0] for it in both)
     same(
         "two upgrades of version 4 at once: one makes it, the other waits",
-        (["the schema is of version 7\n", "version 5\nversion 6\nversion 7\nthe schema is of version 7\n"], [0, 0]),
+        (["the schema is of version 8\n", "version 5\nversion 6\nversion 7\nversion 8\nthe schema is of version 8\n"], [0, 0]),
         (said, [it.returncode for it in both]),
     )
     same(
@@ -890,6 +895,13 @@ def show_upgrade(office, folder, loaded_by_1):
         "0",
         cluster.told("SELECT count(*) FROM pg_constraint WHERE NOT convalidated", database="four"),
     )
+    same("  the table of the entries wasn't written anew", stands, cluster.told(stored.format("entry_before"), database="four"))
+    indexes = "SELECT count(*) FROM pg_index WHERE indrelid = 'head_office.entry_before'::regclass"
+    same("  nor has it an index twice", "4", cluster.told(indexes, database="four"))
+    for added in (2, 0):
+        status, said = cluster.run([f"{PARTS}/load", "GAP", gap.write(f"{folder}/four.csv", fetched=time.time())], user=LOADER, database="four")
+        case(f"  of a Second and a Single that come late among them {added} are stored", status == 0 and f"records 60, added {added}, findings 0" in said, said)
+    same("  in the table of its year, and nowhere else", stands, cluster.told(stored.format("entry_before"), database="four"))
     books["ONE"].fill(6)
     for name, path, status, pattern in (
         ("ONE", books["ONE"].write(f"{folder}/four.csv", fetched=time.time()), 0, "added 6, findings 0"),
@@ -901,6 +913,8 @@ def show_upgrade(office, folder, loaded_by_1):
         "  also by a bridge that wasn't brought to this version yet",
         "records 307, added 0, findings 0" in loaded_by_1(office, "ONE", f"{folder}/four.csv", "four", ", previous"),
     )
+    same("  what is kept of them is what the entries say", "", cluster.told("SELECT * FROM head_office.sum_difference", database="four"))
+    show_copy_of_before(cluster, folder)
     same(
         "  each file is recorded by its checksum",
         sorted(os.path.basename(it) for it in glob.glob(f"{PARTS}/schema/*.sql")) + ["functions.sql"],
@@ -910,7 +924,7 @@ def show_upgrade(office, folder, loaded_by_1):
     shutil.copytree(PARTS, copy)
     with open(f"{copy}/functions.sql", "a") as it:
         it.write("-- one more line\n")
-    same("functions that changed are run again, and recorded", (0, "the schema is of version 7\n"), cluster.run([f"{copy}/upgrade"], database="four"))
+    same("functions that changed are run again, and recorded", (0, "the schema is of version 8\n"), cluster.run([f"{copy}/upgrade"], database="four"))
     with open(f"{copy}/functions.sql", "rb") as it:
         same(
             "  by their checksum",
@@ -942,7 +956,7 @@ def show_upgrade(office, folder, loaded_by_1):
     status, said = cluster.run([f"{PARTS}/upgrade"], user="dba", database="managed")
     case(
         "the owner of a database who is no superuser makes the schema, and is told what a superuser has to do",
-        status == 0 and "the schema is of version 7" in said and "REVOKE EXECUTE ON FUNCTION lo_creat" in said,
+        status == 0 and "the schema is of version 8" in said and "REVOKE EXECUTE ON FUNCTION lo_creat" in said,
         said,
     )
     same("  and again", 0, cluster.run([f"{PARTS}/upgrade"], user="dba", database="managed")[0])
@@ -956,6 +970,154 @@ def show_upgrade(office, folder, loaded_by_1):
     )
     status, said = cluster.run([f"{PARTS}/load", "M", Book("M1").fill(6).write(f"{folder}/m.csv")], user=LOADER, database="managed")
     case("  and it is loaded", (status, said) == (0, "M: records 6, added 6, findings 0, new 0\n"), said)
+
+
+def show_copy_of_before(cluster, folder):
+    """Two copies of a head office that had entries before there were tables of years, and what is restored of them."""
+    kept = f"{folder}/four_kept"
+    os.mkdir(kept)
+    lists, files = [], []
+    for _ in range(2):
+        status, said = cluster.run([f"{PARTS}/backup", kept], database="four")
+        lists.append(said.strip())
+        before = glob.glob(f"{kept}/entries-before-*.csv.gz")
+        files.append([(it, os.stat(it).st_mtime_ns) for it in before])
+        time.sleep(1.1)
+    case("  what stood before there were tables of years is copied once", status == 0 and len(files[0]) == 1 and files[0] == files[1], (said, files))
+    cluster.told("CREATE DATABASE four_again", database="postgres")
+    status, said = cluster.run([f"{PARTS}/restore", lists[-1], "four_again"])
+    case("  and restored", status == 0 and " 0 of them unsound; 0 sums that differ" in said, said)
+    query = "SELECT md5(string_agg(e::text, '|' ORDER BY journal, number)), count(DISTINCT tableoid) FROM head_office.entry e"
+    same("  with the same entries in the same tables", *(cluster.told(query, database=it) for it in ("four", "four_again")))
+    status, said = cluster.ask("DELETE FROM head_office.entry_before", database="four_again")
+    case("  which is read-only there too", status and "entry_before is never changed" in said, said)
+
+
+# ---- the tables of the years -----------------------------------------------------------------------------------------------------------
+
+
+def moment_of(year, day="06-01"):
+    return calendar.timegm(time.strptime(f"{year}-{day}", "%Y-%m-%d"))
+
+
+def show_years(office, folder, held):
+    """Tables of the years: made by the load that needs one, read-only but for what a load brings, and a number in one of them alone."""
+    it = Database(office, "years")
+    now, path = time.gmtime().tm_year, f"{folder}/years.csv"
+
+    def told(query, user=clusters.OWNER):
+        return it.told(query, user=user)
+
+    def tables():
+        asked = "SELECT string_agg(substr(relname, 7), ' ' ORDER BY relname) FROM pg_inherits JOIN pg_class c ON c.oid = inhrelid WHERE inhparent = 'head_office.entry'::regclass"
+        return told(asked)
+
+    def years(*those):
+        return " ".join(str(one) for one in those)
+
+    same("a new head office has the tables of this year and the next one", years(now, now + 1, "before"), tables())
+    same("  and no query is held against the constraints of each", "off", told("SHOW constraint_exclusion"))
+    it.register("OLD", "OLD1", 3650)
+    book = Book("OLD1", step=3_600)
+    for moment in (moment_of(now - 6), moment_of(now - 3)):
+        book.moment = moment
+        book.fill(6)
+    book.add("first", "N-1", 9_000, moment=moment_of(now - 3, "12-31") + DAY - 1).add("second", "N-1", 20_000, moment=moment_of(now - 2, "01-01"))
+    book.moment = int(time.time()) - DAY
+    book.fill(4)
+    status, said = it.load("OLD", book.write(path, without=(4, 5)))
+    made = years(now - 6, now - 3, now - 2, now, now + 1, "before")
+    case("a load makes the tables of the years that it brings entries of", (status, tables()) == (1, made), (said, tables()))
+    same("a First of one year and its Second of the next are a pair", "14|13", told("SELECT ticket, first FROM head_office.ticket WHERE plate = 'N-1'", READER))
+    status, said = it.load("OLD", book.write(path, fetched=time.time()))
+    case("entries of a year that is over are taken in late", (status, said) == (0, "OLD: records 18, added 2, findings 0, new 0\n"), said)
+    same("  into the table of their year", "6", told(f"SELECT count(*) FROM head_office.entry_{now - 6}"))
+    differ = "SELECT bridge, what FROM head_office.sum_difference"
+    same("  and what is kept of sums and years is what the entries say", "", told(differ))
+
+    state = "SELECT md5(string_agg(e::text, '|' ORDER BY number)) FROM head_office.entry e"
+    before = told(state)
+    for table in (f"entry_{now - 6}", f"entry_{now}", "entry"):
+        for what in ("UPDATE {} SET gross_kg = gross_kg + 20", "DELETE FROM {}", "TRUNCATE {}", "INSERT INTO {} SELECT * FROM head_office.entry LIMIT 1", "COPY {} FROM '/dev/null'"):
+            statement, refused = what.format(f"head_office.{table}"), []
+            for login, role in ((LOADER, LOADER), (READER, READER), (REGISTRAR, REGISTRAR), (clusters.OWNER, clusters.OWNER), (clusters.OWNER, "head_office")):
+                status, said = it.cluster.ask(f"SET ROLE {role}", statement, user=login, database=it.name)
+                words = "permission denied|must be superuser" if login != clusters.OWNER else "must be superuser|is never changed|is stored by a load alone"
+                refused.append(bool(status and re.search(words, said)))
+            case(f"nobody, the owner neither, may: {statement.replace(str(now - 6), 'YEAR_THAT_IS_OVER').replace(str(now), 'THIS_YEAR')}", all(refused), (refused, said))
+    same("  and nothing was changed by that", before, told(state))
+    status, said = it.cluster.ask(f"DROP TABLE head_office.entry_{now - 6}", user=LOADER, database=it.name)
+    case("  nor drop one, but the owner", status and "must be owner" in said, said)
+
+    # one number, one entry, over all years
+    moved = Book("OLD1")
+    moved.rows = [dict(row) for row in book.rows]
+    moved.change(3, moment=moment_of(now - 4)).chain(3)
+    status, said = it.load("OLD", moved.write(path, fetched=time.time()))
+    numbers = "SELECT count(*), count(DISTINCT number) FROM head_office.entry JOIN head_office.journal USING (journal) WHERE bridge = 'OLD'"
+    case(
+        "a stored number in another year is a finding, and no second row",
+        status == 1 and "\ndiffers 3-18: 3,K3," in said and (told(numbers), tables()) == ("18|18", made),
+        (said, told(numbers), tables()),
+    )
+    same("  nor is any other", before, told(state))
+    twice = book.write(path, fetched=time.time())
+    lines = []
+    for moment in (moment_of(now - 1), int(time.time()) - 5):
+        other = Book("OLD1")
+        other.rows = [dict(row) for row in book.rows]
+        lines.append(other.add("single", "T-1", moment=moment).line(19) + "\n")
+    with open(twice, "a") as out:
+        out.writelines(lines)
+    status, said = it.load("OLD", twice)
+    case("a new number that stands in two years is refused", status == 2 and "a number stands twice in the export" in said, said)
+    same("  and no table is made for it", (before, made), (told(state), tables()))
+    book.moment, book.step = int(time.time()) - 5, 1
+    book.add("single", "K-1", key="K1")
+    status, said = it.load("OLD", book.write(path, fetched=time.time()))
+    case("a key of another year is found", status == 1 and "\nkey again 19: key K1 of number 1\n" in said, said)
+
+    # moments that are of no year
+    it.register("ODD", "ODD1", 3650)
+    book = Book("ODD1", step=1)
+    odd = [1971, 1999, *range(now + 1, now + 40), 9999]
+    for place, year in enumerate(odd):
+        book.add("single", f"O-{place}", moment=moment_of(year))
+    book.add("single", "U-1", moment=moment_of(2004)).rows[-1]["digest"] = FALSE
+    status, said = it.load("ODD", book.write(path, fetched=time.time()))
+    case(
+        f"entries of {len(odd)} years that can't be are stored in one table, and are findings",
+        (status, tables()) == (1, f"{made} misdated") and f"added {len(odd)}," in said and "\nahead 3-42: " in said,
+        (said[:500], tables()),
+    )
+    case("  an unsound one makes no table", "\nunsound 43: 43,K43," in said, said)
+    same("  loaded again they are known", (0, "ODD: records 43, added 0, findings 1, new 0\n"), it.load("ODD", book.write(path, fetched=time.time())))
+    same("  and what is kept is what the entries say", "", told(differ))
+    most = "SELECT count(DISTINCT head_office.year_of(timestamp '0001-01-01' + n * interval '1 year', head_office.next_year())) FROM generate_series(0, 9998) n"
+    same("there are at most so many tables as years since 2000, and one more", str(now - 2000 + 2), told(most))
+
+    # two loads that need the same table, of which one isn't ended
+    exports = {}
+    for name, begin in (("TURN", moment_of(now - 2)), ("TURNS", moment_of(now - 2)), ("SAME", int(time.time()) - DAY)):
+        office.register(name, f"{name}1", 3650)
+        book = Book(f"{name}1", step=60)
+        book.moment = begin
+        exports[name] = book.fill(6).write(f"{folder}/{name}.csv")
+    with open(exports["TURN"], "rb") as given:
+        process = held(office, folder, "TURN", given.read())
+    words = [f"{PARTS}/load", "TURNS", exports["TURNS"]]
+    second = subprocess.Popen(words, env=office.cluster.environment(LOADER), stdout=subprocess.PIPE, stderr=subprocess.STDOUT, text=True)
+    time.sleep(0.7)
+    case("a load waits for the table that another one makes", second.poll() is None)
+    office.shows("  and none that needs another", 0, "^SAME: records 6, added 6, findings 0", "SAME", exports["SAME"])
+    case("  nor a reader", int(office.reads("SELECT count(*) FROM head_office.ticket WHERE at > now() - interval '2 days'")) > 0)
+    said = second.communicate(timeout=30)[0]
+    same("  and does without it, if that one doesn't end", (0, None, "TURNS: records 6, added 6, findings 0, new 0\n"), (second.returncode, process.poll(), said))
+    open(f"{folder}/goes_on", "w").close()
+    process.wait(60)
+    stands = "SELECT bridge, e.tableoid::regclass, count(*) FROM head_office.entry e JOIN head_office.journal USING (journal) WHERE bridge ~ '^TURN' GROUP BY 1, 2 ORDER BY 1"
+    same("  each stands in one table", f"TURN|head_office.entry_{now - 2}|6\nTURNS|head_office.entry_before|6", office.reads(stands))
+    office.shows("  loaded again it is known there", 0, "^TURNS: records 6, added 0, findings 0", "TURNS", exports["TURNS"])
 
 
 # ---- for people ------------------------------------------------------------------------------------------------------------------------
