@@ -112,8 +112,8 @@ size_t weighbridge_terminal_size(void);
 /** The power of two that the address of a terminal is a multiple of. */
 size_t weighbridge_terminal_alignment(void);
 
-/** Makes a terminal of this setup in the caller's memory, with no reading yet. If it answers an error there is no terminal, and nothing was
- * written. A terminal that is opened once more begins anew. */
+/** Makes a terminal of this setup in the caller's memory, with no reading yet. If it answers an error, nothing was written,
+ * and there is no terminal until an opening succeeds: one that was opened before counts as gone. A terminal that is opened once more begins anew. */
 WEIGHBRIDGE_TERMINAL_ANSWERS uint32_t weighbridge_terminal_open(weighbridge_terminal *terminal,
                                                                const weighbridge_terminal_setup *setup);
 

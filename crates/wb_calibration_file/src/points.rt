@@ -3,9 +3,10 @@ ghost use Rattle.arrayvec.specs.ArrayString.{array_string_len};
 ghost use Rattle.arrayvec.specs.ArrayVec.{array_vec_len};
 ghost use Rattle.std.specs.Fmt.{signed_decimal};
 ghost use Rattle.std.specs.Int.{w32};
-ghost use Rattle.std.specs.Prelude.{◌≡◌, ◌≤◌, ◌+◌, ◌*◌, ◌∷◌, ◌++◌, ℕ, ℤ, List, FitsSigned, None, Some, length};
+ghost use Rattle.std.specs.Prelude.{◌≡◌, ◌≤◌, ◌+◌, ◌*◌, ◌∷◌, ◌++◌, ℕ, ℤ, List, FitsSigned, IfSome, MatchOption, None, Some, length};
 ghost use Rattle.wb_calibration.specs.declared.point.Point.{Point};
 ghost use Rattle.wb_calibration_file.specs.File.{AreNumbers, IsNumbers, point_line, point_text, points_text};
+ghost use Rattle.wb_calibration_file.specs.helpers.Behind.{IsBehindPoints};
 
 use arrayvec::{ArrayString, ArrayVec};
 use itoa::Buffer;
@@ -16,8 +17,31 @@ use wb_text::split_at_first;
 /// The points that are read at most: one more than a calibration has, so that its fault can be told.
 pub const MOST_READ: usize = MOST_POINTS + 1;
 
+/// The text of points: a line for each.
+pub fn text_of(points: &ArrayVec<Point, MOST_READ>) -> ArrayString<512>
+    ensures { result.bytes ≡ points_text points.now.items }
+{
+    let mut text = ArrayString::new();
+    push_points(&mut text, points.as_slice());
+    text
+}
+
+/// The points of a text that has the line of each and nothing else; none of any other text.
+pub fn points_of(text: &[u8]) -> Option<ArrayVec<Point, MOST_READ>>
+    ensures is { IfSome result (λ points. text.now ≡ points_text points.items) }
+    ensures each { (ps : List Point) → AreNumbers ps → length ps ≤ MOST_READ → text.now ≡ points_text ps → MatchOption result ⊥ (λ points. points.items ≡ ps) }
+{
+    let mut points = ArrayVec::new();
+    push_points_of(&mut points, text);
+    if text_of(&points).as_str().as_bytes() == text {
+        Some(points)
+    } else {
+        None
+    }
+}
+
 /// Appends a line for each point.
-pub fn push_points(text: &mut ArrayString<512>, points: &[Point])
+pub(crate) fn push_points(text: &mut ArrayString<512>, points: &[Point])
     requires { array_string_len text.old + 30 * length points.now ≤ 512 }
     ensures bytes { text.new.bytes ≡ text.old.bytes ++ points_text points.now }
     ensures room { array_string_len text.new ≤ array_string_len text.old + 30 * length points.now }
@@ -55,9 +79,9 @@ fn push_number(text: &mut ArrayString<512>, number: i32)
 }
 
 /// Appends the points of the lines with which this text begins.
-pub fn push_points_of(points: &mut ArrayVec<Point, MOST_READ>, text: &[u8])
-    ensures { (ps : List Point) (more : List ℕ) → AreNumbers ps → array_vec_len points.old + length ps ≤ MOST_READ
-        → text.now ≡ points_text ps ++ 100 ∷ more → points.new.items ≡ points.old.items ++ ps }
+pub(crate) fn push_points_of(points: &mut ArrayVec<Point, MOST_READ>, text: &[u8])
+    ensures { (ps : List Point) (more : List ℕ) → AreNumbers ps → IsBehindPoints more → array_vec_len points.old + length ps ≤ MOST_READ
+        → text.now ≡ points_text ps ++ more → points.new.items ≡ points.old.items ++ ps }
 {
     let Some((line, rest)) = split_at_first(text, b'\n') else {
         return;

@@ -30,5 +30,5 @@ pub use per_interval::sensitivity;
 pub use running::{RunEnd, run};
 pub use sample::{mean, spread};
 pub use sampling::{SampleFault, read_counts};
-pub use taken::{TAKEN_ROOM, points_of, text_of, with_point};
+pub use taken::with_point;
 pub use weights::tenths_of_weights;

@@ -1,7 +1,7 @@
 //! The one in the middle of some counts.
 ghost use Rattle.std.specs.List.Sorted.{IsPermutation, IsSorted};
 ghost use Rattle.std.specs.Ordering.{int_cmp};
-ghost use Rattle.std.specs.Prelude.{◌≡◌, ◌≤◌, ◌<◌, ◌+ℤ◌, pos, length};
+ghost use Rattle.std.specs.Prelude.{◌≤◌, ◌<◌, ◌+ℤ◌, pos, length};
 ghost use Rattle.wb_calibration.specs.Line.{IsNearest};
 ghost use Rattle.wb_converter.specs.Filter.{IsMedian};
 

@@ -1,5 +1,5 @@
 //! Numbers and counts in bytes.
-ghost use Rattle.std.specs.Prelude.{◌≡◌, ◌+◌, ◌≤◌, ◌↔◌, IsTrue, length, slice_index};
+ghost use Rattle.std.specs.Prelude.{◌≡◌, ◌+◌, ◌≤◌, ◌↔◌, IsTrue, length};
 ghost use Rattle.sqlite_wal.specs.Format.{be32, be64, stored_sum, zeros};
 ghost use Rattle.wb_log.specs.Look.{AreRightOrLost};
 

@@ -2,7 +2,7 @@
 //!
 //! Its first frame has a number above those of all pages, and begins with a count: of the zeros in its pages, and of how far its numbers and its
 //! size lie below that number. It is written over zeros, so that what is lost of it is 0, which makes what is found more, or the count less.
-ghost use Rattle.std.specs.Prelude.{◌≡◌, ◌≤◌, ◌+◌, ◌-◌, ◌↔◌, ◌<◌, ◌^◌, IsTrue, length};
+ghost use Rattle.std.specs.Prelude.{◌≡◌, ◌≤◌, ◌+◌, ◌-◌, ◌↔◌, ◌<◌, IsTrue, length};
 ghost use Rattle.wb_log.specs.Look.{IsSealed, lack};
 ghost use Rattle.wb_log.specs.helpers.Commit.{EndsLost, GoesOn, HasBegun};
 

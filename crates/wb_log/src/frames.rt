@@ -1,7 +1,7 @@
 //! The frames of a log. Each has 24 bytes and a page: the page's number, the size of the database if the frame ends a commit and 0 if not, the
 //! log's salts, and a checksum over all that comes before it.
-ghost use Rattle.std.specs.Prelude.{◌≡◌, ◌≢◌, ◌+◌, ◌<◌, ◌≤◌, ◌^◌, ◌↔◌, ℕ, IsTrue, IfSome, None, length, slice_index};
-ghost use Rattle.sqlite_wal.specs.Format.{part, commit_size, checksum, content, IsFrame};
+ghost use Rattle.std.specs.Prelude.{◌≡◌, ◌≢◌, ◌+◌, ◌<◌, ◌≤◌, ◌^◌, ◌↔◌, ℕ, IsTrue, IfSome, None, length};
+ghost use Rattle.sqlite_wal.specs.Format.{part, commit_size, checksum, IsFrame};
 ghost use Rattle.sqlite_wal.specs.Recovery.{Passes};
 ghost use Rattle.wb_log.specs.Look.{Has};
 ghost use Rattle.wb_log.specs.helpers.Stop.{StopsAt, IsBehind};

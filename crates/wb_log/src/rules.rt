@@ -1,7 +1,7 @@
 //! The look: four rules, in this order.
-ghost use Rattle.std.specs.Prelude.{◌≡◌, ◌↔◌, ◌≤◌, ◌<◌, IsTrue, IfErr, IfOk, OnOk, length};
+ghost use Rattle.std.specs.Prelude.{◌≡◌, ◌↔◌, ◌≤◌, ◌<◌, IsTrue, IfErr, OnOk, length};
 ghost use Rattle.sqlite_wal.specs.Recovery.{frame_at};
-ghost use Rattle.wb_log.specs.Look.{BothHold, HasHeader, IsOfLastCommit, IsRefused, MayHaveLost, MayStop, NeedsFile, page_size};
+ghost use Rattle.wb_log.specs.Look.{IsOfLastCommit, IsRefused, MayHaveLost, MayStop, NeedsFile, page_size};
 ghost use Rattle.wb_log.specs.helpers.Stop.{StopsAt};
 
 use crate::bytes::number_at;

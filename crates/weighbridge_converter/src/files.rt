@@ -7,8 +7,7 @@ use std::io::{ErrorKind, Write};
 use std::os::unix::fs::OpenOptionsExt;
 use std::{fs, io};
 use wb_calibration::Point;
-use wb_calibration_file::{MOST_READ, Made, last_of};
-use wb_converter::points_of;
+use wb_calibration_file::{MOST_READ, Made, last_of, points_of};
 
 /// The most bytes of a file that is read: more than 2,000 calibrations.
 const MOST_BYTES: u64 = 1_048_576;

@@ -19,8 +19,8 @@ use clap::error::ErrorKind;
 use std::io;
 use std::process::ExitCode;
 use wb_calibration::Filter;
-use wb_calibration_file::Made;
-use wb_converter::{RunEnd, text_of};
+use wb_calibration_file::{Made, text_of};
+use wb_converter::RunEnd;
 use wb_converter_command::{Asked, Load, REFUSED, Sampling, read_words};
 
 /// The status of any fault but refused words.

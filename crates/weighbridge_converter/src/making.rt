@@ -4,14 +4,11 @@ use crate::files::{bytes_of, newest_of, points_path, taken, write_anew};
 use arrayvec::ArrayVec;
 use std::fs;
 use std::time::{SystemTime, UNIX_EPOCH};
-use wb_calibration::{Calibration, Filter, Point};
-use wb_calibration_file::{MOST_READ, Made, addition, last_of};
-use wb_converter::{mean, read_counts, spread, tenths_of_weights, text_of, with_point};
+use wb_calibration::{Calibration, Filter, MOST_POINTS, Point};
+use wb_calibration_file::{MOST_READ, Made, addition, last_of, text_of};
+use wb_converter::{mean, read_counts, spread, tenths_of_weights, with_point};
 use wb_converter_command::{Load, Sampling};
 use wb_journal::Moment;
-
-/// The points that a calibration has at most.
-const MOST_OF_ONE: usize = 8;
 
 /// What was found of some lines under one load.
 #[derive(Clone, Copy)]
@@ -58,7 +55,7 @@ pub(crate) fn keep_point(
         return Err(Fault::Spread(found.spread, sampling.spread));
     }
     let kept = kept_points(rt, path)?;
-    if kept.len() > MOST_OF_ONE {
+    if kept.len() > MOST_POINTS {
         return Err(Fault::Full);
     }
     let point = Point {
@@ -66,7 +63,7 @@ pub(crate) fn keep_point(
         tenths,
     };
     let points = with_point(kept.as_slice(), point);
-    if points.len() > MOST_OF_ONE {
+    if points.len() > MOST_POINTS {
         return Err(Fault::Full);
     }
     let text = text_of(&points);

@@ -5,9 +5,10 @@ use std::fmt::Write;
 use std::process::Abort;
 use std::test::Fail;
 use wb_calibration::{Calibration, Filter, Point, Readings};
+use wb_calibration_file::{points_of, text_of};
 use wb_converter::{
-    Filtering, Lines, Outbox, SampleFault, answer, counts_line, mean, points_of, read_counts,
-    sensitivity, spread, tenths_of_weights, text_of, with_point,
+    Filtering, Lines, Outbox, SampleFault, answer, counts_line, mean, read_counts, sensitivity,
+    spread, tenths_of_weights, with_point,
 };
 
 /// Two counts a tenth, and 20 an interval.
