@@ -12,7 +12,7 @@ use wb_instrument::Instrument;
 pub const REFUSED: u8 = 2;
 
 /// The version of the program.
-pub const VERSION: &str = "2.1.0";
+pub const VERSION: &str = "2.1.1";
 
 const REPLAY_EXAMPLE: &str = "Example:
   printf 'r 9170 4\\nt SI\\n' | weighbridge replay

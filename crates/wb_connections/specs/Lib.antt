@@ -1,3 +1,4 @@
 pub mod Ready
 pub mod Age
 pub mod Causes
+pub mod Known

@@ -1,6 +1,11 @@
 //! The converter, which alone is waited for.
-ghost use Rattle.std.specs.Prelude.{IfSome};
+ghost use Rattle.std.specs.Prelude.{◌≡◌, [], ◌∷◌, false, IfSome, IsTrue, List, None, Some};
+ghost use Rattle.std.specs.declared.time.Instant.{Instant as Moment};
+ghost use Rattle.wb_connections.specs.Age.{Look, is_fresh, last_silence};
+ghost use Rattle.wb_connections.specs.Known.{IsKnown, is_live};
+ghost use Rattle.wb_connections.specs.declared.limits.TheConstants.{FRESH_SECONDS};
 ghost use Rattle.wb_sources.specs.Converted.{IsConverted};
+ghost use Rattle.wb_sources.specs.declared.sources.Converter.TheVariants.{Line};
 ghost use Rattle.wb_window.specs.Reading.{IsReading};
 
 use crate::cause::Cause;
@@ -28,8 +33,11 @@ pub struct ConverterLink<S: Read + OpenStream + Drop> {
     lines: Lines,
     /// What the last read found.
     found: Ready,
-    /// When a read last found nothing. What is read later came after that.
-    looked: Instant,
+    /// Whether bytes come in their own time, and so have an age.
+    is_live: bool,
+    /// When a read last found nothing, or `None` if none did yet. What is read later came after that. Before, nothing is known: a FIFO that another program
+    /// keeps open holds what was written for a service that has ended.
+    looked: Option<Instant>,
     /// Before the last line came, but no longer than a look; or when the silent second was over that was handed in after it.
     heard: Instant,
 }
@@ -54,13 +62,18 @@ impl<S: Read + OpenStream + Drop> ConverterLink<S> {
         }
     }
 
-    /// Over a source that is open, from this time on.
-    pub fn over(source: Source<S>, now: Instant) -> Self {
+    /// Reads from a source that is open. `now` is the time. What the source holds already is of no known age, so no line of a live one counts before a read
+    /// found nothing.
+    pub fn over(source: Source<S>, now: Instant) -> Self
+        ensures unknown { result.looked ≡ last_silence [] }
+        ensures live { result.is_live ≡ is_live source }
+    {
         ConverterLink {
+            is_live: source.is_live(),
             source,
             lines: Lines::new(),
             found: Ready::Nothing,
-            looked: now,
+            looked: None,
             heard: now,
         }
     }
@@ -71,7 +84,8 @@ impl<S: Read + OpenStream + Drop> ConverterLink<S> {
     /// A line that may have come more than a second before is dropped. So a gap of more than a second, in which nobody called, hands
     /// in a lost reading for each whole second.
     pub fn next_within(&mut self, clock: &impl Clock, patience: Duration) -> Option<Converter>
-        ensures { IfSome result IsConverted }
+        ensures converted { IfSome result IsConverted }
+        ensures known { IfSome result (IsKnown self.new.is_live self.new.looked) }
     {
         for _ in 0..ENDLESS_LINE {
             if self.look(clock) {
@@ -92,7 +106,7 @@ impl<S: Read + OpenStream + Drop> ConverterLink<S> {
     /// Whether the last reading that was handed in still holds, and no newer line waits. A reading holds for a second after its line came,
     /// or after the silent second that was handed in. That of a plain file always holds: its lines don't come in a time of their own.
     pub fn is_current(&mut self, clock: &impl Clock) -> bool {
-        if !self.source.is_live() {
+        if !self.is_live {
             return true;
         }
         !self.look(clock) && self.holds(clock, self.heard)
@@ -113,55 +127,83 @@ impl<S: Read + OpenStream + Drop> ConverterLink<S> {
             }
             // before the read: what comes between the two is read later, and came after it
             let now = Instant::now(clock);
-            let ready = self.source.read_now(&mut self.lines.room);
-            match (ready, now) {
-                (Ready::Bytes(_), _) => self.take_in(ready),
-                (Ready::Nothing, Ok(now)) => {
-                    self.found = ready;
-                    self.looked = now;
-                    return false;
-                }
+            let found = self.source.read_now(&mut self.lines.room);
+            match (found, now) {
+                (_, Ok(now)) => self.note(found, now),
                 (Ready::Nothing, Err(_)) => self.found = Ready::Fault,
-                (Ready::End | Ready::Fault, _) => self.found = ready,
+                (_, Err(_)) => self.found = found,
+            }
+            match found {
+                Ready::Bytes(count) => self.lines.fill(count),
+                Ready::Nothing | Ready::End | Ready::Fault => return false,
             }
         }
         self.found = Ready::Fault;
         false
     }
 
-    /// Keeps what a read found.
-    fn take_in(&mut self, ready: Ready) {
-        self.found = ready;
-        if let Ready::Bytes(count) = ready {
-            self.lines.fill(count);
+    /// Notes what a poll at `now` found. If it is the first that found nothing, the line that has begun is in part of unknown age, and becomes a lost
+    /// reading.
+    fn note(&mut self, found: Ready, now: Instant)
+        ensures age { (looks : List Look) → self.old.looked ≡ last_silence looks
+            → self.new.looked ≡ last_silence (record { found = found; at = now } ∷ looks) }
+    {
+        self.found = found;
+        if matches!(found, Ready::Nothing) {
+            if self.looked.is_none() {
+                self.lines.spoil();
+            }
+            self.looked = Some(now);
         }
     }
 
-    /// The reading of the line that waits, unless it may have come more than a second before.
+    /// Returns the reading of the line that waits, or `None` if nothing is known of its age, or it may be more than a second old.
     fn next_fresh(&mut self, clock: &impl Clock) -> Option<Reading>
-        ensures { IfSome result IsReading }
+        ensures converted { IfSome result IsReading }
+        ensures known { IfSome result (λ reading. IsKnown self.new.is_live self.new.looked (Line reading)) }
     {
         let reading = self.lines.next_reading()?;
-        if self.source.is_live() && !self.holds(clock, self.looked) {
+        let now = Instant::now(clock).ok();
+        self.if_fresh(reading, now)
+    }
+
+    /// Returns the reading of a line, or `None` if its source is live and nothing is known of its age, or it may be more than a second old. `now` is the
+    /// time, or `None` if the clock can't be read.
+    fn if_fresh(&mut self, reading: Reading, now: Option<Instant>) -> Option<Reading>
+        ensures recorded { self.old.is_live ≡ false → result ≡ Some reading }
+        ensures fresh { IsTrue (is_fresh FRESH_SECONDS self.old.looked now) → result ≡ Some reading }
+        ensures old { IsTrue self.old.is_live → is_fresh FRESH_SECONDS self.old.looked now ≡ false → result ≡ None }
+        ensures kept { self.new.looked ≡ self.old.looked }
+        ensures live { self.new.is_live ≡ self.old.is_live }
+    {
+        if !self.is_live {
+            return Some(reading);
+        }
+        let (Some(looked), Some(now)) = (self.looked, now) else {
+            return None;
+        };
+        if is_past(looked, FRESH_SECONDS, now) {
             return None;
         }
-        self.heard = self.looked;
+        self.heard = looked;
         Some(reading)
     }
 
-    /// What is handed in where no line waits: the end, a fault, or a lost reading for a second without a line.
+    /// Returns what is passed on if no line waits: the end, a fault, or a lost reading for a second without a line.
     fn without_line(&mut self) -> Option<Converter>
-        ensures { IfSome result IsConverted }
+        ensures converted { IfSome result IsConverted }
+        ensures known { IfSome result (IsKnown self.new.is_live self.new.looked) }
     {
         match self.found {
             Ready::End => Some(Converter::End),
             Ready::Fault => Some(Converter::Fault),
             Ready::Bytes(_) | Ready::Nothing => {
-                if !is_past(self.heard, FRESH_SECONDS, self.looked) {
+                let looked = self.looked?;
+                if !is_past(self.heard, FRESH_SECONDS, looked) {
                     return None;
                 }
                 let second = Duration::from_secs(FRESH_SECONDS);
-                self.heard = self.heard.checked_add(second).unwrap_or(self.looked);
+                self.heard = self.heard.checked_add(second).unwrap_or(looked);
                 Some(Converter::Line(Reading::Lost))
             }
         }
@@ -170,12 +212,17 @@ impl<S: Read + OpenStream + Drop> ConverterLink<S> {
     /// Waits for what comes, for so long and a look at most.
     fn wait(&mut self, clock: &impl Clock, patience: Duration) {
         let look = Duration::from_millis(LOOK_MILLIS).min(patience);
-        let silent = self.looked.duration_since(self.heard);
+        let silent = match self.looked {
+            Some(looked) => looked.duration_since(self.heard),
+            None => Duration::ZERO,
+        };
         let left = Duration::from_secs(FRESH_SECONDS).saturating_sub(silent);
-        let ready = self
+        self.found = self
             .source
             .read_within(clock, left.min(look), &mut self.lines.room);
-        self.take_in(ready);
+        if let Ready::Bytes(count) = self.found {
+            self.lines.fill(count);
+        }
     }
 
     /// Whether a reading of that time holds still. None does once the clock can't be read.

@@ -50,6 +50,13 @@ impl Lines {
         self.count >= ENDLESS_LINE
     }
 
+    /// Makes the line that has begun a lost reading, whatever comes of it still.
+    pub fn spoil(&mut self) {
+        if self.count > 0 {
+            self.count = self.count.max(LINE_AND_CR.saturating_add(1));
+        }
+    }
+
     /// Whether a line waits whose end came. If none does, all bytes are used.
     pub fn has_line(&mut self) -> bool {
         for _ in 0..CONVERTER_ROOM {

@@ -1,4 +1,6 @@
 //! What a converter's bytes are read from.
+ghost use Rattle.std.specs.Prelude.{◌≡◌};
+ghost use Rattle.wb_connections.specs.Known.{is_live};
 ghost use Rattle.wb_connections.specs.Ready.{FitsRoom};
 
 use crate::address::loopback;
@@ -44,8 +46,10 @@ impl<S: Read + OpenStream + Drop> Source<S> {
         }
     }
 
-    /// Whether bytes come in their own time.
-    pub(crate) fn is_live(&self) -> bool {
+    /// Returns whether bytes come in their own time.
+    pub(crate) fn is_live(&self) -> bool
+        ensures { result ≡ is_live self.now }
+    {
         match self {
             Source::Stream(_) | Source::Device(_) => true,
             Source::Plain(_) => false,

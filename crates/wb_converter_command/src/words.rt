@@ -11,7 +11,7 @@ use wb_calibration::Filter;
 pub const REFUSED: u8 = 2;
 
 /// The version of the program.
-const VERSION: &str = "2.1.0";
+const VERSION: &str = "2.1.1";
 
 const RUN_EXAMPLE: &str = "Example:
   modbus --tcp 192.168.1.10 .. | weighbridge-converter run --calibration calibration --listen 127.0.0.1:4000

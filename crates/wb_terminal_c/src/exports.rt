@@ -24,12 +24,12 @@ use crate::setup::Setup;
 const NO_TERMINAL: u32 = 10;
 
 /// The version of what C calls: 10,000 for the first place, 100 for the second, 1 for the third.
-const VERSION: u32 = 20_100;
+const VERSION: u32 = 20_101;
 
 /// The version.
 #[unsafe(no_mangle)]
 pub extern "C" fn weighbridge_terminal_version() -> u32
-    ensures { result ≡ 20100 }
+    ensures { result ≡ 20101 }
 {
     VERSION
 }

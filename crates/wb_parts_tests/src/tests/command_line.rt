@@ -150,9 +150,9 @@ static MIGRATIONS: [Row; 2] = [
 static VERSIONS: [Row; 2] = [
     Row(
         "weighbridge --version",
-        "words, status 0: weighbridge 2.1.0\n",
+        "words, status 0: weighbridge 2.1.1\n",
     ),
-    Row("weighbridge -V", "words, status 0: weighbridge 2.1.0\n"),
+    Row("weighbridge -V", "words, status 0: weighbridge 2.1.1\n"),
 ];
 
 /// Words, and what their refusal holds.

@@ -137,7 +137,7 @@ static REFUSED: [Refused; 17] = [
     Refused(
         "weighbridge-converter --version",
         "0: ",
-        "weighbridge-converter 2.1.0",
+        "weighbridge-converter 2.1.1",
     ),
 ];
 

@@ -88,11 +88,12 @@ fn connected(rt: &HostRuntime) -> Result<(Sockets<'_, HostRuntime, TcpListener>,
     Ok((sockets, ends))
 }
 
-/// A converter that is played over a connection.
+/// A converter that is played over a connection. It is polled before it sends anything, since what it sent before would be dropped.
 fn played(rt: &HostRuntime) -> Result<(ConverterLink<TcpStream>, TcpStream), Fail> {
     let player = TcpListener::bind(rt, "127.0.0.1:0")?;
     let text = format!(in rt.alloc(); "tcp:{}", player.local_addr()?)?;
-    let source = ConverterLink::open(rt, text.as_str())?;
+    let mut source = ConverterLink::open(rt, text.as_str())?;
+    source.is_current(rt);
     let (stream, _) = player.accept()?;
     Ok((source, stream))
 }

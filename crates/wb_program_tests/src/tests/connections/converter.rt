@@ -81,6 +81,14 @@ static BROKEN: [Step; 5] = [
     Hears(Converter::Fault, 0),
 ];
 
+/// What waits when the service starts is of no known age: its lines are dropped, until a poll finds nothing. A line of which a part came before is lost.
+static STARTS_OVER_OLD_LINES: [Step; 4] = [
+    IsCurrent(false),
+    Hears(Converter::Line(Lost), 50),
+    Hears(Converter::Line(Load(9)), 100),
+    IsCurrent(true),
+];
+
 /// A converter on a connection, and its clock.
 #[derive(Drop)]
 struct Desk<'a> {
@@ -90,6 +98,12 @@ struct Desk<'a> {
 }
 
 impl Desk<'_> {
+    /// Polls a converter that has sent nothing yet.
+    fn begin(&mut self) {
+        self.wire.fail(ErrorKind::WouldBlock);
+        self.is_current();
+    }
+
     /// Takes a step. False if anything else is heard than must be.
     fn plays(&mut self, step: &Step) -> bool {
         match step {
@@ -125,9 +139,10 @@ fn next<S: Read + OpenStream + Drop>(
     converter.next_within(clock, Duration::from_secs(PATIENCE))
 }
 
-/// Takes steps at a converter that sends these pieces at these milliseconds.
+/// Takes steps at a converter that sends these pieces at these milliseconds. `is_old` says that the first pieces were sent before the service started.
 fn play(
     rt: &(impl AllocGlobal + Abort),
+    is_old: bool,
     times: &'static [u64],
     script: &'static [u8],
     steps: &[Step],
@@ -139,6 +154,9 @@ fn play(
         wire: &wire,
         converter: ConverterLink::over(Source::Stream(Plug(&wire)), Instant::now(&bench)?),
     };
+    if !is_old {
+        desk.begin();
+    }
     take_steps(rt, &mut desk, steps);
     Ok(())
 }
@@ -153,6 +171,7 @@ fn take_steps(rt: &impl Abort, desk: &mut Desk<'_>, steps: &[Step]) {
 fn hands_in_a_lost_reading_for_each_silent_second(rt: HostRuntime) -> Result<(), Fail> {
     play(
         &rt,
+        false,
         &[0, 200, 1_100, 2_400, 3_340, 4_200],
         b"9170\n9171\n|91|7|2\n|0\n|1",
         &SILENT,
@@ -163,6 +182,7 @@ fn hands_in_a_lost_reading_for_each_silent_second(rt: HostRuntime) -> Result<(),
 fn drops_lines_that_came_more_than_a_second_before(rt: HostRuntime) -> Result<(), Fail> {
     play(
         &rt,
+        false,
         &[100, 980, 2_000, 4_450, 4_600],
         b"1\n|2\n|3\n|4\n|5\n",
         &READ_LATE,
@@ -170,8 +190,19 @@ fn drops_lines_that_came_more_than_a_second_before(rt: HostRuntime) -> Result<()
 }
 
 #[test]
+fn drops_lines_until_a_poll_found_nothing(rt: HostRuntime) -> Result<(), Fail> {
+    play(
+        &rt,
+        true,
+        &[0, 0, 50, 100],
+        b"1\n2\n|3\n7|8\n|9\n",
+        &STARTS_OVER_OLD_LINES,
+    )
+}
+
+#[test]
 fn tells_an_interrupted_read_from_a_broken_connection(rt: HostRuntime) -> Result<(), Fail> {
-    play(&rt, &[0, 100], b"1\n|2\n", &BROKEN)
+    play(&rt, false, &[0, 100], b"1\n|2\n", &BROKEN)
 }
 
 #[test]

@@ -70,6 +70,36 @@ fn reads_lines_that_are_cut_over_reads(rt: HostRuntime) {
     }
 }
 
+/// What comes before a line is spoiled, what comes after it, and the readings.
+static SPOILED: [(&str, &str, &[Reading]); 5] = [
+    ("", "9170\n", &[Load(9_170)]),
+    ("91", "70\n", &[Lost]),
+    ("-", "5\n6\n", &[Lost, Load(6)]),
+    ("9170\r", "\n1\n", &[Lost, Load(1)]),
+    ("0000000000000000000000", "\n2\n", &[Lost, Load(2)]),
+];
+
+/// Whether a line that is spoiled after its first piece gives just these readings.
+fn gives_spoiled(before: &str, after: &str, readings: &[Reading]) -> bool {
+    let mut lines = Lines::new();
+    fill(&mut lines, before.as_bytes());
+    let none = lines.next_reading();
+    lines.spoil();
+    fill(&mut lines, after.as_bytes());
+    let mut is_right = none.is_none();
+    for reading in readings {
+        is_right = is_right && lines.next_reading() == Some(*reading);
+    }
+    is_right && lines.next_reading().is_none()
+}
+
+#[test]
+fn makes_a_spoiled_line_a_lost_reading(rt: HostRuntime) {
+    for (before, after, readings) in &SPOILED {
+        assert!(rt; gives_spoiled(before, after, readings), "{before:?}");
+    }
+}
+
 /// Full rooms, of which one more would have no end.
 const ROOMS: usize = ENDLESS_LINE / CONVERTER_ROOM - 1;
 

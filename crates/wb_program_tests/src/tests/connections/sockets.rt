@@ -3,6 +3,7 @@ use self::Step::{Finish, Loses, Moment, Passes, Reply, Stopped, Told, Turn};
 use super::clients::Client::{Ends, Got, IsClosed, IsReadFor, Sends, Takes, TakesAtOnce};
 use super::clients::{Client, plays};
 use super::memory::{Bench, Door, Plug, Wire};
+use std::io::ErrorKind;
 use std::process::Abort;
 use std::test::Fail;
 use std::time::Instant;
@@ -223,7 +224,7 @@ impl<'a> Desk<'a> {
         wires: &'a [Wire<'a>],
         course: &Course,
     ) -> Result<Self, Fail> {
-        let converter = ConverterLink::over(Source::Stream(Plug(converter)), Instant::now(bench)?);
+        let converter = begun(bench, converter)?;
         let office = Door::new(wires.get(..course.clients).unwrap_or(wires));
         let terminal = Door::new(wires.get(course.clients..).unwrap_or(&[]));
         Ok(Desk {
@@ -290,6 +291,14 @@ impl<'a> Desk<'a> {
         self.bench.pass(millis);
         said == Converter::Line(reading) && self.ask() == (0, false)
     }
+}
+
+/// A converter that was polled before it sent anything.
+fn begun<'a>(bench: &'a Bench, wire: &'a Wire<'a>) -> Result<ConverterLink<Plug<'a>>, Fail> {
+    let mut converter = ConverterLink::over(Source::Stream(Plug(wire)), Instant::now(bench)?);
+    wire.fail(ErrorKind::WouldBlock);
+    converter.is_current(bench);
+    Ok(converter)
 }
 
 /// Takes the steps of a course.
