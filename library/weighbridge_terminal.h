@@ -29,7 +29,7 @@
 #endif
 
 /** The version of this header: 10,000 for the first place, 100 for the second, 1 for the third. The first changes if a program has to. */
-#define WEIGHBRIDGE_TERMINAL_VERSION 20100
+#define WEIGHBRIDGE_TERMINAL_VERSION 20101
 
 /** The bytes that a terminal takes, as weighbridge_terminal_size() has them. */
 #define WEIGHBRIDGE_TERMINAL_SIZE 1080

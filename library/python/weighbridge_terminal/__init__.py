@@ -24,7 +24,7 @@ import os
 from typing import Any, NamedTuple, Optional, Union
 
 __all__ = ["Indication", "Part", "Setup", "SetupError", "State", "Terminal", "VERSION", "__version__"]
-__version__ = "2.1.0"
+__version__ = "2.1.1"
 
 # The library's file, which changes its number only if this module has to change with it.
 FILE = "libweighbridge-terminal.so.2"
