@@ -121,6 +121,9 @@ class Service:
         )
         converter.begin()
         self.wait_for_office()
+        if isinstance(converter, Fed):
+            # the service answers once it has polled its converter for a second: what is sent from now on is new
+            get(self, "/indication")
 
     def wait_for_office(self):
         until = time.monotonic() + 10
