@@ -1,6 +1,24 @@
 -- The functions, triggers, views and rights of the head office. `upgrade` runs this file each time, behind the numbered files of schema/, which hold
 -- the tables. A function with other parameters, or a view that loses a column, is dropped in a numbered file first.
 
+-- `take_in` runs as the role head_office_storer, in which nobody logs in and which has no member: by that a load is told from any other statement, whoever makes
+-- it and in whatever language the server speaks. While this file runs, the function is the schema owner's, and whoever upgrades is a member.
+do $$
+begin
+    if not exists (select from pg_roles where rolname = 'head_office_storer') then
+        create role head_office_storer nologin;
+    end if;
+    if not exists (select from pg_auth_members where roleid = 'head_office'::regrole and member = 'head_office_storer'::regrole) then
+        grant head_office to head_office_storer;
+    end if;
+    if not pg_has_role('head_office_storer', 'member') then
+        execute format('grant head_office_storer to %I', session_user);
+    end if;
+    if to_regprocedure('head_office.take_in(text, boolean, timestamptz)') is not null then
+        alter function head_office.take_in(text, boolean, timestamptz) owner to head_office;
+    end if;
+end $$;
+
 set local role head_office;
 set local search_path = head_office;
 
@@ -196,13 +214,10 @@ end $$;
 
 create or replace function never_changed() returns trigger language plpgsql as
 $$ begin raise exception '% is never changed', tg_table_name; end $$;
--- A load alone stores entries, also late ones of a year that is over: nobody else does by a statement, the owner neither.
+-- Only a load stores entries, also late ones of a year that is over. No other statement does, not even the schema owner's or a superuser's.
 create or replace function stored_by_a_load() returns trigger language plpgsql as $$
-declare
-    within text;
 begin
-    get diagnostics within = pg_context;
-    if within !~ 'function (head_office[.])?insert_new[(]' then
+    if current_user <> 'head_office_storer' then
         raise exception '% is stored by a load alone', tg_table_name;
     end if;
     return null;
@@ -1134,3 +1149,14 @@ grant execute on function digest_of(bigint, text, text, text, timestamp, integer
     line_of(bigint, text, text, text, timestamp, integer, integer, integer, integer, text, text, text), kept_digest_of(integer, integer), is_of_age(timestamptz, integer),
     html(text), short(text), thousands(bigint)
     to head_office_registrar, head_office_reader;
+
+-- From here on only a superuser can take the role that stores.
+set local role none;
+alter function head_office.take_in(text, boolean, timestamptz) owner to head_office_storer;
+do $$
+begin
+    if exists (select from pg_auth_members where roleid = 'head_office_storer'::regrole and member = session_user::regrole) then
+        execute format('revoke head_office_storer from %I', session_user);
+    end if;
+end $$;
+set local role head_office;

@@ -2,10 +2,15 @@
 
 Run by root the server gets the user postgres, else it runs as whoever calls. The default collation isn't C, so that a column which was left
 without one shows. It needs PostgreSQL 15 and python3 alone.
+
+HEAD_OFFICE_LOCALE names a locale in which server and clients speak, as de_DE.UTF-8. What they say is turned back into English for the cases, by PostgreSQL's own
+catalogue of messages.
 """
 
+import gettext
 import glob
 import os
+import re
 import shutil
 import subprocess
 import tempfile
@@ -19,6 +24,42 @@ def folder_of_programs():
 
 
 BIN = folder_of_programs()
+LOCALE = os.environ.get("HEAD_OFFICE_LOCALE", "")
+# Parts of the server's messages that the cases look for.
+MESSAGES = ("permission denied for ", "must be owner of ", "must be superuser", "duplicate key value", "violates ", "invalid input syntax for type", "extra data after")
+MESSAGES += ("missing data for column", "infinit", "out of range", "already exists", "does not exist", "cannot be", "could not", "canceling statement", "cannot ", "too long")
+
+
+def in_english():
+    """The server's messages in another language, as patterns with what they are in English."""
+    if not LOCALE:
+        return []
+    with open(f"/usr/share/locale/{LOCALE[:2]}/LC_MESSAGES/postgres-15.mo", "rb") as it:
+        catalogue = gettext.GNUTranslations(it)._catalog
+    found = []
+    for english, other in catalogue.items():
+        if isinstance(english, str) and english != other and any(part in english for part in MESSAGES) and len(other) > 12:
+            pieces = re.split(r"(%(?:\d+\$)?[-\d.]*l*[sduxXc])", other)
+            if sum(piece.startswith("%") for piece in pieces) != len(re.findall(r"%[-\d.]*l*[sduxXc]", english)) or re.search(r"%\d+\$", other):
+                continue
+            pattern = "".join("(.*?)" if piece.startswith("%") else re.escape(piece) for piece in pieces)
+            found.append((re.compile(pattern + r"(?=\n|$)" if pieces[-1] == "" else pattern), re.sub(r"%[-\d.]*l*[sduxXc]", "\0", english)))
+    return sorted(found, key=lambda it: -len(it[1]))
+
+
+IN_ENGLISH = in_english()
+
+
+def english(said):
+    """What was said, with the messages that the cases look for in English."""
+    lines = said.split("\n")
+    for at, line in enumerate(lines):
+        for pattern, message in IN_ENGLISH:
+            if it := pattern.search(line):
+                values = iter(it.groups())
+                lines[at] = line[: it.start()] + re.sub("\0", lambda _: next(values), message) + line[it.end() :]
+                break
+    return "\n".join(lines)
 
 
 def as_server(words, **options):
@@ -38,7 +79,8 @@ class Cluster:
         if make:
             words = [f"{BIN}/initdb", "-D", self.data, "-U", OWNER, "-A", "trust", "-E", "UTF8", "--locale=C.UTF-8"]
             as_server([*words, "--locale-provider=icu", "--icu-locale=en-US"])
-        self.set(["listen_addresses = ''", f"unix_socket_directories = '{self.folder}'", *settings])
+        language = [f"lc_messages = '{LOCALE}'"] if LOCALE else []
+        self.set(["listen_addresses = ''", f"unix_socket_directories = '{self.folder}'", *language, *settings])
 
     def set(self, lines):
         with open(os.path.join(self.data, "postgresql.conf"), "a") as it:
@@ -52,13 +94,14 @@ class Cluster:
         as_server([f"{BIN}/pg_ctl", "-D", self.data, "-m", how, "-w", "stop"], cwd=self.folder)
 
     def environment(self, user=OWNER, database="head_office"):
-        return {**os.environ, "PGHOST": self.folder, "PGPORT": str(self.port), "PGDATABASE": database, "PGUSER": user, "PGOPTIONS": ""}
+        language = {"LC_ALL": LOCALE} if LOCALE else {}
+        return {**os.environ, **language, "PGHOST": self.folder, "PGPORT": str(self.port), "PGDATABASE": database, "PGUSER": user, "PGOPTIONS": ""}
 
     def run(self, words, user=OWNER, database="head_office", given=None, **more):
         """The status of a program that connects to it, and all that it printed."""
         environment = {**self.environment(user, database), **more}
         it = subprocess.run(words, input=given, capture_output=True, env=environment, timeout=300)
-        return it.returncode, (it.stdout + it.stderr).decode(errors="replace")
+        return it.returncode, english((it.stdout + it.stderr).decode(errors="replace"))
 
     def ask(self, *statements, user=OWNER, database="head_office"):
         """The status of statements, and their rows or refusals."""
