@@ -1,8 +1,8 @@
 -- The functions, triggers, views and rights of the head office. `upgrade` runs this file each time, behind the numbered files of schema/, which hold
 -- the tables. A function with other parameters, or a view that loses a column, is dropped in a numbered file first.
 
--- `take_in` runs as the role head_office_storer, in which nobody logs in and which has no member: by that a load is told from any other statement, whoever makes
--- it and in whatever language the server speaks. While this file runs, the function is the schema owner's, and whoever upgrades is a member.
+-- `take_in` runs as the role head_office_storer, which has no login and no members. The trigger stored_by_a_load recognizes a load by that role, so it needs none
+-- of the server's messages. While this file runs, the schema's owner owns the function, and the login that upgrades is a member of the role.
 do $$
 begin
     if not exists (select from pg_roles where rolname = 'head_office_storer') then

@@ -3,8 +3,8 @@
 Run by root the server gets the user postgres, else it runs as whoever calls. The default collation isn't C, so that a column which was left
 without one shows. It needs PostgreSQL 15 and python3 alone.
 
-HEAD_OFFICE_LOCALE names a locale in which server and clients speak, as de_DE.UTF-8. What they say is turned back into English for the cases, by PostgreSQL's own
-catalogue of messages.
+HEAD_OFFICE_LOCALE names a locale for server and clients, such as de_DE.UTF-8. Their messages are turned back into English for the cases, by PostgreSQL's own
+catalogue.
 """
 
 import gettext
@@ -31,7 +31,7 @@ MESSAGES += ("missing data for column", "infinit", "out of range", "already exis
 
 
 def in_english():
-    """The server's messages in another language, as patterns with what they are in English."""
+    """Return patterns of the server's messages in another language, each with its English text."""
     if not LOCALE:
         return []
     with open(f"/usr/share/locale/{LOCALE[:2]}/LC_MESSAGES/postgres-15.mo", "rb") as it:
@@ -51,7 +51,7 @@ IN_ENGLISH = in_english()
 
 
 def english(said):
-    """What was said, with the messages that the cases look for in English."""
+    """Return a text in which the messages that the cases look for are English again."""
     lines = said.split("\n")
     for at, line in enumerate(lines):
         for pattern, message in IN_ENGLISH:
