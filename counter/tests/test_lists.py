@@ -73,6 +73,20 @@ class TheLists(unittest.TestCase):
         lists.passed(slip(5, "VOID", "EF-56", ""))
         self.assertEqual([], lists.on_site())
 
+    def test_plates_weighed_before_are_told_if_they_are_near_one_on_site(self):
+        rows = [row(1, "single", "RA-KM-1237", 18340, 5000), row(2, "first", "RA-KM-1236", 18340), row(3, "single", "HB-X-1", 18340, 5000)]
+        lists = Lists.of_export(BERLIN, export(*rows))
+        self.assertEqual(["RAKM1237"], lists.near.shown())
+        lists.passed(slip(4, "SINGLE", "RA-KM-1226"))
+        self.assertEqual(["RAKM1226", "RAKM1237"], lists.near.shown())
+        lists.passed(slip(5, "VOID", "RA-KM-1236", ""))
+        self.assertEqual([], lists.near.shown())
+
+    def test_before_an_export_was_read_no_plate_counts_as_weighed(self):
+        lists = Lists(BERLIN)
+        lists.passed(slip(4, "FIRST", "RA-KM-1236"))
+        self.assertEqual([], lists.near.shown())
+
     def test_a_number_between_is_missed(self):
         lists = Lists.of_export(BERLIN, export(ROW))
         lists.passed(slip(3, "FIRST", "EF-56"))

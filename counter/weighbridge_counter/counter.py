@@ -9,6 +9,7 @@ from typing import Any
 from .acts import Acts
 from .books import Books
 from .files import Files
+from .off_zero import MIN_INTERVALS, OffZero
 from .office import NoAnswer, Office
 from .pages import FASTEST, SLOWEST, Pages
 from .papers import Printing, papers_of
@@ -20,7 +21,6 @@ from .terminal import Terminal
 from .values import Value
 from .zero import Zero
 
-MIN_INTERVALS = 20  # below so many intervals e the bridge is empty
 STATE_EVERY = 0.25  # seconds
 WITHOUT_VALUE = 1.5  # seconds between two looks whether another one has the terminal
 ANSWERS_WITHIN = 1.2  # seconds
@@ -40,6 +40,7 @@ class Counter:
         self.pages = Pages()
         self.tares = Tares(self.files, lambda: self.now().date(), setup.tare_days, setup.max)
         self.zero = Zero(self.files, self.now)
+        self.off_zero = OffZero(setup.interval)
         self.service: Service | None = None
         self.answers_at_office = False  # while it gives the counter no value
         self.has_looked = False  # for the service, in this run
@@ -56,7 +57,7 @@ class Counter:
         self.terminal.on_up = self._terminal_is_up
         self.terminal.on_change = self.tell_state
         self.terminal.listeners.add(self._take_value)
-        self.terminal.fanout.on_zero = lambda: self.zero.was_set("")
+        self.terminal.fanout.on_zero = self._zero_answered
         self.acts.on_text += [self.printing.passed, self.books.passed]
         self.printing.on_change = self._tell_papers
         self.acts.on_answer = self.books.answered
@@ -89,6 +90,10 @@ class Counter:
     def _take_value(self, value: Value) -> None:
         if self._is_light():
             self.bridge = "empty"
+        before = self.off_zero.shown()
+        self.off_zero.saw(value.at, value.state, self.gross())
+        if self.off_zero.shown() != before:
+            self.tell_state()  # before the weight: so no page has a vehicle's weight without what the bridge showed before it
         looks = (value.state, value.kg, self.terminal.fanout.tare)
         since = value.at - self.told_weight_at
         if (looks != self.told_weight and since >= FASTEST) or since >= SLOWEST:
@@ -107,6 +112,7 @@ class Counter:
         was_known = self.zero.service is not None
         if self.zero.connected(service, was_refused) and was_known:
             self.bridge = "empty" if self._is_light() else "restarted"
+            self.off_zero.forget()
             self.books.wants_export = self.books.wants_export or self.has_looked
         self.has_looked = True
         program = await loop.run_in_executor(None, program_of, service) if service is not None else {}
@@ -119,12 +125,18 @@ class Counter:
         self.tasks.add(task)
         task.add_done_callback(self.tasks.discard)
 
+    def _zero_answered(self, reply: str) -> None:
+        self.off_zero.answered(reply)
+        if reply == "Z A":
+            self.zero.was_set("")
+
     # ---- what comes from the office
 
     def _take_entry(self, entry: Entry) -> None:
         if entry.kind != "void":
             self.bridge = "weighed"
-        self.pages.tell("entry", {"entry": self.books.lists.shown(entry.number), "on_site": self.books.lists.on_site()})
+        lists = self.books.lists
+        self.pages.tell("entry", {"entry": lists.shown(entry.number), "on_site": lists.on_site(), "weighed_near": lists.near.shown()})
 
     # ---- commands of pages
 
@@ -161,6 +173,7 @@ class Counter:
             "tare": self.terminal.fanout.tare,
             "bridge": self.bridge,
             "zero": self.zero.shown(),
+            "off_zero": self.off_zero.shown(),
             "serial": self.terminal.serial,
             "office": self.books.state,
             "lists_whole": self.books.is_whole(),
@@ -169,7 +182,13 @@ class Counter:
         }
 
     def lists(self) -> dict[str, Any]:
-        return {"on_site": self.books.lists.on_site(), "today": self.books.lists.today(self.now()), "tares": self.tares.shown()}
+        lists = self.books.lists
+        return {
+            "on_site": lists.on_site(),
+            "today": lists.today(self.now()),
+            "tares": self.tares.shown(),
+            "weighed_near": lists.near.shown(),
+        }
 
     def hello(self) -> dict[str, Any]:
         setup = self.setup

@@ -84,7 +84,7 @@ class Fanout:
         self.counts: Counter[str] = Counter()
         self.on_value: Callable[[Value], None] = lambda value: None
         self.on_first_value: Callable[[], None] = lambda: None
-        self.on_zero: Callable[[], None] = lambda: None
+        self.on_zero: Callable[[str], None] = lambda reply: None  # what `Z` was answered, whoever asked
         self.link = "down"  # down; waits: connected, no value yet; up
         self.value: Value | None = None
         self.period = 0.1
@@ -254,8 +254,8 @@ class Fanout:
             self.tare = int(found[1])
         elif reply in ("TAC A", "Z A"):
             self.tare = 0
-        if reply == "Z A":
-            self.on_zero()
+        if reply in ("Z A", "Z +", "Z -"):
+            self.on_zero(reply)
 
     def _try_to_send(self) -> None:
         question, now = self.question, self.clock()

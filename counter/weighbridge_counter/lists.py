@@ -4,6 +4,7 @@ import datetime
 import zoneinfo
 from typing import Any
 
+from .near import Near
 from .slips import HEADER, Entry, NoText, entry_of_row, entry_of_text, slip_of_row
 
 MOST_TEXTS = 2000  # that are kept as they passed
@@ -20,6 +21,7 @@ class Lists:
         self.open: dict[str, int] = {}  # the number of the open First of a plate
         self.partner: dict[int, int] = {}
         self.by_plate: dict[str, list[int]] = {}
+        self.near = Near()
         self.last = 0
         self.is_whole = False  # whether nothing is known to be missing
 
@@ -38,6 +40,7 @@ class Lists:
                 made.rows[entry.number] = row
                 made._take(entry)
         made.is_whole = True
+        made.near.shown()  # in this thread, where it holds up nothing
         return made
 
     def with_passed(self, older: "Lists") -> "Lists":
@@ -68,6 +71,7 @@ class Lists:
         self.entries[entry.number] = entry
         self.last = max(self.last, entry.number)
         self.by_plate.setdefault(entry.plate, []).append(entry.number)
+        self.near.takes(entry.kind, entry.plate)
         if entry.kind == "first":
             self.open[entry.plate] = entry.number
         elif entry.kind in ("second", "void"):
