@@ -91,6 +91,40 @@ class Browser:
         actions = [action for it in text for action in ({"type": "keyDown", "value": it}, {"type": "keyUp", "value": it})]
         self.call("POST", "/actions", {"actions": [{"type": "key", "id": "keyboard", "actions": actions}]})
 
+    def key_event(self, name, is_down=True, is_repeat=False):
+        """One event of a key, as the system sends it: `Enter`, `Escape` or `F1` to `F12`. A key that is held comes down again and again, with `is_repeat`."""
+        codes = {"Enter": 13, "Escape": 27} | {f"F{it}": 111 + it for it in range(1, 13)}
+        text = {"text": "\r"} if name == "Enter" and is_down else {}
+        kind = "keyUp" if not is_down else "keyDown" if text else "rawKeyDown"
+        self.tool("Input.dispatchKeyEvent", type=kind, code=name, key=name, windowsVirtualKeyCode=codes[name], autoRepeat=is_repeat, **text)
+
+    def hold(self, name, seconds, every=0.033):
+        """Holds a key down for so long, as a keyboard repeats it after half a second."""
+        until = time.monotonic() + seconds
+        self.key_event(name)
+        time.sleep(min(0.5, seconds / 3))
+        while time.monotonic() < until:
+            self.key_event(name, is_repeat=True)
+            time.sleep(every)
+        self.key_event(name, is_down=False)
+
+    def hammer(self, name, times, seconds):
+        """Presses a key so often within so long."""
+        began = time.monotonic()
+        for it in range(times):
+            time.sleep(max(0, began + it * seconds / times - time.monotonic()))
+            self.key_event(name)
+            self.key_event(name, is_down=False)
+
+    def click_at(self, x, y, count=1):
+        """A click of the mouse at a point of the window, or so many at once: a double click is two."""
+        for it in range(1, count + 1):
+            for kind in ("mousePressed", "mouseReleased"):
+                self.tool("Input.dispatchMouseEvent", type=kind, x=x, y=y, button="left", clickCount=it)
+
+    def middle_of(self, selector):
+        return self.run("const it = document.querySelector(arguments[0]).getBoundingClientRect(); return [it.x + it.width / 2, it.y + it.height / 2]", selector)
+
     def picture(self):
         return base64.b64decode(self.call("GET", "/screenshot"))
 

@@ -8,7 +8,7 @@ from bridge import HOST, free_port
 from browser import Browser
 from countering import becomes
 
-ENTER, ESCAPE, TAB, SPACE, F4, F8, F9 = "\ue007", "\ue00c", "\ue004", " ", "\ue034", "\ue038", "\ue039"
+ENTER, ESCAPE, TAB, SPACE, F1, F4, F6, F7, F8, F9, F10 = "\ue007", "\ue00c", "\ue004", " ", *(chr(0xE030 + it) for it in (1, 4, 6, 7, 8, 9, 10))
 
 
 def at_of(port):
@@ -64,6 +64,14 @@ class Clerk:
 
     def sees(self, words, seconds=15, what=None):
         becomes(what or f"the clerk sees: {words}", lambda: words in self.words(), seconds)
+
+    def is_ready(self):
+        """Whether the weigh button can be pressed: the page says so of the plate that stands there."""
+        return self.browser.run("return !document.getElementById('go').disabled")
+
+    def answers(self):
+        """The answers to the page's question, with their keys."""
+        return self.browser.run("return [...document.querySelectorAll('#hint .answer')].map(it => it.textContent)")
 
     def kept(self):
         return self.browser.run("return localStorage.getItem('weighbridge.request')")

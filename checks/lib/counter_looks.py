@@ -76,7 +76,7 @@ def looks(bridge):
             clerk.keys(ESCAPE)
             clerk.browser.click("#plate")
             clerk.keys("NEW-1")
-            time.sleep(0.3)
+            time.sleep(1)
             clerk.browser.click("#others button:last-child")
             look("tare")
             clerk.keys(ESCAPE)

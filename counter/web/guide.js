@@ -1,4 +1,6 @@
-// The one place that decides what the clerk is told to do now: a look, a word, its values, and what may be pressed.
+// The one place that decides what the clerk is told to do now: a look, a word, its values, what may be pressed, and a question's answers with their keys.
+
+import { ANSWER_KEYS } from './hands.js';
 
 export const isPlate = plate => /^[A-Z0-9-]{1,12}$/.test(plate);
 
@@ -20,11 +22,14 @@ function isNear(one, other) {
   return isTurned || rests.includes(true);
 }
 
-// Vehicles on site of which the plate is a part, or one letter off: likelier one of them than a new one.
-export function alike(plate, onSite) {
+// Vehicles on site that the plate may mean, the likeliest first: it is theirs without hyphens; or one letter off, and was never weighed; or a part of theirs.
+// `weighedNear` has the plates that were weighed before, so that a fleet's running numbers get no question. What it lacks is asked for once too often.
+export function alike(plate, onSite, weighedNear) {
   if (!plate || onSite.some(it => it.plate === plate)) return [];
-  const typed = bare(plate);
-  return onSite.filter(it => (typed && bare(it.plate).includes(typed)) || isNear(bare(it.plate), typed)).slice(0, 4);
+  const typed = bare(plate), isNew = !weighedNear.includes(typed);
+  const kinds = [it => it === typed, it => isNew && isNear(it, typed), it => typed && it.includes(typed)];
+  const found = onSite.map(it => ({ it, kind: kinds.findIndex(isSo => isSo(bare(it.plate))) })).filter(({ kind }) => kind >= 0);
+  return found.sort((one, other) => one.kind - other.kind).map(({ it }) => it);
 }
 
 // What kind of weighing the plate means.
@@ -45,6 +50,30 @@ export function netOf(choice, gross) {
   return choice.tare ? gross - choice.tare : null;
 }
 
+// A question stands until it is answered for this plate and this vehicle. `subject` is what it asks of: of another one it is asked again.
+const isAnswered = (now, question, subject) => now.answered[question] === subject;
+const answerTo = (question, subject, key, word) => ({ key, word, question, subject });
+
+function isItOneOf(like) {
+  const shown = like.slice(0, ANSWER_KEYS.on_site.length).map((it, at) => ({ key: ANSWER_KEYS.on_site[at], plate: it.plate }));
+  const answers = [...shown, answerTo('is_it', subjectOf(like), ANSWER_KEYS.another, 'another_vehicle')];
+  if (like.length === 1) return { look: 'wait', word: 'is_it', values: { plate: like[0].plate }, answers };
+  return { look: 'wait', word: 'is_it_one', values: { number: like.length }, answers };
+}
+
+const subjectOf = like => like.map(it => it.plate).join(' ');
+
+// A Single has no second weighing: what the bridge showed before the vehicle stays in its net.
+function wasOffZero({ before }) {
+  const answers = [answerTo('off_zero', `${before}`, ANSWER_KEYS.off_zero, 'weigh_all_the_same')];
+  return before === null ? { look: 'wait', word: 'unknown_before', answers } : { look: 'wait', word: 'off_zero_before', values: { kg: before }, answers };
+}
+
+function isEmpty({ kg, is_refused: isRefused }) {
+  if (kg === null) return { look: 'calm', word: 'empty' };
+  return isRefused ? { look: 'bad', word: 'off_zero_refused', values: { kg } } : { look: 'wait', word: 'off_zero', values: { kg }, choices: ['set_zero'] };
+}
+
 // Who it is that is weighed, also if the page was loaded since.
 function driveOff(newest) {
   if (!newest) return { word: 'drive_off_any' };
@@ -61,16 +90,20 @@ export function step(now) {
   const gross = grossOf(weight), isLight = gross < now.min;
   if (result && !plate) return result;
   if (weight.tare && !state.busy) return { look: 'wait', word: 'foreign_tare', values: { tare: weight.tare }, choices: ['clear_tare'] };
-  if (isLight) return { look: 'calm', word: 'empty' };
+  if (isLight) return isEmpty(state.off_zero);
   if (state.bridge === 'weighed') return { look: 'wait', ...driveOff(now.newest) };
   if (state.bridge === 'restarted') return { look: 'wait', word: 'drive_off_restarted' };
   if (weight.state === 'D') return { look: 'wait', word: 'moving' };
   if (!plate) return { look: 'do', word: 'type_plate' };
   if (!isPlate(plate)) return { look: 'wait', word: 'no_plate' };
-  const like = alike(plate, now.onSite);
-  if (like.length) return { look: 'wait', word: 'is_it', values: { plate: like[0].plate }, isReady: true, isUnlikely: true };
+  const like = alike(plate, now.onSite, now.weighedNear);
+  if (like.length && !isAnswered(now, 'is_it', subjectOf(like))) return isItOneOf(like);
   const choice = choiceOf(now), net = netOf(choice, gross);
   if (choice.tare && net <= 0) return { look: 'wait', word: 'tare_too_great' };
-  if (net !== null && net < now.min) return { look: 'wait', word: 'small_net', values: { net }, isReady: true, isUnlikely: true };
+  if (choice.tare && state.off_zero.is_doubtful && !isAnswered(now, 'off_zero', `${state.off_zero.before}`)) return wasOffZero(state.off_zero);
+  if (net !== null && net < now.min && !isAnswered(now, 'small_net', choice.kind)) {
+    return { look: 'wait', word: 'small_net', values: { net }, answers: [answerTo('small_net', choice.kind, ANSWER_KEYS.small_net, 'right_vehicle')] };
+  }
+  if (now.isDeaf) return { look: 'wait', word: 'one_moment', values: { plate } };
   return { look: 'do', word: 'ready', isReady: true };
 }

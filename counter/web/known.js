@@ -1,6 +1,7 @@
 // What is known now: what the counter told, and what the clerk is at.
 
 import { Feed, OLDEST_WEIGHT } from './feed.js';
+import { Deafness } from './hands.js';
 import { part } from './parts.js';
 import { paperOf } from './papers.js';
 
@@ -8,8 +9,8 @@ export const MIN_INTERVALS = 20;     // below so many intervals the bridge is em
 const RESULT_BEFORE_FAULTS = 5000;   // milliseconds that a result is shown before a fault is
 
 export const feed = new Feed();
-export const known = { hello: { interval: 20, zone: 'UTC', tare_days: 90 }, state: null, onSite: [], today: [], tares: {}, papers: { printers: [], jobs: [], refused: null } };
-export const clerk = { oneTare: null, isFirstInstead: false, waiting: null, result: null, told: null, newest: null };
+export const known = { hello: { interval: 20, zone: 'UTC', tare_days: 90 }, state: null, onSite: [], weighedNear: [], today: [], tares: {}, papers: { printers: [], jobs: [], refused: null } };
+export const clerk = { oneTare: null, isFirstInstead: false, waiting: null, result: null, told: null, newest: null, answered: {}, answers: [], deafness: new Deafness() };
 
 export const GIVEN = ['goods', 'order', 'driver'];     // free lines for the paper, which the office doesn't get
 
@@ -30,9 +31,9 @@ function newestWeighing() {
 export function nowKnown() {
   const link = linkNow();
   return {
-    link, weight: link === 'up' ? feed.weight : null, state: known.state, papers: known.papers, given: GIVEN.map(givenOf).filter(Boolean).join(', '), plate: plate(), onSite: known.onSite, tares: known.tares,
+    link, weight: link === 'up' ? feed.weight : null, state: known.state, papers: known.papers, given: GIVEN.map(givenOf).filter(Boolean).join(', '), plate: plate(), onSite: known.onSite, weighedNear: known.weighedNear, tares: known.tares,
     min: MIN_INTERVALS * known.hello.interval, oneTare: clerk.oneTare, isFirstInstead: clerk.isFirstInstead,
-    waiting: clerk.waiting, result: clerk.result, told: clerk.told, newest: newestWeighing(),
+    waiting: clerk.waiting, result: clerk.result, told: clerk.told, newest: newestWeighing(), answered: clerk.answered, isDeaf: clerk.deafness.isDeaf(performance.now()),
     isResultNew: clerk.result !== null && performance.now() - clerk.result.madeAt < RESULT_BEFORE_FAULTS,
   };
 }

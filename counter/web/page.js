@@ -2,6 +2,7 @@
 
 import { OLDEST_WEIGHT } from './feed.js';
 import { choiceOf, plateOf } from './guide.js';
+import { DEAF_FOR, deedOf } from './hands.js';
 import { clerk, feed, GIVEN, givenOf, known, linkNow, nowKnown, plate } from './known.js';
 import { search, showLists } from './lists.js';
 import { keepTare, print, showJobs } from './papers.js';
@@ -19,7 +20,7 @@ const THEME = 'weighbridge.theme';
 feed.hear = (name, what) => {
   if (name === 'hello') takeHello(what);
   if (name === 'state') known.state = what;
-  if (name === 'lists') Object.assign(known, { onSite: what.on_site, today: what.today, tares: what.tares });
+  if (name === 'lists') Object.assign(known, { onSite: what.on_site, weighedNear: what.weighed_near, today: what.today, tares: what.tares });
   if (name === 'tares') known.tares = what;
   if (name === 'papers') takePapers(what);
   if (name === 'entry') takeEntry(what);
@@ -44,8 +45,8 @@ function takeHello(hello) {
   if (wish !== language) change(wish);
 }
 
-function takeEntry({ entry, on_site: onSite }) {
-  known.onSite = onSite;
+function takeEntry({ entry, on_site: onSite, weighed_near: weighedNear }) {
+  Object.assign(known, { onSite, weighedNear });
   clerk.newest = entry.number;
   if (!known.today.some(it => it.number === entry.number)) known.today.unshift(entry);
 }
@@ -111,13 +112,13 @@ function askTare() {
 function useTare() {
   clerk.oneTare = Number(part('tare-kg').value);
   if (part('tare-keep').checked) keepTare(plate(), clerk.oneTare);
-  show();
+  beDeaf();
 }
 
 function weighFirstInstead() {
   clerk.oneTare = null;
   clerk.isFirstInstead = true;
-  show();
+  beDeaf();
   focusPlate();
 }
 
@@ -125,7 +126,25 @@ function weighFirstInstead() {
 
 const isTouched = () => matchMedia('(pointer: coarse)').matches;
 const isAsking = () => document.querySelector('dialog[open]') !== null;
-const focusPlate = () => { if (!isAsking() && !isTouched()) part('plate').focus(); };
+
+// The caret too: a browser gives a closed dialog's focus back without it, and letters then go nowhere.
+function focusPlate() {
+  if (isAsking() || isTouched()) return;
+  const field = part('plate'), end = field.value.length;
+  field.focus();
+  field.setSelectionRange(end, end);
+}
+
+// What was taken over or answered has to be seen before it is weighed.
+function beDeaf() {
+  clerk.deafness.begin(performance.now());
+  showDeafness();
+}
+
+function showDeafness() {
+  show();
+  setTimeout(() => { if (clerk.deafness.isDeaf(performance.now())) showDeafness(); else show(); }, DEAF_FOR / 7);
+}
 
 // Free lines for the paper of this vehicle.
 function askGiven() {
@@ -148,6 +167,17 @@ function clearPlate() {
 function take(of) {
   part('plate').value = of;
   typed();
+  beDeaf();
+  focusPlate();
+}
+
+function answer(it) {
+  if (it.plate !== undefined) {
+    take(it.plate);
+    return;
+  }
+  clerk.answered = { ...clerk.answered, [it.question]: it.subject };
+  beDeaf();
   focusPlate();
 }
 
@@ -160,6 +190,7 @@ function typed() {
   }
   clerk.oneTare = null;
   clerk.isFirstInstead = false;
+  clerk.answered = {};
   if (text) clerk.result = clerk.told = null;
   else clearGiven();
   show();
@@ -167,7 +198,7 @@ function typed() {
 
 Object.assign(acts, {
   set_zero: setZero, clear_tare: clearTare, print: printResult, print_number: printNumber, show_papers: openPapers, keep_tare: keepTareOf, tare_from_papers: askTare, given_lines: askGiven, first_instead: weighFirstInstead,
-  withdraw: of => begin('/voids', { plate: of }), take, clear: clearPlate, focus: focusPlate,
+  withdraw: of => begin('/voids', { plate: of }), take, answer, clear: clearPlate, focus: focusPlate,
 });
 
 function press(event) {
@@ -179,21 +210,29 @@ function press(event) {
   begin('/weighings', { kind: choice.kind, plate: plate(), ...(choice.tare ? { tare: String(choice.tare) } : {}), ...given });
 }
 
-const KEYS = { F9: 'zero', F8: 'last', F4: 'find' };
+function placeOf(target) {
+  if (target === part('plate')) return 'plate';
+  return target.closest?.('.answer') ? 'answer' : ['INPUT', 'SELECT'].includes(target.tagName) ? 'field' : 'other';
+}
+
 function keyed(event) {
-  if (event.key in KEYS && !isAsking()) {
-    event.preventDefault();
-    part(KEYS[event.key]).click();
-  } else if (isAsking()) {
-    return;
-  } else if (event.key === 'Escape') {
-    clearPlate();
-  } else if (event.key === 'Enter' && event.target === part('plate') && part('hint').querySelector('button')) {
-    event.preventDefault();          // a vehicle on site is likelier: Enter goes to it, and weighs no new one in
-    part('hint').querySelector('button').focus();
-  } else if (event.key.length === 1 && event.key !== ' ' && !event.ctrlKey && !event.altKey && !event.metaKey && event.target.tagName !== 'INPUT' && event.target.tagName !== 'SELECT') {
-    part('plate').focus();
-  }
+  show();                            // what is asked now
+  const at = performance.now();
+  const deed = deedOf(event, placeOf(event.target), { answers: clerk.answers, isDialog: isAsking(), isDeaf: clerk.deafness.isDeaf(at) });
+  if (!['left', 'typed'].includes(deed.is)) event.preventDefault();
+  if (deed.is === 'answered') answer(deed.answer);
+  if (deed.is === 'clicked') part(deed.part).click();
+  if (deed.is === 'deaf') clerk.deafness.pressed(at);
+  if (deed.is === 'cleared') clearPlate();
+  if (deed.is === 'typed') part('plate').focus();
+}
+
+// The form has just changed under the hand: the second click of a double click, or of two, finds another button where the first one stood.
+function clicked(event) {
+  const isDeaf = clerk.deafness.isDeaf(performance.now()), isByHand = event.detail > 0;
+  if (!isDeaf || !isByHand || !(event.detail > 1 || part('weigh').contains(event.target))) return;
+  event.preventDefault();
+  event.stopImmediatePropagation();
 }
 
 async function change(to, isChosen = false) {
@@ -227,8 +266,9 @@ function listenToHands() {
   part('theme').addEventListener('click', turnTheme);
   part('serial').addEventListener('click', showRuns);
   for (const it of document.querySelectorAll('.close')) it.addEventListener('click', () => it.closest('dialog').close());
-  for (const it of document.querySelectorAll('dialog')) it.addEventListener('close', focusPlate);
-  document.addEventListener('keydown', keyed);
+  for (const it of document.querySelectorAll('dialog')) it.addEventListener('close', () => { beDeaf(); focusPlate(); });
+  document.addEventListener('keydown', keyed, { capture: true });
+  document.addEventListener('click', clicked, { capture: true });
 }
 
 function showMoments() {

@@ -1,6 +1,7 @@
 // What is shown: the weight, the one sentence, the form and the bars at the top, each only where it changed.
 
-import { alike, choiceOf, grossOf, isPlate, netOf, step } from './guide.js';
+import { choiceOf, grossOf, isPlate, netOf, step } from './guide.js';
+import { PAGE_KEYS } from './hands.js';
 import { clerk, known, nowKnown } from './known.js';
 import { button, make, onlyChanged, part } from './parts.js';
 import { dayOf, has, kg, language, number, t, whenOf } from './words.js';
@@ -15,8 +16,10 @@ export function show() {
   if (!has('plate')) return;
   const now = nowKnown();
   forgetResult(now);
-  now.result = clerk.result;
+  forgetAnswers(now);
+  Object.assign(now, { result: clerk.result, answered: clerk.answered });
   const told = step(now);
+  clerk.answers = told.answers ?? [];
   showScale(now);
   showGuide({ ...told, language });
   showForm(formOf(now, told));
@@ -30,6 +33,12 @@ function forgetResult(now) {
   if (!result || gross === null) return;
   if (gross < now.min) result.leftAt ??= performance.now();
   if (result.leftAt !== undefined && (gross >= now.min || performance.now() - result.leftAt > RESULT_AFTER_LEAVING)) clerk.result = null;
+}
+
+// An answer is of one vehicle: once the bridge is empty, the next one is asked for anew.
+function forgetAnswers(now) {
+  const gross = grossOf(now.weight);
+  if (gross !== null && gross < now.min) clerk.answered = {};
 }
 
 function showScale({ link, weight }) {
@@ -49,8 +58,17 @@ const showGuide = onlyChanged(told => {
   const values = inWords(told.values ?? {});
   part('words').textContent = t(told.word, values);
   part('more').textContent = told.more ?? (has(`${told.word}_more`) ? t(`${told.word}_more`, values) : '');
-  part('choices').replaceChildren(...(told.choices ?? []).map(it => button(t(it), acts[it], { className: 'choice' })));
+  part('choices').replaceChildren(...(told.choices ?? []).map(choiceButton));
 });
+
+function withKey(made, key) {
+  if (key) made.append(' ', make('kbd', { textContent: key }));
+  return made;
+}
+
+const KEY_OF = { set_zero: Object.keys(PAGE_KEYS).find(it => PAGE_KEYS[it] === 'zero') };
+const choiceButton = it => withKey(button(t(it), acts[it], { className: 'choice' }), KEY_OF[it]);
+const answerButton = it => withKey(button(it.plate ?? t(it.word), () => acts.answer(it), { className: 'answer' }), it.key);
 
 // Weights among values are written as such.
 function inWords(values) {
@@ -59,23 +77,25 @@ function inWords(values) {
 
 function formOf(now, told) {
   const choice = choiceOf(now), isReady = Boolean(told.isReady) && !clerk.waiting, net = netOf(choice, grossOf(now.weight));
-  const kept = now.tares[now.plate], like = now.plate ? alike(now.plate, now.onSite).map(it => it.plate) : [];
-  return { plate: now.plate, choice, isReady, isUnlikely: Boolean(told.isUnlikely), net: isReady && net > 0 ? net : null, kept, like, tareOf: clerk.result?.tare, given: now.given, language };
+  return { plate: now.plate, choice, isReady, net: isReady && net > 0 ? net : null, kept: now.tares[now.plate], answers: clerk.answers, tareOf: clerk.result?.tare, given: now.given, language };
 }
 
 const showForm = onlyChanged(form => {
   const { choice } = form;
   part('go').disabled = !form.isReady;
-  part('go').classList.toggle('unlikely', form.isUnlikely);
   part('go-words').textContent = form.plate ? `${t(`weigh_${choice.kind}`, { tare: choice.tare ? kg(choice.tare) : '' })} · ${form.plate}` : t('weigh');
   part('go-more').textContent = form.net === null ? '' : t('net_to_come', { kg: kg(form.net) });
   part('hint').replaceChildren(...hintsOf(form));
   part('others').replaceChildren(...othersOf(form));
 });
 
-function hintsOf({ plate, choice, kept, like }) {
+function hintsOf(form) {
+  const about = form.answers.some(it => it.plate) ? [make('b', { textContent: t('one_of_these') })] : form.answers.length ? [] : aboutPlate(form);
+  return [...about, ...form.answers.map(answerButton)];
+}
+
+function aboutPlate({ plate, choice, kept }) {
   if (choice.first) return [make('b', { textContent: t('on_site_since', { time: whenOf(choice.first.at), kg: kg(choice.first.gross) }) })];
-  if (like.length) return [make('b', { textContent: t('one_of_these') }), ...like.map(it => button(it, () => acts.take(it), { className: 'like' }))];
   if (kept) return [make('b', { textContent: t(kept.is_over ? 'tare_is_over' : kept.by ? 'tare_is_kept_by' : 'tare_is_kept', { kg: kg(kept.kg), day: dayOf(kept.until), by: kept.by }) })];
   return plate ? [make('span', { textContent: t('not_on_site') })] : [];
 }
@@ -112,7 +132,7 @@ function papersInTrouble({ jobs }) {
 }
 
 const showAlarms = onlyChanged(alarms => {
-  part('alarms').replaceChildren(...alarms.map(it => make('div', { className: it.look }, make('span', { textContent: it.text }), ...(it.choice ? [button(t(it.choice), acts[it.choice])] : []))));
+  part('alarms').replaceChildren(...alarms.map(it => make('div', { className: it.look }, make('span', { textContent: it.text }), ...(it.choice ? [choiceButton(it.choice)] : []))));
 });
 
 const showNote = onlyChanged(text => { part('note').textContent = text; });

@@ -1,0 +1,271 @@
+"""A clerk in a hurry at the counter's page, for checks/counter: who hammers or holds a key, clicks twice, or calls a bridge empty that isn't at zero.
+
+Nothing is stored but what was asked for by its own key, and never a ticket of another plate.
+"""
+
+import time
+
+from counter_clerk import ESCAPE, F1, F4, F6, F7, F9, F10, SPACE, TAB, Clerk, at_of
+from countering import Bridge, becomes, holds, same
+
+DEAF = 0.7  # seconds
+KNOWN, NEW, ON_SITE = "RA-KM-1238", "RA-KM-1237", "RA-KM-1236"
+
+
+def rows(bridge):
+    """What is stored: kind and plate of each entry."""
+    return [(it[2], it[3]) for it in bridge.entries()]
+
+
+def weighed_before(bridge):
+    """A fleet of running numbers: one vehicle was weighed in and out, one is on site, and one comes for the first time."""
+    bridge.next_vehicle(4000)
+    bridge.weigh("past-1", "single", KNOWN, 1000)
+    bridge.next_vehicle(9170)
+    bridge.weigh("past-2", "first", ON_SITE)
+
+
+def asks(clerk, typed, words, answers, what):
+    clerk.keys(ESCAPE + typed)
+    clerk.sees(words, what=what)
+    same(f"{what}: each answer has its key on its button", answers, clerk.answers())
+
+
+def nothing_comes_of(bridge, clerk, what, act, plate):
+    """Whatever was done, nothing more is stored, nothing is on its way, and the plate is still this one."""
+    before = rows(bridge)
+    act()
+    time.sleep(0.3)
+    same(f"{what}: nothing is stored", ([], None, plate), (rows(bridge)[len(before) :], clerk.kept(), clerk.plate()))
+
+
+def a_question_at_each_plate_that_may_be_another(bridge, clerk):
+    bridge.next_vehicle(4070)
+    one = [f"{ON_SITE} F1", "No, another vehicle F6"]
+    asks(clerk, NEW, f"{ON_SITE} is on site. Is it this one?", one, "one letter off, and never weighed: it asks")
+    asks(clerk, "RA-KM-1263", f"{ON_SITE} is on site.", one, "two letters that changed places, and never weighed: it asks")
+    asks(clerk, "1236", f"{ON_SITE} is on site.", one, "a part of a plate: it asks")
+    asks(clerk, "RAKM1236", f"{ON_SITE} is on site.", one, "equal without hyphens: it asks")
+    clerk.keys(ESCAPE + KNOWN)
+    clerk.sees("Ready.", what="a known plate of running numbers: it asks nothing")
+    same("a known plate of running numbers: no answers stand there", [], clerk.answers())
+    clerk.keys(ESCAPE + ON_SITE)
+    clerk.sees("Ready.", what="the plate on site itself: it asks nothing")
+
+
+def enter_answers_no_question(bridge, clerk):
+    clerk.keys(ESCAPE + NEW)
+    clerk.sees(f"{ON_SITE} is on site.")
+    nothing_comes_of(bridge, clerk, "Enter ten times in a second on a question", lambda: clerk.browser.hammer("Enter", 10, 1), NEW)
+    nothing_comes_of(bridge, clerk, "Enter held for 1.3 s on a question", lambda: clerk.browser.hold("Enter", 1.3), NEW)
+    same("the focus stays at the plate", "plate", clerk.focus())
+    for _ in range(6):
+        if ON_SITE in clerk.focus():
+            break
+        clerk.keys(TAB)
+    same("Tab goes to the first answer", f"{ON_SITE} F1", clerk.focus())
+    nothing_comes_of(bridge, clerk, "Enter ten times in a second on an answer", lambda: clerk.browser.hammer("Enter", 10, 1), NEW)
+    for key in (F7, F10):
+        nothing_comes_of(bridge, clerk, f"the key F{ord(key) - 0xE030} of another question", lambda key=key: clerk.keys(key), NEW)
+    clerk.keys(SPACE)
+    same("the space bar presses it", ON_SITE, clerk.plate())
+
+
+def deaf_after_an_answer(bridge, clerk):
+    clerk.keys(ESCAPE + NEW)
+    clerk.sees(f"{ON_SITE} is on site.")
+    clerk.keys(F1)
+    same("its key takes the plate on site", ON_SITE, clerk.plate())
+    nothing_comes_of(bridge, clerk, "Enter right behind an answer", lambda: clerk.browser.hammer("Enter", 1, 0), ON_SITE)
+    clerk.sees("Ready.")
+    clerk.keys(ESCAPE + NEW + F1)
+    nothing_comes_of(bridge, clerk, "Enter ten times in a second behind an answer", lambda: clerk.browser.hammer("Enter", 10, 1), ON_SITE)
+    clerk.sees("Ready.")
+    clerk.keys(ESCAPE + NEW + F1)
+    nothing_comes_of(bridge, clerk, "Enter held for 1.3 s behind an answer", lambda: clerk.browser.hold("Enter", 1.3), ON_SITE)
+    clerk.sees("Ready.")
+    clerk.keys(ESCAPE + NEW + F6)
+    same("the other key leaves the plate", NEW, clerk.plate())
+    nothing_comes_of(bridge, clerk, "Enter right behind the other answer", lambda: clerk.browser.hammer("Enter", 1, 0), NEW)
+    clerk.sees("Ready.", what="and then it is ready to be weighed in")
+    same("as a first weighing", f"Weigh in · {NEW}", clerk.browser.text("#go-words"))
+    clerk.keys(ESCAPE + ON_SITE)
+    clerk.sees("Ready.")
+    for dialog, act in (("the search", lambda: clerk.keys(F4 + ESCAPE)), ("the list", lambda: clerk.browser.click("#site button"))):
+        act()
+        nothing_comes_of(bridge, clerk, f"Enter right behind {dialog}", lambda: clerk.browser.hammer("Enter", 1, 0), ON_SITE)
+        clerk.sees("Ready.")
+
+
+def a_double_click(bridge, clerk):
+    for width in (1280, 360):
+        clerk.browser.look(width, 800)
+        for answer, plate in ((1, ON_SITE), (2, NEW)):
+            clerk.keys(ESCAPE + NEW)
+            clerk.sees(f"{ON_SITE} is on site.")
+            clerk.browser.run(f"document.querySelector('#hint .answer:nth-of-type({answer})').scrollIntoView({{ block: 'center' }})")
+            at = clerk.browser.middle_of(f"#hint .answer:nth-of-type({answer})")
+            nothing_comes_of(
+                bridge, clerk, f"{width} px: a double click on answer {answer}", lambda at=at: clerk.browser.click_at(*at, count=2), plate
+            )
+            same(f"{width} px: and no dialog is open", 0, clerk.browser.run("return document.querySelectorAll('dialog[open]').length"))
+        clerk.keys(ESCAPE + NEW)
+        clerk.sees(f"{ON_SITE} is on site.")
+        clerk.browser.run("document.getElementById('go').scrollIntoView({ block: 'center' })")
+        at = clerk.browser.middle_of("#go")
+
+        def takes_and_weighs():
+            clerk.browser.run("document.querySelector('#hint .answer').click()")
+            clerk.browser.click_at(*at)
+
+        nothing_comes_of(bridge, clerk, f"{width} px: an answer, and the weigh button at once", takes_and_weighs, ON_SITE)
+        same(f"{width} px: and no dialog is open", 0, clerk.browser.run("return document.querySelectorAll('dialog[open]').length"))
+    clerk.browser.look(1280, 800)
+    clerk.sees("Ready.")
+
+
+def what_was_taken_is_weighed_once(bridge, clerk):
+    before = rows(bridge)
+    clerk.keys(ESCAPE + NEW + F1)
+    clerk.sees("Ready.")
+    clerk.browser.hold("Enter", 1.3)
+    clerk.sees("Ticket 3")
+    clerk.browser.hammer("Enter", 10, 1)
+    same("then Enter weighs what was taken, once, held and hammered", [("second", ON_SITE)], rows(bridge)[len(before) :])
+
+
+def what_is_held_acts_once(bridge, clerk):
+    count = """const real = window.realFetch ??= window.fetch; window.asked = []; window.papers = [];
+        window.fetch = (target, how) => { window.asked.push(new URL(target, location.origin).pathname); return real(target, how); }"""
+    clerk.browser.run(count)
+    clerk.browser.hold("F9", 1.3)
+    same("F9 held for 1.3 s sets zero once", 1, clerk.browser.run("return window.asked.filter(it => it === '/zero').length"))
+    clerk.browser.hold("F8", 1.3)
+    becomes("F8 held for 1.3 s prints", lambda: clerk.papers())
+    time.sleep(0.5)
+    same("F8 held for 1.3 s prints once", 1, len(clerk.papers()))
+    bridge.next_vehicle(9170)
+    bridge.weigh("held-1", "first", "HELD-1")
+    clerk.keys(F4 + "held")
+    becomes("the search finds it", lambda: "HELD-1" in clerk.browser.run("return document.getElementById('hits').textContent"))
+    clerk.browser.click("#hits button")
+    becomes("its slip is there", lambda: "HELD-1" in clerk.browser.run("return document.getElementById('entry-text').textContent"))
+    for _ in range(6):
+        if clerk.focus() == "Withdraw this weighing":
+            break
+        clerk.keys(TAB)
+    clerk.browser.hold("Enter", 1.3)
+    same("Enter held on Withdraw asks once more, and withdraws nothing", "Press again: withdraw HELD-1", clerk.focus())
+    clerk.keys(ESCAPE)
+    same("nothing was withdrawn", False, ("void", "HELD-1") in rows(bridge))
+    clerk.keys("AB")
+    same("letters go into the plate once a text that the search found is closed", "AB", clerk.plate())
+    clerk.browser.run("window.fetch = window.realFetch")
+
+
+def a_small_net(bridge, clerk):
+    for load, net in ((9180, "20"), (9170, "0")):
+        bridge.next_vehicle(load)
+        clerk.keys(ESCAPE + "HELD-1")
+        clerk.sees(f"The net would be only {net} kg.")
+        same(f"a net of {net} kg: its answer has a key of its own", ["It is the right one F7"], clerk.answers())
+        for what, act in (("hammered", lambda: clerk.browser.hammer("Enter", 10, 1)), ("held", lambda: clerk.browser.hold("Enter", 1.3))):
+            nothing_comes_of(bridge, clerk, f"a net of {net} kg: Enter {what}", act, "HELD-1")
+        nothing_comes_of(bridge, clerk, f"a net of {net} kg: the keys of another question", lambda: clerk.keys(F1 + F6 + F10), "HELD-1")
+    before = rows(bridge)
+    clerk.keys(F7)
+    nothing_comes_of(bridge, clerk, "a net of 0 kg: its key, and Enter at once", lambda: clerk.browser.hammer("Enter", 1, 0), "HELD-1")
+    clerk.sees("Ready.", what="a net of 0 kg: its key answers")
+    clerk.browser.hammer("Enter", 1, 0)
+    becomes("a net of 0 kg: and then Enter weighs", lambda: rows(bridge)[len(before) :] == [("second", "HELD-1")])
+
+
+def off_zero(bridge, clerk):
+    put = lambda load: setattr(bridge.converter, "load", load)
+    put(80)
+    clerk.sees("The bridge is empty", 8, "160 kg on the empty bridge: at first it is called empty")
+    began = time.monotonic()
+    clerk.sees("The empty bridge shows 160 kg. Set zero.", 9, "160 kg on the empty bridge: the sentence asks for zero")
+    holds("160 kg on the empty bridge: after some five seconds", 2 < time.monotonic() - began < 8, f"{time.monotonic() - began:.1f} s")
+    same("and offers its key", "Set zero F9", clerk.browser.text("#choices button"))
+    clerk.keys(F9)
+    clerk.sees("The bridge is empty", 8, "F9 sets it, and the bridge is empty")
+    same("at zero", 0, clerk.kg())
+    put(590)
+    becomes("1,020 kg are no empty bridge", lambda: clerk.kg() == 1020)
+    clerk.sees("Type the plate.")
+    clerk.keys(F9)
+    becomes("zero is set", lambda: clerk.kg() == 0)
+    put(510)
+    clerk.sees("The empty bridge shows -160 kg. Set zero.", 12, "160 kg below zero: the sentence asks for zero")
+    put(690)
+    clerk.sees("The empty bridge shows 200 kg. Set zero.", 12, "200 kg, beyond 2 % of Max from the calibration's zero: it asks for zero")
+    clerk.keys(F9)
+    clerk.sees("The empty bridge shows 200 kg. Call the operator.", 8, "and sends for the operator once the service refuses it")
+    put(610)
+    clerk.sees("The empty bridge shows 40 kg. Set zero.", 12, "less than was refused: it asks for zero again")
+    put(0)
+    becomes("far below zero", lambda: "below zero" in clerk.words())
+    time.sleep(1.5)
+    clerk.keys(F9)
+    becomes("at the calibration's zero", lambda: clerk.kg() == 0, 8)
+
+
+def a_single_off_zero(bridge, clerk):
+    bridge.ask("PUT", "/tares/SINGLE-1", body='{"kg": 5000}')
+    bridge.put(0)
+    bridge.put(40)
+    bridge.put(9170)
+    clerk.keys(ESCAPE + "SINGLE-1")
+    clerk.sees("Ready.", what="80 kg before the vehicle: a Single asks nothing")
+    bridge.put(80)
+    bridge.put(9170)
+    clerk.sees("The bridge showed 160 kg before this vehicle.", what="160 kg before the vehicle: a Single asks first")
+    same("its answer has a key of its own", ["Weigh it all the same F10"], clerk.answers())
+    nothing_comes_of(bridge, clerk, "a Single off zero: Enter hammered", lambda: clerk.browser.hammer("Enter", 10, 1), "SINGLE-1")
+    nothing_comes_of(bridge, clerk, "a Single off zero: Enter held", lambda: clerk.browser.hold("Enter", 1.3), "SINGLE-1")
+    nothing_comes_of(bridge, clerk, "a Single off zero: the keys of other questions", lambda: clerk.keys(F1 + F6 + F7), "SINGLE-1")
+    clerk.keys(ESCAPE + "FIRST-1")
+    clerk.sees("Ready.", what="a First asks nothing: its second weighing shows the same")
+    clerk.keys(ESCAPE + "SINGLE-1" + F10)
+    clerk.sees("Ready.", what="a Single off zero: its key answers")
+    bridge.put(0)
+    bridge.put(9170)
+    clerk.sees("Ready.", what="a Single after zero: it asks nothing")
+    bridge.put(80)
+    bridge.put(9170)
+    clerk.sees("The bridge showed 160 kg before this vehicle.", what="an answer is of one vehicle: the next one is asked for again")
+    bridge.kill_counter()
+    bridge.start_counter()
+    clerk.sees(
+        "It isn't known what the bridge showed before this vehicle.", what="a counter that was started under a vehicle knows nothing of before"
+    )
+    before = rows(bridge)
+    clerk.keys(F10)
+    clerk.sees("Ready.")
+    clerk.browser.hammer("Enter", 1, 0)
+    becomes("a Single off zero: and then Enter weighs", lambda: rows(bridge)[len(before) :] == [("single", "SINGLE-1")])
+
+
+def show(program):
+    print("---- a clerk in a hurry", flush=True)
+    bridge = Bridge(program, 10).start_counter()
+    clerk = None
+    try:
+        bridge.put(0)
+        weighed_before(bridge)
+        clerk = Clerk(at_of(bridge.http))
+        becomes("the page has the list", lambda: ON_SITE in clerk.browser.run("return document.getElementById('site').textContent"))
+        a_question_at_each_plate_that_may_be_another(bridge, clerk)
+        enter_answers_no_question(bridge, clerk)
+        deaf_after_an_answer(bridge, clerk)
+        a_double_click(bridge, clerk)
+        what_was_taken_is_weighed_once(bridge, clerk)
+        what_is_held_acts_once(bridge, clerk)
+        a_small_net(bridge, clerk)
+        off_zero(bridge, clerk)
+        a_single_off_zero(bridge, clerk)
+    finally:
+        if clerk:
+            clerk.close()
+        bridge.close()

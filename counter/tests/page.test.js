@@ -1,0 +1,156 @@
+// What the page decides without a browser: which plates are asked for, what the sentence says, what a key does. `checks/counter --only unit` runs it by node.
+
+import assert from 'node:assert/strict';
+import { test } from 'node:test';
+import { alike, step } from './web/guide.js';
+import { ANSWER_KEYS, DEAF_FOR, Deafness, HAMMERED_WITHIN, PAGE_KEYS, deedOf } from './web/hands.js';
+
+const first = (plate, gross = 18340) => ({ plate, gross, at: '2026-03-10T08:00:00Z', number: 1 });
+const plates = (typed, onSite, weighedNear = []) => alike(typed, onSite.map(it => first(it)), weighedNear).map(it => it.plate);
+
+// ---- which plates are asked for
+
+test('a part of a plate on site is asked for', () => {
+  for (const typed of ['1236', 'RA', 'KM1236', 'KM-1236', 'RA-KM-123', '6']) assert.deepEqual(plates(typed, ['RA-KM-1236']), ['RA-KM-1236'], typed);
+});
+
+test('the same without hyphens is asked for', () => {
+  for (const typed of ['RAKM1236', 'RA-KM1236', 'R-A-KM-1236']) assert.deepEqual(plates(typed, ['RA-KM-1236']), ['RA-KM-1236'], typed);
+});
+
+test('one letter off is asked for if it was never weighed', () => {
+  for (const typed of ['RA-KM-1237', 'RA-KM-1263', 'RA-KM-12366', 'RA-M-1236', 'RA-MK-1236']) assert.deepEqual(plates(typed, ['RA-KM-1236']), ['RA-KM-1236'], typed);
+});
+
+test('a known plate of running numbers is not asked for', () => {
+  assert.deepEqual(plates('RA-KM-1237', ['RA-KM-1236'], ['RAKM1237']), []);
+  assert.deepEqual(plates('RAKM1237', ['RA-KM-1236'], ['RAKM1237']), []);
+  assert.deepEqual(plates('RA-KM-1238', ['RA-KM-1236'], ['RAKM1237']), ['RA-KM-1236'], 'another one is');
+});
+
+test('a known plate that is a part of one on site is asked for all the same', () => {
+  assert.deepEqual(plates('RA-KM-123', ['RA-KM-1236'], ['RAKM123']), ['RA-KM-1236']);
+});
+
+test('two letters off, a plate on site and no plate are not asked for', () => {
+  for (const typed of ['RA-KM-1247', 'RA-KM-6231', 'HB-X-1', 'RA-KM-1236', '', '-', 'XYZ']) assert.deepEqual(plates(typed, ['RA-KM-1236']), [], typed);
+});
+
+test('the likeliest comes first, each as newest first', () => {
+  assert.deepEqual(plates('1236', ['BB-1236', 'AA-1236', '12-36', '1237', 'C-99']), ['12-36', '1237', 'BB-1236', 'AA-1236']);
+});
+
+// ---- what the sentence says
+
+const CALM = { kg: null, is_refused: false, before: 0, is_doubtful: false };
+const now = (more = {}, offZero = {}, weight = {}) => ({
+  link: 'up', weight: { state: 'S', net: 9000, tare: 0, ...weight }, state: { bridge: 'empty', busy: false, off_zero: { ...CALM, ...offZero } }, plate: 'HB-X-1', onSite: [],
+  weighedNear: [], tares: {}, min: 400, oneTare: null, isFirstInstead: false, waiting: null, result: null, told: null, newest: null, isResultNew: false, answered: {}, isDeaf: false, ...more,
+});
+const keysOf = told => told.answers.map(it => it.key);
+
+test('without a question it is ready, and while Enter is deaf it is not', () => {
+  assert.deepEqual([step(now()).word, step(now()).isReady], ['ready', true]);
+  assert.deepEqual([step(now({ isDeaf: true })).word, step(now({ isDeaf: true })).isReady], ['one_moment', undefined]);
+});
+
+test('no question is ready to be weighed, and each answer has a key of its own', () => {
+  const small = now({ plate: 'RA-KM-1236', onSite: [first('RA-KM-1236', 9020)] });
+  const asked = [step(now({ plate: '1236', onSite: ['A-1236', 'B-1236', 'C-1236', 'D-1236'].map(it => first(it)) })), step(small), step(now({ oneTare: 5000 }, { before: 160, is_doubtful: true }))];
+  assert.deepEqual(asked.map(it => it.word), ['is_it_one', 'small_net', 'off_zero_before']);
+  for (const it of asked) assert.equal(it.isReady, undefined, it.word);
+  const all = asked.flatMap(keysOf);
+  assert.deepEqual([new Set(all).size, all.length], [6, 6], 'no key is twice');
+  for (const it of all) assert.match(it, /^F([1267]|3|10)$/, 'Chromium and Firefox leave it to the page, also if it is held');
+});
+
+test('an answer holds for its plate and its vehicles, and another question follows', () => {
+  const asking = now({ plate: 'RA-KM-1237', onSite: [first('RA-KM-1236')], oneTare: 5000 }, { before: 160, is_doubtful: true });
+  const one = step(asking), other = one.answers.at(-1);
+  assert.deepEqual([one.word, one.values, keysOf(one)], ['is_it', { plate: 'RA-KM-1236' }, ['F1', 'F6']]);
+  asking.answered = { [other.question]: other.subject };
+  const two = step(asking), allTheSame = two.answers[0];
+  assert.equal(two.word, 'off_zero_before');
+  asking.answered[allTheSame.question] = allTheSame.subject;
+  assert.equal(step(asking).word, 'ready');
+  asking.onSite.unshift(first('RA-KM-1238'));
+  assert.equal(step(asking).word, 'is_it_one', 'a vehicle more on site is asked for again');
+});
+
+test('a small net is asked for, also one of zero', () => {
+  for (const gross of [9000, 9020, 8980, 9380]) {
+    const told = step(now({ plate: 'RA-KM-1236', onSite: [first('RA-KM-1236', gross)] }));
+    assert.deepEqual([told.word, keysOf(told), told.values.net], ['small_net', ['F7'], Math.abs(gross - 9000)]);
+  }
+  assert.equal(step(now({ plate: 'RA-KM-1236', onSite: [first('RA-KM-1236', 9400)] })).word, 'ready');
+});
+
+test('an empty bridge off zero asks for zero, and sends for the operator if that is refused', () => {
+  const light = { net: 160 };
+  assert.equal(step(now({}, {}, light)).word, 'empty');
+  assert.deepEqual(step(now({}, { kg: 160 }, light)), { look: 'wait', word: 'off_zero', values: { kg: 160 }, choices: ['set_zero'] });
+  assert.deepEqual(step(now({}, { kg: -160 }, { net: -160 })).values, { kg: -160 });
+  assert.deepEqual(step(now({}, { kg: 160, is_refused: true }, light)), { look: 'bad', word: 'off_zero_refused', values: { kg: 160 } });
+});
+
+test('a Single asks if the bridge was off zero before it or that is not known, a First and a Second do not', () => {
+  const off = { before: 160, is_doubtful: true };
+  assert.deepEqual([step(now({ oneTare: 5000 }, off)).word, keysOf(step(now({ oneTare: 5000 }, off)))], ['off_zero_before', ['F10']]);
+  assert.equal(step(now({ tares: { 'HB-X-1': { kg: 5000, is_over: false } } }, off)).word, 'off_zero_before');
+  assert.equal(step(now({ oneTare: 5000 }, { before: null, is_doubtful: true })).word, 'unknown_before');
+  assert.equal(step(now({ oneTare: 5000 }, { before: 80 })).word, 'ready');
+  assert.equal(step(now({}, off)).word, 'ready');
+  assert.equal(step(now({ onSite: [first('HB-X-1')] }, off)).word, 'ready');
+  assert.equal(step(now({ oneTare: 5000, answered: { off_zero: '180' } }, off)).word, 'off_zero_before', 'an answer for another weight is none');
+});
+
+// ---- what a key does
+
+const key = (code, more = {}) => ({ code, key: code, repeat: false, ctrlKey: false, altKey: false, metaKey: false, shiftKey: false, ...more });
+const page = (more = {}) => ({ answers: [], isDialog: false, isDeaf: false, ...more });
+const deed = (code, more, on = 'plate', key_ = {}) => deedOf(key(code, key_), on, page(more)).is;
+const QUESTION = { answers: [{ key: 'F1', plate: 'RA-KM-1236' }, { key: 'F6', question: 'is_it' }] };
+
+test('what is held does nothing, whatever it would do', () => {
+  for (const code of ['Enter', 'Escape', ...Object.keys(PAGE_KEYS), ...Object.values(ANSWER_KEYS).flat()]) {
+    for (const more of [{}, QUESTION, { isDeaf: true }]) assert.equal(deed(code, more, 'plate', { repeat: true }), 'stopped', code);
+    if (code !== 'Escape') assert.equal(deed(code, { isDialog: true }, 'field', { repeat: true }), 'stopped', `${code} in a dialog`);
+  }
+  assert.equal(deed('KeyA', {}, 'plate', { key: 'a', repeat: true }), 'left', 'but letters come again');
+});
+
+test('Enter answers no question, at the plate or on an answer', () => {
+  for (const on of ['plate', 'answer']) assert.equal(deed('Enter', QUESTION, on), 'stopped', on);
+  assert.equal(deed('NumpadEnter', QUESTION, 'plate', { key: 'Enter' }), 'stopped');
+  assert.equal(deed('Enter', {}), 'left', 'without a question the browser sends the form');
+});
+
+test('a key answers its own question, and nothing without one', () => {
+  assert.deepEqual(deedOf(key('F6'), 'plate', page(QUESTION)), { is: 'answered', answer: QUESTION.answers[1] });
+  for (const code of ['F2', 'F3', 'F7', 'F10']) assert.equal(deed(code, QUESTION), 'stopped', code);
+  for (const code of Object.values(ANSWER_KEYS).flat()) assert.equal(deed(code, {}), 'stopped', `${code} opens nothing of the browser`);
+  assert.equal(deed('F6', { ...QUESTION, isDialog: true }), 'stopped', 'nor behind a dialog');
+});
+
+test('with a key like Ctrl it is the browser\'s', () => {
+  for (const held of ['ctrlKey', 'altKey', 'metaKey', 'shiftKey']) assert.equal(deed('F4', QUESTION, 'plate', { [held]: true }), 'left', held);
+});
+
+test('zero, print and search have their keys, Escape clears, letters go into the plate', () => {
+  assert.deepEqual(deedOf(key('F9'), 'other', page()), { is: 'clicked', part: 'zero' });
+  assert.deepEqual([deed('Escape', {}), deed('Escape', { isDialog: true })], ['cleared', 'left']);
+  assert.deepEqual([deed('KeyA', {}, 'other', { key: 'a' }), deed('KeyA', {}, 'field', { key: 'a' }), deed('Space', {}, 'other', { key: ' ' })], ['typed', 'left', 'left']);
+});
+
+test('Enter is deaf for 700 ms, and as long as it is hammered', () => {
+  assert.equal(DEAF_FOR, 700);
+  const ears = new Deafness();
+  assert.equal(ears.isDeaf(0), false);
+  ears.begin(1000);
+  assert.deepEqual([ears.isDeaf(1000), ears.isDeaf(1699), ears.isDeaf(1700)], [true, true, false]);
+  for (let at = 1100; at <= 3000; at += 100) { assert.equal(ears.isDeaf(at), true, `hammered at ${at}`); ears.pressed(at); }
+  assert.equal(ears.isDeaf(3000 + HAMMERED_WITHIN), false);
+  ears.pressed(5000);
+  assert.equal(ears.isDeaf(5001), false, 'a press that acts makes it not deaf');
+  assert.deepEqual([deed('Enter', { isDeaf: true }), deed('Enter', { isDeaf: true }, 'other'), deed('Enter', { isDeaf: true, isDialog: true }, 'field')], ['deaf', 'deaf', 'left']);
+});

@@ -1,0 +1,40 @@
+// What a key does, and how long Enter is deaf: decided without a browser and without a clock of its own.
+
+export const DEAF_FOR = 700;         // milliseconds after a plate was taken over or a question was answered
+export const HAMMERED_WITHIN = 250;  // milliseconds at most between two presses of a hand that hammers
+
+// Hands that hammer weigh nothing that eyes haven't seen: Enter and the weigh button are deaf for a while, and as long as Enter is hammered.
+export class Deafness {
+  until = -Infinity;
+
+  begin(at) { this.until = Math.max(this.until, at + DEAF_FOR); }
+
+  pressed(at) { if (this.isDeaf(at)) this.until = Math.max(this.until, at + HAMMERED_WITHIN); }
+
+  isDeaf(at) { return at < this.until; }
+}
+
+export const PAGE_KEYS = { F9: 'zero', F8: 'last', F4: 'find' };
+
+// Each question has keys of its own, so that a key pressed too often answers no other one. Chromium and Firefox leave them to the page.
+export const ANSWER_KEYS = { on_site: ['F1', 'F2', 'F3'], another: 'F6', small_net: 'F7', off_zero: 'F10' };
+const ANSWERING = new Set(Object.values(ANSWER_KEYS).flat());
+
+const LEAVE = { is: 'left' };        // to the browser
+const STOP = { is: 'stopped' };      // it does nothing, here or in the browser
+
+// `key` is a keydown event, `on` where it came: plate, answer, field or other. `page` has the answers to its question, and whether a dialog is open.
+export function deedOf(key, on, { answers, isDialog, isDeaf }) {
+  const isPlain = !key.ctrlKey && !key.altKey && !key.metaKey && !key.shiftKey;
+  const isOurs = isPlain && (key.code in PAGE_KEYS || ANSWERING.has(key.code)), isEnter = key.key === 'Enter';
+  if (key.repeat && (isOurs || isEnter || key.key === 'Escape')) return STOP;
+  if (isDialog) return isOurs ? STOP : LEAVE;
+  const answer = isOurs && answers.find(it => it.key === key.code);
+  if (answer) return { is: 'answered', answer };
+  if (isOurs) return key.code in PAGE_KEYS ? { is: 'clicked', part: PAGE_KEYS[key.code] } : STOP;
+  if (isEnter && isDeaf) return { is: 'deaf' };
+  if (isEnter) return answers.length && (on === 'plate' || on === 'answer') ? STOP : LEAVE;
+  if (key.key === 'Escape') return { is: 'cleared' };
+  const isLetter = key.key.length === 1 && key.key !== ' ' && !key.ctrlKey && !key.altKey && !key.metaKey;
+  return isLetter && on === 'other' ? { is: 'typed' } : LEAVE;
+}
