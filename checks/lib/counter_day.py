@@ -8,7 +8,7 @@ import random
 import re
 import time
 
-from counter_clerk import ENTER, ESCAPE, F9, Clerk, at_of
+from counter_clerk import ENTER, ESCAPE, F1, F6, F7, F9, Clerk, at_of
 from countering import Bridge, becomes, holds, same
 from network import Network
 
@@ -35,7 +35,10 @@ ASKED = [
     ("may drive off", "drive off"),
     ("Type the plate", "type"),
     ("Is it this one?", "look"),
-    ("The net would be only", "press"),
+    ("Is it one of them?", "look"),
+    ("The net would be only", "right"),
+    ("One moment", "wait"),
+    ("The empty bridge shows", "zero"),
     ("Ready.", "press"),
     ("A tare of", "clear"),
     ("A tare is set", "wait"),
@@ -125,7 +128,13 @@ class Day:
             elif what == "type" and is_on:
                 clerk.keys(ESCAPE + typed)
             elif what == "look":
-                clerk.keys(ENTER + ENTER)
+                answers = [it.split()[0] for it in clerk.answers()]
+                clerk.keys(chr(ord(F1) + answers.index(plate)) if plate in answers else F6)
+            elif what == "right":
+                clerk.keys(F7)
+            elif what == "zero":
+                clerk.keys(F9)
+                time.sleep(0.6)
             elif what == "press" and clerk.plate() == plate:
                 clerk.keys(ENTER)
                 if fault:

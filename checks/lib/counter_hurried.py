@@ -100,6 +100,8 @@ def deaf_after_an_answer(bridge, clerk):
 def a_double_click(bridge, clerk):
     for width in (1280, 360):
         clerk.browser.look(width, 800)
+        becomes(f"{width} px wide", lambda width=width: clerk.browser.run("return innerWidth") == width)
+        time.sleep(0.3)
         for answer, plate in ((1, ON_SITE), (2, NEW)):
             clerk.keys(ESCAPE + NEW)
             clerk.sees(f"{ON_SITE} is on site.")
@@ -134,6 +136,14 @@ def what_was_taken_is_weighed_once(bridge, clerk):
     same("then Enter weighs what was taken, once, held and hammered", [("second", ON_SITE)], rows(bridge)[len(before) :])
 
 
+def opens_by_search(clerk, plate):
+    """Opens the text of the newest entry of a plate."""
+    press = "document.querySelector('#searching[open] #hits button')?.click(); return document.querySelector('#entry[open] .danger') !== null"
+    clerk.keys(F4 + plate)
+    becomes("the search finds it", lambda: plate in clerk.browser.run("return document.getElementById('hits').textContent"))
+    becomes("its slip is there", lambda: clerk.browser.run(press))
+
+
 def what_is_held_acts_once(bridge, clerk):
     count = """const real = window.realFetch ??= window.fetch; window.asked = []; window.papers = [];
         window.fetch = (target, how) => { window.asked.push(new URL(target, location.origin).pathname); return real(target, how); }"""
@@ -146,10 +156,7 @@ def what_is_held_acts_once(bridge, clerk):
     same("F8 held for 1.3 s prints once", 1, len(clerk.papers()))
     bridge.next_vehicle(9170)
     bridge.weigh("held-1", "first", "HELD-1")
-    clerk.keys(F4 + "held")
-    becomes("the search finds it", lambda: "HELD-1" in clerk.browser.run("return document.getElementById('hits').textContent"))
-    clerk.browser.click("#hits button")
-    becomes("its slip is there", lambda: "HELD-1" in clerk.browser.run("return document.getElementById('entry-text').textContent"))
+    opens_by_search(clerk, "HELD-1")
     for _ in range(6):
         if clerk.focus() == "Withdraw this weighing":
             break
@@ -157,8 +164,12 @@ def what_is_held_acts_once(bridge, clerk):
     clerk.browser.hold("Enter", 1.3)
     same("Enter held on Withdraw asks once more, and withdraws nothing", "Press again: withdraw HELD-1", clerk.focus())
     clerk.keys(ESCAPE)
+    opens_by_search(clerk, "HELD-1")
+    clerk.browser.click_at(*clerk.browser.middle_of("#entry .danger"), count=2)
+    same("a double click on Withdraw asks once more", "Press again: withdraw HELD-1", clerk.browser.text("#entry .danger"))
+    clerk.keys(ESCAPE)
     same("nothing was withdrawn", False, ("void", "HELD-1") in rows(bridge))
-    clerk.keys("AB")
+    clerk.keys(ESCAPE + "AB")
     same("letters go into the plate once a text that the search found is closed", "AB", clerk.plate())
     clerk.browser.run("window.fetch = window.realFetch")
 

@@ -9,6 +9,7 @@ from countering import same
 LOOKS = [
     (1280, 800, False, "en"),
     (1280, 800, True, "de"),
+    (1920, 1080, False, "fr"),
     (360, 740, False, "de"),
     (360, 740, True, "en"),
     (1000, 640, False, "fr"),
@@ -40,8 +41,11 @@ def looks(bridge):
     bridge.next_vehicle(9170)
     bridge.weigh("look-1", "first", "LOOK-ALIKE-1")
     bridge.weigh("look-x", "first", "LOOK-ALIKE-2", port=bridge.office)
+    bridge.ask("PUT", "/tares/LOOK-SINGLE", body='{"kg": 5000}')
     for width, height, is_dark, lang in LOOKS:
         name = f"{width} px, {lang}, {'dark' if is_dark else 'light'}"
+        bridge.put(80)
+        since = time.monotonic()
         clerk = Clerk(at_of(bridge.http), None, width, height, is_dark, lang)
         try:
             found = []
@@ -54,6 +58,16 @@ def looks(bridge):
                     f"{state}: no word {it}" for it in re.findall(r"\b(?:link|refused|counter|kind|done|weigh)_\w+|undefined|NaN|\{\w+\}", text)
                 )
 
+            time.sleep(max(0, since + 5.5 - time.monotonic()))
+            look("off zero")
+            found.extend([] if "160" in clerk.words() else [f"off zero: {clerk.words()}"])
+            bridge.put(9170)
+            clerk.keys("LOOK-SINGLE")
+            look("a Single off zero")
+            clerk.keys(ESCAPE + "LOOK-ALIKE-1")
+            look("a small net")
+            found.extend([] if clerk.answers() else [f"a small net: {clerk.words()}"])
+            clerk.keys(ESCAPE)
             bridge.put(0)
             look("empty")
             bridge.put(4070)
@@ -95,6 +109,6 @@ def looks(bridge):
             bridge.start_service()
             bridge.wait_until_up()
             look("a start")
-            same(f"{name}: in twelve states nothing sideways, nothing below a contrast of 4.5, nothing without a word", [], found[:6])
+            same(f"{name}: in fifteen states nothing sideways, nothing below a contrast of 4.5, nothing without a word", [], found[:6])
         finally:
             clerk.close()

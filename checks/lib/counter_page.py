@@ -7,7 +7,7 @@ import time
 
 from bridge import HOST
 from counter_ages import a_change_at_the_page, never_old, press_to_ticket, weight_within_a_second
-from counter_clerk import ENTER, ESCAPE, F4, F8, F9, SPACE, TAB, Clerk, at_of
+from counter_clerk import ENTER, ESCAPE, F1, F4, F8, F9, SPACE, TAB, Clerk, at_of
 from counter_looks import looks
 from counter_nginx import Nginx
 from countering import Bridge, becomes, holds, same
@@ -39,10 +39,10 @@ def a_pair_by_keyboard(bridge, clerk):
     clerk.sees("Type the plate.")
     clerk.keys("HBKW87")
     clerk.sees("HB-KW-77 is on site. Is it this one?")
-    clerk.keys(ENTER)
-    same("Enter goes to the one on site, and weighs nothing in", ("HB-KW-77", 1), (clerk.focus(), len(bridge.entries())))
-    clerk.keys(ENTER)
-    same("and again takes it", "HB-KW-77", clerk.plate())
+    clerk.keys(ENTER + ENTER)
+    same("Enter does nothing, and weighs nothing in", ("plate", "HBKW87", 1), (clerk.focus(), clerk.plate(), len(bridge.entries())))
+    clerk.keys(F1)
+    same("its key takes the one on site", "HB-KW-77", clerk.plate())
     clerk.sees("Ready.")
     same("the net to come", "Net will be 10,200 kg", clerk.browser.text("#go-more"))
     clerk.keys(ENTER)
@@ -107,6 +107,7 @@ def search_and_withdraw_by_keyboard(bridge, clerk):
         clerk.keys(TAB)
     clerk.keys(ENTER)
     same("it asks once more", "Press again: withdraw WRONG-1", clerk.focus())
+    time.sleep(0.8)
     clerk.keys(ENTER)
     clerk.sees("Slip 5: withdrawn")
     same("the focus returns", "plate", clerk.focus())

@@ -1,5 +1,6 @@
 // The texts of entries: a slip or ticket again, and its paper, by a printer of the counter or by the browser. On paper the text stands letter for letter.
 
+import { DEAF_FOR } from './hands.js';
 import { fillPaper } from './paper.js';
 import { button, make, part } from './parts.js';
 import { ask, askJson } from './request.js';
@@ -49,14 +50,16 @@ export async function openEntry(entry, printers, press, canVoid, withdraw) {
   part('entry').showModal();
 }
 
-// It has to be pressed twice.
+// It has to be pressed twice, and not by one double click.
 function voidButton(entry, withdraw) {
+  let askedAt = null;
   const made = button(t('withdraw'), () => {
-    if (!made.dataset.sure) {
-      made.dataset.sure = 'yes';
+    if (askedAt === null) {
+      askedAt = performance.now();
       made.textContent = t('withdraw_sure', { plate: entry.plate });
       return;
     }
+    if (performance.now() - askedAt < DEAF_FOR) return;
     part('entry').close();
     withdraw(entry.plate);
   }, { className: 'danger' });
