@@ -29,7 +29,13 @@ def one_text(bridge):
         same(f"a refusal passes: {form}", bridge.ask("POST", target, form, port=bridge.office)[:2], bridge.ask("POST", target, form)[:2])
     for target in ("/indication", "/tickets/1", "/tickets/x", "/tickets/4294967296", "/tickets/%C3%A9"):
         same(f"{target} passes", bridge.ask("GET", target, port=bridge.office)[:2], bridge.ask("GET", target)[:2])
-    same("whether a key is in the journal", [True, False], [bridge.json("GET", f"/keys/{it}")["found"] for it in ("text-1", "text-2")])
+    row = next(it for it in bridge.entries() if it[1] == "text-1")
+    alike = ("text-2", "text", "TEXT-1", row[0], row[2], row[3], row[5], row[7], row[8], row[9], row[10][:32], "0" * 32, "key")
+    same(
+        "a key is found of an entry that has it, and by no other text of the export",
+        {"text-1": True} | {it: False for it in alike},
+        {it: bridge.json("GET", f"/keys/{it}")["found"] for it in ("text-1", *alike)},
+    )
 
 
 def clients_through_it(bridge):

@@ -11,7 +11,7 @@ from weighbridge_counter.files import Files
 from weighbridge_counter.lists import Lists
 from weighbridge_counter.service import Service, program_of
 from weighbridge_counter.setup import SetupFault, languages, read_setup
-from weighbridge_counter.slips import HEADER, NoText, entry_of_text, slip_of_row
+from weighbridge_counter.slips import HEADER, NoText, entry_of_text, has_key, slip_of_row
 from weighbridge_counter.tares import BadTare, Tares
 from weighbridge_counter.zero import Zero
 
@@ -52,6 +52,35 @@ class Texts(unittest.TestCase):
             ("first", "void"),
         ):
             self.assertIsNone(slip_of_row(ROW.replace(old, new)), old)
+
+    def test_a_key_is_found_in_the_column_of_keys_only(self):
+        signed = f"2,20,second,WB01,2025-03-10 09:30:00,8140,,20,60000,WB01,{DIGEST[::-1]},{DIGEST}"
+        rows = export(ROW, signed)
+        self.assertEqual([True, True], [has_key(rows, it) for it in ("K1", "20")])
+        for what, key in (
+            ("an interval", "20"),
+            ("a plate", "AB-12"),
+            ("a serial", "WB01"),
+            ("a kind", "first"),
+            ("a number", "1"),
+            ("a gross", "18340"),
+            ("a Max", "60000"),
+            ("a digest", DIGEST),
+            ("a part of a digest", DIGEST[:32]),
+            ("zeros, as the first entry's previous digest", ZEROS[:32]),
+            ("another case", "k1"),
+            ("a part of a key", "K"),
+            ("a key and more", "K11"),
+            ("a column's name", "key"),
+            ("nothing", ""),
+        ):
+            self.assertFalse(has_key(export(ROW), key), what)
+        self.assertFalse(has_key(export(), "K1"), "of a journal whose entries were purged")
+
+    def test_a_key_is_looked_for_in_an_export_only(self):
+        for text in ("", "store 2 disk\n", export(ROW + ",more"), HEADER, export(ROW)[:-1], export(ROW)[:-40]):
+            with self.assertRaises(NoText):
+                has_key(text, "K1")
 
     def test_what_is_no_slip_is_refused(self):
         for text in ("", "refused 7 unstable\n", "WEIGHING SLIP 1\n", "WEIGHING SLIP 1\nPLATE A\n"):

@@ -3,6 +3,7 @@
 import asyncio
 import contextlib
 import io
+import json
 import math
 import time
 import unittest
@@ -16,6 +17,8 @@ from aiohttp.test_utils import make_mocked_request
 from weighbridge_counter.books import REST, Books
 from weighbridge_counter.office import Answer, NoAnswer, Office
 from weighbridge_counter.routes import MOST_ASKING, Routes
+
+from .test_lists import DIGEST, ROW, export
 
 
 def routes_over(office):
@@ -73,6 +76,31 @@ class ManyAskers(unittest.IsolatedAsyncioTestCase):
             with self.assertRaises(asyncio.TimeoutError):
                 await asyncio.wait_for(books.run(), 0.6)
         self.assertIn(office.all, (2, 3))
+
+
+class AKey(unittest.IsolatedAsyncioTestCase):
+    async def asked(self, key, *answers):
+        async def ask(method, target, body=None, within=15.0):
+            if (answer := answers[0]) is None:
+                raise NoAnswer("cut")
+            return Answer(answer[0], "text/csv", answer[1].encode())
+
+        routes = routes_over(SimpleNamespace(ask=ask))
+        routes.counter.books = Books(routes.counter.office, zoneinfo.ZoneInfo("UTC"), Counter())
+        answer = await routes.key(make_mocked_request("GET", f"/keys/{key}", match_info={"key": key}))
+        return answer.status, json.loads(answer.text)
+
+    async def test_the_column_of_keys_is_asked_and_nothing_else(self):
+        rows = export(ROW)
+        self.assertEqual((200, {"found": True}), await self.asked("K1", (200, rows)))
+        for key in ("20", "WB01", "first", "AB-12", "1", "k1", "K", "60000", DIGEST[:32]):
+            self.assertEqual((200, {"found": False}), await self.asked(key, (200, rows)), key)
+
+    async def test_where_it_is_not_known_it_is_told_so(self):
+        self.assertEqual((502, {"found": None}), await self.asked("K1", None))
+        self.assertEqual((503, {"found": None}), await self.asked("K1", (503, "store 2 disk\n")))
+        for text in ("", "number,key\n1,K1\n", export(ROW)[:-40]):
+            self.assertEqual((502, {"found": None}), await self.asked("K1", (200, text)), text)
 
 
 class AtTheOffice(unittest.IsolatedAsyncioTestCase):

@@ -5,7 +5,7 @@ import zoneinfo
 from typing import Any
 
 from .near import Near
-from .slips import HEADER, Entry, NoText, entry_of_row, entry_of_text, slip_of_row
+from .slips import Entry, entry_of_row, entry_of_text, rows_of, slip_of_row
 
 MOST_TEXTS = 2000  # that are kept as they passed
 MOST_TODAY = 1000
@@ -30,15 +30,11 @@ class Lists:
     @classmethod
     def of_export(cls, zone: zoneinfo.ZoneInfo, text: str) -> "Lists":
         """The lists of an export. It may run in a thread of its own."""
-        header, *rows = text.split("\n")
-        if header != HEADER:
-            raise NoText(header[:40])
         made = cls(zone)
-        for row in rows:
-            if row:
-                entry = entry_of_row(row)
-                made.rows[entry.number] = row
-                made._take(entry)
+        for row in rows_of(text):
+            entry = entry_of_row(row)
+            made.rows[entry.number] = row
+            made._take(entry)
         made.is_whole = True
         made.near.shown()  # in this thread, where it holds up nothing
         return made

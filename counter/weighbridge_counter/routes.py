@@ -1,6 +1,7 @@
 """The routes: those of the office, which pass, and the counter's own. `counter/openapi.json` describes all of them."""
 
 import asyncio
+import functools
 import json
 import socket
 import sys
@@ -17,6 +18,8 @@ from .counter import Counter
 from .health import health_of, metrics_of
 from .office import Answer, NoAnswer
 from .pages import Page, frame_of
+from .slips import NoText as NoRow
+from .slips import has_key
 from .tares import BadTare
 from .terminal import NotSent, Unanswered
 
@@ -278,14 +281,15 @@ class Routes:
         return as_json({"hits": await self.in_turn(lambda: self.counter.books.lists.search(words)), "whole": self.counter.books.is_whole()})
 
     async def key(self, request: web.Request) -> web.StreamResponse:
-        """Whether the journal has the key, by an export of now: that stores nothing."""
+        """Whether an entry of the journal has the key, by an export of now: that stores nothing."""
         try:
             answer = await self.counter.books.export_of_now()
-        except NoAnswer:
+            if answer.status != 200:
+                return as_json({"found": None}, 503)
+            look = functools.partial(has_key, answer.text, request.match_info["key"])
+            return as_json({"found": await asyncio.get_running_loop().run_in_executor(None, look)})
+        except (NoAnswer, NoRow):
             return as_json({"found": None}, 502)
-        if answer.status != 200:
-            return as_json({"found": None}, 503)
-        return as_json({"found": f",{request.match_info['key']},".encode() in answer.body})
 
     async def refresh(self, request: web.Request) -> web.StreamResponse:
         self.counter.books.wants_export = True

@@ -47,10 +47,29 @@ def entry_of_text(text: str) -> Entry:
 
 
 def entry_of_row(row: str) -> Entry:
+    parts = fields_of(row)
+    return Entry(int(parts[0]), parts[2], parts[3], moment_of(parts[4]), number_or_none(parts[5]), number_or_none(parts[6]))
+
+
+def rows_of(export: str) -> list[str]:
+    """The rows of an export of the journal. Raises NoText if it is none, or was cut."""
+    header, *rows = export.split("\n")
+    if header != HEADER or not rows or rows[-1]:
+        raise NoText(header[:40])
+    return rows[:-1]
+
+
+def has_key(export: str, key: str) -> bool:
+    """Whether an entry of an export has this key, letter for letter: no other column is looked at. Raises NoText."""
+    return key in {fields_of(row)[1] for row in rows_of(export)}
+
+
+def fields_of(row: str) -> list[str]:
+    """The fields of a row, none of which has a comma in it."""
     parts = row.split(",")
     if len(parts) != len(FIELDS):
         raise NoText(row[:40])
-    return Entry(int(parts[0]), parts[2], parts[3], moment_of(parts[4]), number_or_none(parts[5]), number_or_none(parts[6]))
+    return parts
 
 
 def slip_of_row(row: str) -> str | None:
