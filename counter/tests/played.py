@@ -5,6 +5,11 @@ from collections.abc import Callable
 from weighbridge_counter.fanout import Fanout
 
 
+async def at_once(work: Callable[[], None]) -> None:
+    """A thread for files that is played: what it is asked is done before anything else."""
+    work()
+
+
 class Clock:
     def __init__(self) -> None:
         self.now = 1000.0

@@ -9,11 +9,11 @@ from collections import Counter
 from pathlib import Path
 
 from weighbridge_counter.acts import ACT_FILE, Acts
-from weighbridge_counter.files import Files
+from weighbridge_counter.files import Files, found_in
 from weighbridge_counter.office import Answer, NoAnswer
 from weighbridge_counter.terminal import Terminal
 
-from .played import PlayedTerminal
+from .played import PlayedTerminal, at_once
 
 TICKET = """WEIGHING TICKET 7
 PLATE AB-12
@@ -48,7 +48,7 @@ class Bridge:
         self.played = PlayedTerminal()
         self.terminal = Terminal(("127.0.0.1", 1), 20, self.played.clock)
         self.terminal.fanout = self.played.fanout
-        self.files = Files(Path(folder))
+        self.files = Files(Path(folder), at_once)
         self.office = PlayedOffice(self.played, *answers)
         self.acts = Acts(self.terminal, self.office, self.files, 20, Counter())
         self.acts.pause = self.pause
@@ -61,6 +61,9 @@ class Bridge:
     async def pause(self, seconds):
         self.played.pass_time(seconds)
 
+    def on_disk(self):
+        return found_in(self.files.path(ACT_FILE))
+
     async def until(self, work, at_reading=lambda number: None, most=200):
         """Lets readings pass until the work is done, and all that it began."""
         task = asyncio.ensure_future(work)
@@ -68,6 +71,7 @@ class Bridge:
             for _ in range(5):
                 await asyncio.sleep(0)
             if task.done() and not self.acts.tasks:
+                await self.files.bring()
                 return task.result()
             at_reading(number)
             self.played.reading()
@@ -119,25 +123,25 @@ class WithATare(WithABridge):
         self.assertEqual((201, TICKET.encode()), (told.status, told.body))
         self.assertEqual(([b"key=K1&kind=single&plate=AB%2D12"], [5000]), (bridge.office.bodies, bridge.office.tares))
         self.assertEqual((["TA 5000 kg", "TAC"], 0), (bridge.played.done, bridge.played.tare))
-        self.assertFalse(bridge.files.has(ACT_FILE))
+        self.assertIsNone(bridge.on_disk())
 
     async def test_a_file_says_so_from_before_it_is_set_until_it_is_cleared(self):
         bridge = self.bridge((201, TICKET))
         seen = {}
 
         def reply(line):
-            seen[line] = bridge.files.read(ACT_FILE)
+            seen[line] = bridge.on_disk()
             return PlayedTerminal.reply(bridge.played, line)
 
         bridge.played.reply = reply
         await self.weigh(bridge)
-        self.assertEqual(({"kg": 5000}, {"kg": 5000}, False), (seen["TA 5000 kg"], seen["TAC"], bridge.files.has(ACT_FILE)))
+        self.assertEqual(({"kg": 5000}, {"kg": 5000}, None), (seen["TA 5000 kg"], seen["TAC"], bridge.on_disk()))
 
     async def test_none_is_left_whatever_the_office_says(self):
         for answer in ((409, "refused 7 unstable\n"), (503, "refused 15 store\n"), None):
             bridge = self.bridge(answer)
             await self.weigh(bridge)
-            self.assertEqual((0, False), (bridge.played.tare, bridge.files.has(ACT_FILE)))
+            self.assertEqual((0, None), (bridge.played.tare, bridge.on_disk()))
 
     async def test_one_that_somebody_set_is_refused_by_name_and_stays(self):
         bridge = self.bridge()
@@ -151,7 +155,7 @@ class WithATare(WithABridge):
         bridge.played.reply = lambda line: "TA L" if line.startswith("TA ") else PlayedTerminal.reply(bridge.played, line)
         told = await self.weigh(bridge)
         self.assertEqual((409, b"counter tare_refused\n", False), (told.status, told.body, told.is_sent))
-        self.assertFalse(bridge.files.has(ACT_FILE))
+        self.assertIsNone(bridge.on_disk())
 
     async def test_a_tare_in_disguise_never_goes_out(self):
         bridge = self.bridge((201, TICKET))
@@ -170,7 +174,7 @@ class WithATare(WithABridge):
         with contextlib.redirect_stderr(io.StringIO()) as said:
             told = await self.weigh(bridge)
         self.assertEqual((503, b"counter no_file\n", False), (told.status, told.body, told.is_sent))
-        self.assertEqual(([], True), (bridge.played.done, "act.json.new" in said.getvalue()))
+        self.assertEqual(([], [], True), (bridge.played.done, bridge.office.bodies, "act.json: it can't be written: No such file" in said.getvalue()))
         self.assertFalse(bridge.acts.is_busy())
 
     async def test_without_values_nothing_is_sent(self):
@@ -182,11 +186,17 @@ class WithATare(WithABridge):
         bridge.played.pass_time(1.5)
         told = await task
         self.assertEqual((503, b"counter no_terminal\n", False), (told.status, told.body, told.is_sent))
-        self.assertEqual(([], False), (bridge.played.done, bridge.files.has(ACT_FILE)))
+        await bridge.files.bring()
+        self.assertEqual(([], None), (bridge.played.done, bridge.on_disk()))
 
     async def test_the_office_is_asked_for_the_next_only_once_it_is_cleared(self):
         bridge = self.bridge((201, TICKET), (409, "refused 11 not_cleared\n"))
         first = asyncio.ensure_future(bridge.acts.carry_out("/weighings", BODY))
+        for _ in range(50):
+            bridge.played.reading(0 if bridge.acts.is_busy() else 1)
+            for _ in range(5):
+                await asyncio.sleep(0)
+        self.assertTrue(bridge.acts.is_busy())
         await bridge.until(bridge.acts.carry_out("/weighings", b"key=K2&kind=first&plate=EF-56"))
         self.assertEqual(201, (await first).status)
         self.assertEqual([5000, 0], bridge.office.tares)
@@ -203,26 +213,26 @@ class WithATare(WithABridge):
             await self.weigh(bridge, at_reading=cut)
             bridge.played.reading(2)
             await bridge.until(bridge.acts.look())
-            self.assertEqual((0, False), (bridge.played.tare, bridge.files.has(ACT_FILE)), cut_at)
+            self.assertEqual((0, None), (bridge.played.tare, bridge.on_disk()), cut_at)
 
 
 class AtTheNextStart(WithABridge):
     async def test_a_tare_that_an_act_left_is_cleared_first(self):
         bridge = self.bridge()
-        bridge.files.write(ACT_FILE, {"kg": 5005})
+        await bridge.files.write(ACT_FILE, {"kg": 5005}, 1)
         bridge.played.tare = 5000
         bridge.acts = Acts(bridge.terminal, bridge.office, bridge.files, 20, Counter())
         self.assertTrue(bridge.acts.may_be_left)
         await bridge.until(bridge.acts.look())
-        self.assertEqual((0, False, False), (bridge.played.tare, bridge.acts.may_be_left, bridge.files.has(ACT_FILE)))
+        self.assertEqual((0, False, False), (bridge.played.tare, bridge.acts.may_be_left, bridge.on_disk() is not None))
         self.assertEqual("WB01", bridge.terminal.serial)
 
     async def test_one_that_somebody_else_set_is_left_alone(self):
         bridge = self.bridge()
-        bridge.files.write(ACT_FILE, {"kg": 5000})
+        await bridge.files.write(ACT_FILE, {"kg": 5000}, 1)
         bridge.played.tare = 3000
         await bridge.until(bridge.acts.look())
-        self.assertEqual((3000, 3000, False), (bridge.played.tare, bridge.played.fanout.tare, bridge.files.has(ACT_FILE)))
+        self.assertEqual((3000, 3000, False), (bridge.played.tare, bridge.played.fanout.tare, bridge.on_disk() is not None))
 
     async def test_one_that_acted_though_it_was_called_back_is_cleared(self):
         bridge = self.bridge()

@@ -15,6 +15,8 @@ from weighbridge_counter.slips import HEADER, NoText, entry_of_text, has_key, sl
 from weighbridge_counter.tares import BadTare, Tares
 from weighbridge_counter.zero import Zero
 
+from .played import at_once
+
 BERLIN = zoneinfo.ZoneInfo("Europe/Berlin")
 ZEROS = "0" * 64
 DIGEST = "a982a0aaef75f8622de6a96ef3a1d8ddd9de4bd18d9cda420eeb00dfbfcfa68c"
@@ -157,24 +159,28 @@ class TheLists(unittest.TestCase):
                 Lists.of_export(BERLIN, text)
 
 
-class Kept(unittest.TestCase):
+class Kept(unittest.IsolatedAsyncioTestCase):
     def setUp(self):
         folder = tempfile.TemporaryDirectory()
         self.addCleanup(folder.cleanup)
-        self.files, self.day = Files(Path(folder.name)), datetime.date(2025, 3, 10)
+        self.folder, self.day = Path(folder.name), datetime.date(2025, 3, 10)
+
+    def files(self):
+        """As a counter that is started now finds them."""
+        return Files(self.folder, at_once)
 
     def tares(self):
-        return Tares(self.files, lambda: self.day, 90, 60000)
+        return Tares(self.files(), lambda: self.day, 90, 60000)
 
-    def test_a_tare_has_a_last_day_and_who_kept_it(self):
-        self.tares().keep("AB-12", 5000, "anna")
+    async def test_a_tare_has_a_last_day_and_who_kept_it(self):
+        await self.tares().keep("AB-12", 5000, "anna")
         self.assertEqual({"AB-12": {"kg": 5000, "until": "2025-06-08", "by": "anna", "is_over": False}}, self.tares().shown())
         self.day = datetime.date(2025, 6, 9)
         self.assertTrue(self.tares().shown()["AB-12"]["is_over"])
-        self.tares().drop("AB-12")
+        await self.tares().drop("AB-12")
         self.assertEqual({}, self.tares().shown())
 
-    def test_what_is_none_is_refused(self):
+    async def test_what_is_none_is_refused(self):
         for plate, kg in (
             ("ab", 5000),
             ("", 5000),
@@ -188,25 +194,26 @@ class Kept(unittest.TestCase):
             ("A", None),
         ):
             with self.assertRaises(BadTare):
-                self.tares().keep(plate, kg, "")
+                await self.tares().keep(plate, kg, "")
 
-    def test_so_many_are_kept_and_no_more(self):
+    async def test_so_many_are_kept_and_no_more(self):
         tares = self.tares()
         tares.kept = {f"P{it}": {"kg": 1, "until": "2025-03-10", "by": ""} for it in range(2000)}
-        tares.keep("P7", 5000, "")
+        await tares.keep("P7", 5000, "")
         with self.assertRaisesRegex(BadTare, "2000 already"):
-            tares.keep("NEW", 5000, "")
-        tares.drop("P7")
-        tares.keep("NEW", 5000, "")
+            await tares.keep("NEW", 5000, "")
+        await tares.drop("P7")
+        await tares.keep("NEW", 5000, "")
 
-    def test_zero_is_known_until_the_service_is_another_one(self):
+    async def test_zero_is_known_until_the_service_is_another_one(self):
         def zero():
-            return Zero(self.files, lambda: datetime.datetime(2025, 3, 10, 9, tzinfo=BERLIN))
+            return Zero(self.files(), lambda: datetime.datetime(2025, 3, 10, 9, tzinfo=BERLIN))
 
         service, other = Service(10, 500, "boot", ()), Service(10, 501, "boot", ())
         first = zero()
         self.assertTrue(first.connected(service, False))
         first.was_set("anna")
+        self.assertTrue(await first.files.bring())
         again = zero()  # the counter was started again, the service wasn't
         self.assertFalse(again.connected(service, True))
         self.assertEqual((True, "anna"), (again.shown()["known"], again.shown()["by"]))
@@ -214,13 +221,13 @@ class Kept(unittest.TestCase):
         self.assertFalse(again.shown()["known"])
 
     def test_without_a_process_a_refused_connection_is_a_start(self):
-        zero = Zero(self.files, lambda: datetime.datetime(2025, 3, 10, 9, tzinfo=BERLIN))
+        zero = Zero(self.files(), lambda: datetime.datetime(2025, 3, 10, 9, tzinfo=BERLIN))
         zero.was_set("")
         self.assertFalse(zero.connected(None, False))
         self.assertTrue(zero.connected(None, True))
 
     def test_a_program_that_another_user_could_put_there_is_not_run(self):
-        program, asked = self.files.path("program"), self.files.path("asked")
+        program, asked = self.folder / "program", self.folder / "asked"
         program.write_text(f"#!/bin/sh\necho 1.2.3\ntouch {asked}\n")
         for folder, own, user, version in (
             (0o755, 0o755, None, "1.2.3"),

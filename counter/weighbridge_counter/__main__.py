@@ -2,6 +2,7 @@
 
 import argparse
 import asyncio
+import contextlib
 import signal
 import sys
 from pathlib import Path
@@ -17,6 +18,7 @@ from .setup import Setup, read_setup
 
 FOLDER = Path(__file__).resolve().parent.parent
 END_OF_ACT_WITHIN = 3.0  # seconds
+END_OF_FILES_WITHIN = 1.0
 ABOUT = """Stands between the service of a weighbridge and everybody: holds its one terminal, and gives pages, tills, displays and monitoring what they ask.
 It judges nothing and stores nothing legal, and may be killed at any time."""
 EXAMPLE = """example:
@@ -51,6 +53,8 @@ async def serve(setup: Setup) -> None:
     if counter.acts.tasks:
         await asyncio.wait(counter.acts.tasks, timeout=END_OF_ACT_WITHIN)
     await asyncio.get_running_loop().run_in_executor(None, counter.printing.end)
+    with contextlib.suppress(asyncio.TimeoutError):
+        await asyncio.wait_for(counter.files.bring(), END_OF_FILES_WITHIN)
     if running.done():
         running.result()
 

@@ -4,27 +4,30 @@ Nothing that is stored comes from here: the office judges, and its texts pass by
 """
 
 import asyncio
+import contextlib
 import re
-import sys
 import urllib.parse
 from collections import Counter
-from collections.abc import Awaitable, Callable, Mapping
+from collections.abc import AsyncIterator, Awaitable, Callable, Mapping
 from dataclasses import dataclass
+from typing import ParamSpec
 
 from weighbridge_paper.words import FREE_LINES
 
 from .fanout import Turn
-from .files import Files
+from .files import Files, NoFile, tell
 from .office import NoAnswer, Office
 from .terminal import NotSent, Terminal, Unanswered
 
 ACT_FILE = "act.json"
 BEGIN_WITHIN = 1.0  # seconds: an act that can't begin within them never begins
+INTEND_WITHIN = 1.0  # seconds: an act of which the disk doesn't know within them never begins
 CLEAR_WITHIN = 2.0  # seconds for each of the tries to clear a tare
 CLEAR_TRIES = 3
 TRY_AGAIN_AFTER = 0.3  # seconds
 LOOK_WITHIN = 5.0  # seconds
 TARE = re.compile(r"[1-9]\d{0,6}")
+P = ParamSpec("P")
 NOT_FOR_THE_OFFICE = tuple(f"{it}=".encode() for it in FREE_LINES)  # they stand on paper alone
 
 
@@ -44,10 +47,28 @@ def not_sent(status: int, name: str) -> Told:
 NO_ANSWER = Told(502, b"counter no_answer\n")
 
 
+class Busy(Exception):
+    """Others are at it for too long, so it never began."""
+
+
+@contextlib.asynccontextmanager
+async def in_time(lock: asyncio.Lock) -> AsyncIterator[None]:
+    """Holds a lock. Raises Busy if others keep it."""
+    try:
+        await asyncio.wait_for(lock.acquire(), BEGIN_WITHIN)
+    except asyncio.TimeoutError:
+        raise Busy from None
+    try:
+        yield
+    finally:
+        lock.release()
+
+
 class Acts:
     def __init__(self, terminal: Terminal, office: Office, files: Files, interval: int, counts: Counter[str]) -> None:
         self.terminal, self.office, self.files, self.interval, self.counts = terminal, office, files, interval, counts
-        self.one_at_a_time = asyncio.Lock()
+        self.one_at_a_time, self.one_with_tare = asyncio.Lock(), asyncio.Lock()
+        self.intends = False  # whether the file says that a tare will be set, and it isn't yet
         self.tasks: set[asyncio.Task[None]] = set()
         self.pause: Callable[[float], Awaitable[None]] = asyncio.sleep
         self.may_be_left = files.has(ACT_FILE)  # a tare of an act that didn't come to its end
@@ -62,10 +83,6 @@ class Acts:
 
     async def carry_out(self, target: str, body: bytes) -> Told:
         """Hands a request on to the office. What was begun goes on to its end, also if who asked for it leaves."""
-        try:
-            await asyncio.wait_for(self.one_at_a_time.acquire(), BEGIN_WITHIN)
-        except asyncio.TimeoutError:
-            return not_sent(503, "busy")
         told: asyncio.Future[Told] = asyncio.get_running_loop().create_future()
         task = asyncio.ensure_future(self._act(target, body, told))
         self.tasks.add(task)
@@ -81,71 +98,99 @@ class Acts:
                 body = b"&".join(parts)
             tares = [it[5:].decode("latin-1") for it in parts if it.startswith(b"tare=")]
             if not tares:
-                told.set_result(await self._pass_on(target, body, asked))
+                async with in_time(self.one_at_a_time):
+                    told.set_result(await self._pass_on(target, body, asked))
             elif len(tares) == 1 and TARE.fullmatch(tares[0]) and b"kind=single" in parts:
                 rest = b"&".join(it for it in parts if not it.startswith(b"tare="))
-                await self._weigh_with_tare(target, rest, tares[0], asked, told)
+                async with in_time(self.one_with_tare):
+                    await self._weigh_with_tare(target, rest, tares[0], asked, told)
             else:
                 told.set_result(not_sent(422, "bad_tare"))
+        except Busy:
+            told.set_result(not_sent(503, "busy"))
         except NotSent:
             told.set_result(not_sent(503, "no_terminal"))
-        except OSError as fault:
-            print(f"counter: a file of its own: {fault}", file=sys.stderr, flush=True)
-            if not told.done():
-                told.set_result(not_sent(503, "no_file"))
+        except NoFile:
+            told.set_result(not_sent(503, "no_file"))
         finally:
             if not told.done():
                 told.set_result(NO_ANSWER)
-            self.one_at_a_time.release()
 
     async def _pass_on(self, target: str, body: bytes, asked: Mapping[str, str]) -> Told:
         try:
             answer = await self.office.ask("POST", target, body)
         except NoAnswer:
             self.counts["office_no_answer"] += 1
-            self.on_answer(0, "")
+            self._tell(self.on_answer, 0, "")
             return NO_ANSWER
         name = "stored" if answer.status == 201 else answer.text.partition("\n")[0].replace(" ", "_")
         self.counts[f"office_{name}"] += 1
-        self.on_answer(answer.status, answer.text)
+        self._tell(self.on_answer, answer.status, answer.text)
         if answer.status == 201:
             for take in self.on_text:
-                take(answer.text, asked)
+                self._tell(take, answer.text, asked)
         return Told(answer.status, answer.body)
+
+    def _tell(self, take: Callable[P, None], *what: P.args, **more: P.kwargs) -> None:
+        """Whatever fails at who hears of an answer, the answer goes to who asked."""
+        try:
+            take(*what, **more)
+        except Exception as fault:
+            self.counts["answers_not_taken"] += 1
+            tell(f"an answer of the office went out, and couldn't be taken in here: {repr(fault)[:200]}")
 
     # ---- a tare that belongs to one weighing
 
     async def _weigh_with_tare(self, target: str, body: bytes, tare: str, asked: Mapping[str, str], told: "asyncio.Future[Told]") -> None:
-        """`TA`, the weighing, `TAC`. The file tells a next start that a tare may be left; who asked is told before it is cleared."""
-        async with self.terminal.turn(BEGIN_WITHIN, may_settle=True) as turn:
-            try:
+        """`TA`, the weighing, `TAC`. The file tells a next start that a tare may be left, so it is on the disk before anything is set; nobody waits at
+        the terminal or the office for the disk. Who asked is told before the tare is cleared. Raises Busy, NotSent, or NoFile if nothing was done."""
+        if self.terminal.fanout.tare is None:
+            async with self.terminal.turn(BEGIN_WITHIN, may_settle=True) as turn:
+                with contextlib.suppress(Unanswered):
+                    await self.terminal.ask(turn, "TA")
+        if self.terminal.fanout.tare != 0:
+            told.set_result(self._tare_in_force())
+            return
+        self.intends = True
+        try:
+            await self.files.write(ACT_FILE, {"kg": int(tare)}, INTEND_WITHIN)
+            async with in_time(self.one_at_a_time), self.terminal.turn(BEGIN_WITHIN, may_settle=True) as turn:
                 refusal = await self._set_tare(turn, tare)
-            except Unanswered:
-                self.may_be_left = self.files.has(ACT_FILE)
-                refusal = not_sent(503, "no_terminal")
-            if refusal is not None:
-                told.set_result(refusal)
-                return
-            try:
-                told.set_result(await self._pass_on(target, body, asked))
-            finally:
-                await self._clear_tare(turn)
+                if refusal is not None:
+                    told.set_result(refusal)
+                    return
+                try:
+                    told.set_result(await self._pass_on(target, body, asked))
+                finally:
+                    await self._clear_tare(turn)
+        finally:
+            if self.intends:  # nothing was set
+                self.intends = False
+                self.files.keep(ACT_FILE, None)
+
+    def _tare_in_force(self) -> Told:
+        return not_sent(503, "no_terminal") if self.terminal.fanout.tare is None else not_sent(409, "tare_set")
 
     async def _set_tare(self, turn: Turn, tare: str) -> Told | None:
+        """Why it isn't set; None if it is. Raises NotSent."""
         if self.terminal.fanout.tare is None:
-            await self.terminal.ask(turn, "TA")
+            with contextlib.suppress(Unanswered):
+                await self.terminal.ask(turn, "TA")
         if self.terminal.fanout.tare != 0:
-            return not_sent(409, "tare_set")
-        self.files.write(ACT_FILE, {"kg": int(tare)})
+            return self._tare_in_force()
+        self.intends = False  # from here on it may be set
         try:
             reply = await self.terminal.ask(turn, f"TA {tare} kg")
         except NotSent:
-            self.files.remove(ACT_FILE)
+            self.intends = True
             raise
-        if not reply[0].startswith("TA A"):
-            self.files.remove(ACT_FILE)
-            return not_sent(409, "tare_refused")
-        return None
+        except Unanswered:
+            self.may_be_left = True  # the next connection finds out
+            return not_sent(503, "no_terminal")
+        if reply[0].startswith("TA A"):
+            return None
+        self.intends = True
+        return not_sent(409, "tare_refused")
 
     async def _clear_tare(self, turn: Turn) -> None:
         for _ in range(CLEAR_TRIES):
@@ -158,7 +203,7 @@ class Acts:
         self.may_be_left = True  # the next connection clears it
 
     def _is_over(self) -> None:
-        self.files.remove(ACT_FILE)
+        self.files.keep(ACT_FILE, None)
         self.may_be_left = False
 
     # ---- a new connection
@@ -174,7 +219,8 @@ class Acts:
                     if self._is_left_behind():
                         await self.terminal.ask(turn, "TAC")
                         self.counts["tares_cleared"] += 1
-                    self._is_over()
+                    if not self.intends:
+                        self._is_over()
                     self.terminal.fanout.settle()
                     return
             except (NotSent, Unanswered):
@@ -184,7 +230,7 @@ class Acts:
         tare, before = self.terminal.fanout.tare, self.terminal.fanout.doubtful_tare
         if not tare:
             return False
-        kept = self.files.read(ACT_FILE)
+        kept = None if self.intends else self.files.read(ACT_FILE)
         if isinstance(kept, dict) and isinstance(kept.get("kg"), int) and abs(tare - kept["kg"]) < self.interval:
             return True
         return before is not None and tare != before

@@ -60,13 +60,16 @@ class Counter:
         self.terminal.fanout.on_zero = self._zero_answered
         self.acts.on_text += [self.printing.passed, self.books.passed]
         self.printing.on_change = self._tell_papers
+        self.files.on_change = self.tell_state
         self.acts.on_answer = self.books.answered
         self.books.on_lists = lambda: self.pages.tell("lists", self.lists())
         self.books.on_entry = self._take_entry
         self.books.is_empty = self._is_empty
 
     async def run(self) -> None:
-        await asyncio.gather(self.terminal.run(), self.books.run(), self._tell_regularly(), self._look_for_another(), self.printing.run())
+        await asyncio.gather(
+            self.terminal.run(), self.books.run(), self._tell_regularly(), self._look_for_another(), self.printing.run(), self.files.run()
+        )
 
     def now(self) -> datetime.datetime:
         return datetime.datetime.now(self.setup.zone)
@@ -178,6 +181,7 @@ class Counter:
             "office": self.books.state,
             "lists_whole": self.books.is_whole(),
             "tare_left": self.acts.may_be_left,
+            "files_written": not self.files.faults,
             "busy": self.acts.is_busy(),
         }
 

@@ -35,6 +35,7 @@ def faults_of(counter: Counter) -> list[str]:
         "tare_left": state["tare_left"],
         "lists": not state["lists_whole"],
         "papers": counter.printing.faults(),
+        "files": not state["files_written"],
         "program_changed": counter.program.get("changed_since") is True,
     }
     return [name for name, is_so in found.items() if is_so]
@@ -52,6 +53,7 @@ def health_of(counter: Counter) -> dict[str, Any]:
         "state": counter.state(),
         "service": service_of(counter),
         "newest": newest_of(counter),
+        "files": {str(counter.files.path(name)): why for name, why in sorted(counter.files.faults.items())},
     }
 
 
@@ -74,6 +76,7 @@ def metrics_of(counter: Counter) -> str:
         "newest_entry": ("Number of the newest entry.", books.lists.last),
         "on_site": ("Vehicles that were weighed in, and not out.", len(books.lists.open)),
         "export_seconds": ("Time that the last export and its reading took.", books.export_seconds),
+        "files_written": ("1 if the disk took each file of the counter's own.", not counter.files.faults),
         "papers_waiting": ("Papers that wait for a printer, or failed.", len(counter.printing.jobs)),
         "pages": ("Event streams that are open.", len(counter.pages.open)),
         "service_start_seconds": ("Start of the service, in seconds since 1970.", counter.service.started_at() if counter.service else None),

@@ -3,7 +3,6 @@
 import asyncio
 import contextlib
 import re
-import sys
 import threading
 from collections.abc import Callable, Mapping
 from concurrent.futures import ThreadPoolExecutor
@@ -17,9 +16,11 @@ from weighbridge_paper.spool import Job, Spool
 from weighbridge_paper.text import NoText, check_digests, read_text
 from weighbridge_paper.words import LANGUAGES
 
+from .files import tell
 from .setup import Setup
 
 TRY_EVERY = 1.0  # seconds
+SLOW_AFTER = 5.0  # seconds: a disk that takes longer is a fault
 END_WITHIN = 3.0  # seconds for a paper that is being printed at the end
 MOST_SHOWN = 100
 SHOWN = ("waits", "begun", "failed")
@@ -37,7 +38,7 @@ def papers_of(setup: Setup) -> Papers:
 class Printing:
     def __init__(self, papers: Papers, digest_of: Callable[[int], str | None]) -> None:
         self.papers, self.digest_of = papers, digest_of
-        self.spool = Spool(papers.spool)
+        self.spool = Spool(papers.spool, is_opened=False)  # a disk that takes nothing keeps nobody from weighing
         self.notes = ThreadPoolExecutor(1, "papers")  # one after another, in the order in which they were asked for
         self.something, self.is_over = [threading.Event() for _ in papers.printers], threading.Event()
         self.threads: list[threading.Thread] = []
@@ -62,10 +63,22 @@ class Printing:
             self.threads.append(threading.Thread(target=self._work, args=(worker, something), name=printer.name, daemon=True))
             self.threads[-1].start()
         changed.set()
+        probing = asyncio.ensure_future(self._probe())
+        try:
+            while True:
+                await changed.wait()
+                changed.clear()
+                await self._show()
+        finally:
+            probing.cancel()
+
+    async def _probe(self) -> None:
+        """Whether papers can be noted again."""
         while True:
-            await changed.wait()
-            changed.clear()
-            await self._show()
+            await asyncio.sleep(TRY_EVERY)
+            if self.fault:
+                with contextlib.suppress(OSError):
+                    await self._beside(self.spool.probe)
 
     def _work(self, worker: Worker, something: threading.Event) -> None:
         said = ""
@@ -74,10 +87,12 @@ class Printing:
             try:
                 while not self.is_over.is_set() and worker.turn(self.is_over.is_set):
                     pass
+                if said:
+                    tell(f"printer {worker.printer.name}: it is served again")
                 said = ""
             except Exception as fault:  # a printer never ends the counter
-                if said != (said := f"counter: printer {worker.printer.name}: {fault!r}"):
-                    print(said, file=sys.stderr, flush=True)
+                if said != (said := f"printer {worker.printer.name}: {fault!r}"):
+                    tell(said)
                 worker.on_change()
             something.wait(TRY_EVERY)
 
@@ -89,22 +104,32 @@ class Printing:
         for thread in self.threads:
             thread.join(END_WITHIN)
 
-    async def _beside(self, work: Callable[[], T]) -> T:
-        """Does something with the database beside the event loop. Raises OSError, and says so once."""
+    async def _beside(self, work: Callable[[], T], is_note: bool = True) -> T:
+        """Does something with the database beside the event loop. Raises OSError, and says so once; that it is over, once something was noted."""
+        loop = asyncio.get_running_loop()
+        slow = loop.call_later(SLOW_AFTER, self._fails, f"{self.spool.folder}: the disk takes longer than {SLOW_AFTER:g} s: look at it")
         try:
-            found = await asyncio.get_running_loop().run_in_executor(self.notes, work)
+            found = await loop.run_in_executor(self.notes, work)
         except OSError as fault:
-            if self.fault != str(fault):
-                print(f"counter: {fault}", file=sys.stderr, flush=True)
-            self.fault = str(fault)
-            self.on_change()
+            self._fails(str(fault))
             raise
-        self.fault = ""
+        finally:
+            slow.cancel()
+        if self.fault and is_note:
+            self.fault = ""
+            tell(f"{self.spool.folder}: papers are noted again")
+            self.on_change()
         return found
+
+    def _fails(self, why: str) -> None:
+        if not self.fault:
+            tell(f"{why}. No paper is printed meanwhile; weighing goes on")
+        self.fault = why
+        self.on_change()
 
     async def _show(self) -> None:
         with contextlib.suppress(OSError):
-            self.jobs = await self._beside(self._look)
+            self.jobs = await self._beside(self._look, is_note=False)
         self.on_change()
 
     def _look(self) -> list[dict[str, Any]]:
@@ -129,7 +154,7 @@ class Printing:
             before = self.digest_of(own - 1)
             check_digests(text, {own: asked["key"]} if "key" in asked else {}, {} if before is None else {own - 1: before})
         except NoText as fault:
-            print(f"counter: a text of the office isn't printed: {fault}", file=sys.stderr, flush=True)
+            tell(f"a text of the office isn't printed: {fault}")
             numbers = [int(it) for it in letters.split()[2:3] if re.fullmatch("[0-9]{1,10}", it)]
             self.refused = numbers[0] if numbers else 0
             self.on_change()

@@ -15,6 +15,7 @@ from aiohttp import web
 from weighbridge_paper.text import NoText
 
 from .counter import Counter
+from .files import NoFile
 from .health import health_of, metrics_of
 from .office import Answer, NoAnswer
 from .pages import Page, frame_of
@@ -112,6 +113,8 @@ class Routes:
             return as_text(b"counter late\n", 503, **{"X-Counter": "not_sent"})
         try:
             return await handler(request)
+        except NoFile:
+            return as_json({"why": "no_file"}, 503)
         except OSError:
             if not request.path.startswith(("/papers", "/jobs")):
                 raise
@@ -300,7 +303,7 @@ class Routes:
     async def keep_tare(self, request: web.Request) -> web.StreamResponse:
         try:
             wish = json.loads(await request.read())
-            self.counter.tares.keep(request.match_info["plate"], wish["kg"], request.headers.get("X-Remote-User", ""))
+            await self.counter.tares.keep(request.match_info["plate"], wish["kg"], request.headers.get("X-Remote-User", ""))
         except (ValueError, KeyError, TypeError, RecursionError):
             return as_json({"why": 'send {"kg": a whole number}'}, 422)
         except BadTare as fault:
@@ -309,7 +312,7 @@ class Routes:
         return as_json({})
 
     async def drop_tare(self, request: web.Request) -> web.StreamResponse:
-        self.counter.tares.drop(request.match_info["plate"])
+        await self.counter.tares.drop(request.match_info["plate"])
         self.counter.tell_tares()
         return as_json({})
 

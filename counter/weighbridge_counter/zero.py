@@ -48,4 +48,4 @@ class Zero:
         return self.now().isoformat(timespec="seconds")
 
     def _keep(self) -> None:
-        self.files.write(FILE, {"service": self.service, "is_set": self.is_set, "at": self.at, "by": self.by})
+        self.files.keep(FILE, {"service": self.service, "is_set": self.is_set, "at": self.at, "by": self.by})

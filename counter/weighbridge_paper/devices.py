@@ -247,6 +247,15 @@ class Queue:
 # ---- a folder
 
 
+def sync_folder(folder: Path) -> None:
+    """What was renamed or removed in a folder is so only once the folder itself is on the disk."""
+    it = os.open(folder, os.O_RDONLY | os.O_DIRECTORY)
+    try:
+        os.fsync(it)
+    finally:
+        os.close(it)
+
+
 def put_in_folder(folder: Path, name: str, data: bytes) -> None:
     """A file that is there whole or not at all. Where others may write too, it follows no link of theirs."""
     new = folder / f".{name}.new"
@@ -257,6 +266,7 @@ def put_in_folder(folder: Path, name: str, data: bytes) -> None:
             file.flush()
             os.fsync(file.fileno())
         os.replace(new, folder / name)
+        sync_folder(folder)
     except OSError:
         with contextlib.suppress(OSError):
             new.unlink()

@@ -50,25 +50,40 @@ class Job:
 
 
 class Spool:
-    def __init__(self, folder: Path) -> None:
-        self.folder = folder
+    def __init__(self, folder: Path, is_opened: bool = True) -> None:
+        """Raises OSError if it can't be opened; if that is left for later, only for a folder that is another user's."""
+        self.folder, self.is_made = folder, False
         refuse_strange_root(folder)
-        folder.mkdir(mode=0o700, parents=True, exist_ok=True)
+        if is_opened:
+            with self._open():
+                pass
+
+    def probe(self) -> None:
+        """Writes a transaction that changes nothing. Raises OSError if nothing can be noted."""
         with self._open() as database:
-            for it in TABLES.split(";"):
-                database.execute(it)
-            database.execute("DELETE FROM job WHERE state IN ('printed', 'dropped') AND at < ?", (moment(-KEPT_DAYS),))
+            found = database.execute("PRAGMA user_version").fetchone()[0]
+            database.execute(f"PRAGMA user_version = {1 - int(found != 0)}")
+
+    def _make(self, database: sqlite3.Connection) -> None:
+        for it in TABLES.split(";"):
+            database.execute(it)
+        database.execute("DELETE FROM job WHERE state IN ('printed', 'dropped') AND at < ?", (moment(-KEPT_DAYS),))
 
     @contextlib.contextmanager
     def _open(self) -> Iterator[sqlite3.Connection]:
         """A transaction of its own, on the disk at its end. Raises OSError if the database can't be read or written."""
         path = self.folder / "papers.db"
+        if not self.is_made:
+            self.folder.mkdir(mode=0o700, parents=True, exist_ok=True)
         try:
             with contextlib.closing(sqlite3.connect(path, timeout=BUSY_WITHIN, isolation_level=None)) as database:
                 database.execute("PRAGMA synchronous = EXTRA")
                 database.execute("BEGIN IMMEDIATE")
+                if not self.is_made:
+                    self._make(database)
                 yield database
                 database.execute("COMMIT")
+                self.is_made = True
         except sqlite3.Error as fault:
             raise OSError(f"{path}: {fault}: look at the disk; if the file is broken, move it away") from None
 
