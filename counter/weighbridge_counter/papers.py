@@ -47,6 +47,10 @@ class Printing:
         self.jobs: list[dict[str, Any]] = []
         self.fault = ""  # why nothing can be noted
         self.on_change: Callable[[], None] = lambda: None
+        try:
+            self.spool.open()
+        except OSError as fault:
+            self._fails(str(fault))
 
     # ---- what runs
 

@@ -55,8 +55,12 @@ class Spool:
         self.folder, self.is_made = folder, False
         refuse_strange_root(folder)
         if is_opened:
-            with self._open():
-                pass
+            self.open()
+
+    def open(self) -> None:
+        """Makes what isn't there yet. Raises OSError."""
+        with self._open():
+            pass
 
     def probe(self) -> None:
         """Writes a transaction that changes nothing. Raises OSError if nothing can be noted."""
