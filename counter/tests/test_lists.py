@@ -132,13 +132,6 @@ class TheLists(unittest.TestCase):
         lists = Lists.of_export(BERLIN, export(ROW))
         self.assertEqual([False, True, False], [lists.passed(it)[1] for it in (SLIP, slip(2, "FIRST", "EF-56"), slip(2, "FIRST", "EF-56"))])
 
-    def test_what_passes_while_an_export_is_made_stays(self):
-        before = Lists.of_export(BERLIN, export(ROW))
-        before.passed(slip(2, "FIRST", "EF-56"))
-        after = Lists.of_export(BERLIN, export(ROW)).with_passed(before)
-        self.assertEqual((["EF-56", "AB-12"], True), ([it["plate"] for it in after.on_site()], after.is_whole))
-        self.assertEqual(slip(2, "FIRST", "EF-56"), after.slip_again(2)[0])
-
     def test_today_is_the_day_of_the_zone(self):
         lists = Lists.of_export(
             BERLIN, export(row(1, "first", "A", 1000, at="2025-03-09 22:59:00"), row(2, "first", "B", 1000, at="2025-03-09 23:01:00"))

@@ -64,7 +64,7 @@ class ManyAskers(unittest.IsolatedAsyncioTestCase):
         first = [asyncio.ensure_future(books.export_of_now()) for _ in range(20)]
         await asyncio.sleep(0.02)
         later = [asyncio.ensure_future(books.export_of_now()) for _ in range(20)]
-        self.assertEqual([b"1"] * 20 + [b"2"] * 20, [(await it).body for it in first + later])
+        self.assertEqual([b"1"] * 20 + [b"2"] * 20, [(await it)[0].body for it in first + later])
         self.assertEqual((2, 1), (office.all, office.most))
         self.assertGreater(time.monotonic() - began, (1 + REST + 1) * 0.05)
 

@@ -66,6 +66,11 @@ async function clearTare() {
   focusPlate();
 }
 
+async function closeJournalBar() {
+  await askJson('POST', '/lists/seen', '');
+  focusPlate();
+}
+
 async function printNumber(number, byBrowser = false) {
   const isAtPrinter = await print(number, known.papers.printers, byBrowser);
   if (isAtPrinter === null) tell('bad', 'not_printed');
@@ -197,7 +202,7 @@ function typed() {
 }
 
 Object.assign(acts, {
-  set_zero: setZero, clear_tare: clearTare, print: printResult, print_number: printNumber, show_papers: openPapers, keep_tare: keepTareOf, tare_from_papers: askTare, given_lines: askGiven, first_instead: weighFirstInstead,
+  set_zero: setZero, clear_tare: clearTare, journal_seen: closeJournalBar, print: printResult, print_number: printNumber, show_papers: openPapers, keep_tare: keepTareOf, tare_from_papers: askTare, given_lines: askGiven, first_instead: weighFirstInstead,
   withdraw: of => begin('/voids', { plate: of }), take, answer, clear: clearPlate, focus: focusPlate,
 });
 

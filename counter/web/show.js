@@ -116,6 +116,7 @@ function alarmsOf({ link, state, papers }) {
   if (state.tare_left) alarms.push({ look: 'bad', text: t('tare_left') });
   if (state.office === 'store') alarms.push({ look: 'bad', text: t('store_closed') });
   if (state.office === 'no_answer' && link === 'up') alarms.push({ look: 'bad', text: t('office_silent') });
+  if (state.journal_changed) alarms.push({ look: 'bad', text: t(`journal_${state.journal_changed.why}`, state.journal_changed), choice: 'journal_seen' });
   if (state.files_written === false) alarms.push({ look: 'bad', text: t('files_unwritten') });
   if (papers.is_writable === false) alarms.push({ look: 'bad', text: t('papers_unwritable') });
   if (papers.refused !== null) alarms.push({ look: 'bad', text: t('paper_refused', { number: papers.refused }) });

@@ -1,14 +1,16 @@
 """Keeps the lists true: an export at the start, what passes, and another export if something is missing, made while nobody stands on the bridge."""
 
 import asyncio
+import datetime
 import time
 import zoneinfo
 from collections import Counter
 from collections.abc import Callable, Mapping
 
+from .journal import SHORTER, Journal, Known, changed_by, why_another
 from .lists import Lists
 from .office import Answer, NoAnswer, Office
-from .slips import Entry, NoText
+from .slips import Entry, NoText, serial_of_text
 
 LOOK_EVERY = 0.25  # seconds
 EMPTY_FOR = 3.0  # seconds: so long the bridge is empty before an export is asked for, since it holds up the office
@@ -21,15 +23,16 @@ REST = 4  # times as long as an export took the office does other things before 
 
 
 class Books:
-    def __init__(self, office: Office, zone: zoneinfo.ZoneInfo, counts: Counter[str]) -> None:
+    def __init__(self, office: Office, zone: zoneinfo.ZoneInfo, counts: Counter[str], journal: Journal | None = None) -> None:
         self.office, self.zone, self.counts = office, zone, counts
-        self.lists = Lists(zone)
+        self.lists, self.journal = Lists(zone), journal or Journal()
+        self.places = 0  # texts that passed
         self.state = "ok"  # of the office: ok, store (its journal can't be read or written), no_answer
         self.wants_export = True
         self.tried_at = self.read_at = self.probed_at = 0.0
         self.export_seconds = self.rest_until = 0.0
         self.one_export = asyncio.Lock()
-        self.next_export: asyncio.Future[Answer] | None = None
+        self.next_export: asyncio.Future[tuple[Answer, int]] | None = None
         self.is_empty: Callable[[], bool] = lambda: False
         self.on_lists: Callable[[], None] = lambda: None
         self.on_entry: Callable[[Entry], None] = lambda entry: None
@@ -40,15 +43,33 @@ class Books:
     # ---- what passes
 
     def passed(self, text: str, asked: Mapping[str, str]) -> None:
+        self.places += 1
         try:
-            entry, is_new = self.lists.passed(text)
-        except NoText:
+            entry, is_new = self._take(text, self.places)
+        except (NoText, ValueError):
             self.wants_export = True
             return
         if is_new:
             self.on_entry(entry)
+
+    def _take(self, text: str, place: int) -> tuple[Entry, bool]:
+        """A text of another journal than that of the lists begins them again: the office answers of no other than its own."""
+        is_another, known = self.lists.contradicts(text), self.lists.known(place)
+        if is_another:
+            self.lists = Lists(self.zone)
+        entry, is_new = self.lists.passed(text, place)
+        if is_another:
+            self._begin_again(SHORTER if entry.number < known.last else changed_by(known, serial_of_text(text)), known)
+            self.on_lists()
+        if is_another or (is_new and self.lists.is_of_export):
+            self.journal.keep(self.lists.known(place))
         if not self.lists.is_whole:
             self.wants_export = True
+        return entry, is_new
+
+    def _begin_again(self, why: str, known: Known) -> None:
+        self.counts["lists_begun_again"] += 1
+        self.journal.is_another(why, known, self.lists.last, datetime.datetime.now(self.zone).isoformat(timespec="seconds"))
 
     def answered(self, status: int, text: str) -> None:
         """What the office's answer says of it, and of these lists."""
@@ -74,36 +95,53 @@ class Books:
     async def read_anew(self) -> None:
         self.tried_at = began = time.monotonic()
         try:
-            answer = await self.export_of_now()
+            answer, place = await self.export_of_now()
             self.state = "store" if answer.status == 503 else "ok"
             if answer.status != 200:
                 return
-            read = await asyncio.get_running_loop().run_in_executor(None, Lists.of_export, self.zone, answer.text)
+            known = self.lists.known(place) if self.lists.is_of_export else self.journal.kept
+            read, why = await asyncio.get_running_loop().run_in_executor(None, self._read, answer.text, known)
         except NoAnswer:
             self.state = "no_answer"
             return
         except (NoText, ValueError):
             self.counts["exports_not_understood"] += 1
             return
-        self.lists = read.with_passed(self.lists)
-        self.wants_export = not self.lists.is_whole
+        self._take_export(read, why, known, place)
         self.read_at = time.monotonic()
         self.export_seconds = self.read_at - began
         self.counts["exports"] += 1
+
+    def _read(self, export: str, known: Known) -> tuple[Lists, str | None]:
+        """It runs in a thread of its own."""
+        read = Lists.of_export(self.zone, export)
+        return read, why_another(known, read.rows)
+
+    def _take_export(self, read: Lists, why: str | None, known: Known, place: int) -> None:
+        """The lists are those of an export and of each text that passed after it was asked for. What passed before is in the export, or in no journal."""
+        older, self.lists = self.lists, read
+        self.lists.with_texts_of(older)
+        self.wants_export = False
+        if why is not None:
+            self._begin_again(why, known)
+        self.journal.keep(self.lists.known(place))
+        for at, text in older.passed_since(place):
+            self._take(text, at)
         self.on_lists()
 
-    async def export_of_now(self) -> Answer:
-        """An export that begins after it is asked for: one for all who wait for it, and seldom, since it holds up the office. Raises NoAnswer."""
+    async def export_of_now(self) -> tuple[Answer, int]:
+        """An export that begins after it is asked for, and how many texts had passed before: one for all who wait for it, and seldom, since it holds up
+        the office. Raises NoAnswer."""
         if self.next_export is None:
             self.next_export = asyncio.ensure_future(self._export())
         return await asyncio.shield(self.next_export)
 
-    async def _export(self) -> Answer:
+    async def _export(self) -> tuple[Answer, int]:
         async with self.one_export:
             await asyncio.sleep(self.rest_until - time.monotonic())
-            self.next_export, began = None, time.monotonic()  # who asks from now on gets a later one
+            self.next_export, began, place = None, time.monotonic(), self.places  # who asks from now on gets a later one
             try:
-                return await self.office.ask("GET", "/journal.csv", within=EXPORT_WITHIN)
+                return await self.office.ask("GET", "/journal.csv", within=EXPORT_WITHIN), place
             finally:
                 self.rest_until = time.monotonic() + REST * (time.monotonic() - began)
 

@@ -9,6 +9,7 @@ from typing import Any
 from .acts import Acts
 from .books import Books
 from .files import Files
+from .journal import Journal
 from .off_zero import MIN_INTERVALS, OffZero
 from .office import NoAnswer, Office
 from .pages import FASTEST, SLOWEST, Pages
@@ -35,7 +36,7 @@ class Counter:
         self.office = Office(setup.office)
         self.files = Files(setup.state)
         self.acts = Acts(self.terminal, self.office, self.files, setup.interval, self.counts)
-        self.books = Books(self.office, setup.zone, self.counts)
+        self.books = Books(self.office, setup.zone, self.counts, Journal(self.files))
         self.printing = Printing(papers_of(setup), lambda number: self.books.lists.digest_of(number))
         self.pages = Pages()
         self.tares = Tares(self.files, lambda: self.now().date(), setup.tare_days, setup.max)
@@ -60,6 +61,7 @@ class Counter:
         self.terminal.fanout.on_zero = self._zero_answered
         self.acts.on_text += [self.printing.passed, self.books.passed]
         self.printing.on_change = self._tell_papers
+        self.printing.on_unlinked = self._miss_entries
         self.files.on_change = self.tell_state
         self.acts.on_answer = self.books.answered
         self.books.on_lists = lambda: self.pages.tell("lists", self.lists())
@@ -141,6 +143,10 @@ class Counter:
         lists = self.books.lists
         self.pages.tell("entry", {"entry": lists.shown(entry.number), "on_site": lists.on_site(), "weighed_near": lists.near.shown()})
 
+    def _miss_entries(self) -> None:
+        """A text doesn't follow upon the newest entry of the lists."""
+        self.books.wants_export = True
+
     # ---- commands of pages
 
     async def set_zero(self, by: str) -> str:
@@ -181,6 +187,7 @@ class Counter:
             "office": self.books.state,
             "lists_whole": self.books.is_whole(),
             "tare_left": self.acts.may_be_left,
+            "journal_changed": self.books.journal.told,
             "files_written": not self.files.faults,
             "busy": self.acts.is_busy(),
         }

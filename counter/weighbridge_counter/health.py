@@ -34,6 +34,7 @@ def faults_of(counter: Counter) -> list[str]:
         "zero": not state["zero"]["known"],
         "tare_left": state["tare_left"],
         "lists": not state["lists_whole"],
+        "journal_changed": state["journal_changed"] is not None,
         "papers": counter.printing.faults(),
         "files": not state["files_written"],
         "program_changed": counter.program.get("changed_since") is True,

@@ -4,8 +4,9 @@ import datetime
 import zoneinfo
 from typing import Any
 
+from .journal import Known
 from .near import Near
-from .slips import Entry, entry_of_row, entry_of_text, rows_of, slip_of_row
+from .slips import Entry, digest_of_row, digest_of_text, entry_of_row, entry_of_text, rows_of, serial_of_row, serial_of_text, slip_of_row
 
 MOST_TEXTS = 2000  # that are kept as they passed
 MOST_TODAY = 1000
@@ -18,6 +19,9 @@ class Lists:
         self.entries: dict[int, Entry] = {}
         self.rows: dict[int, str] = {}  # of the export, for a slip again
         self.texts: dict[int, str] = {}  # as they passed
+        self.places: dict[int, int] = {}  # of each text among all that passed
+        self.first: int | None = None  # the first number of the export that they are made of
+        self.is_of_export = False
         self.open: dict[str, int] = {}  # the number of the open First of a plate
         self.partner: dict[int, int] = {}
         self.by_plate: dict[str, list[int]] = {}
@@ -35,28 +39,42 @@ class Lists:
             entry = entry_of_row(row)
             made.rows[entry.number] = row
             made._take(entry)
-        made.is_whole = True
+        made.first = min(made.rows, default=None)
+        made.is_whole = made.is_of_export = True
         made.near.shown()  # in this thread, where it holds up nothing
         return made
 
-    def with_passed(self, older: "Lists") -> "Lists":
-        """These lists with what passed while their export was made."""
-        for number, text in older.texts.items():
-            if number in self.entries:
-                self.texts[number] = text
-            elif number > self.last:
-                self.passed(text)
-        return self
+    def known(self, until: int) -> Known:
+        """What these lists know of the journal, by their export and by the first texts that passed. Another thread may look at it."""
+        texts = {number: text for number, text in self.texts.items() if self.places[number] <= until}
+        last = max(next(reversed(self.rows), 0), max(texts, default=0))  # an export's rows come by their numbers
+        serial = serial_of_text(texts[last]) if last in texts else serial_of_row(self.rows[last]) if last else None
+        return Known(self.rows, {number: digest_of_text(text) for number, text in texts.items()}, self.first, last, serial)
 
-    def passed(self, text: str) -> tuple[Entry, bool]:
+    def with_texts_of(self, older: "Lists") -> None:
+        """Keeps the texts that passed, of the entries that these lists have, too."""
+        for number, text in older.texts.items():
+            if number in self.rows and digest_of_row(self.rows[number]) == digest_of_text(text):
+                self.texts[number], self.places[number] = text, older.places[number]
+
+    def passed_since(self, place: int) -> list[tuple[int, str]]:
+        """The texts that passed after a place, in their order."""
+        return sorted((self.places[number], text) for number, text in self.texts.items() if self.places[number] > place)
+
+    def contradicts(self, text: str) -> bool:
+        """Whether the entry of a text is here with another digest, so that the text is of another journal."""
+        return self.digest_of(entry_of_text(text).number) not in (None, digest_of_text(text))
+
+    def passed(self, text: str, place: int = 0) -> tuple[Entry, bool]:
         """Takes a text that the office answered with 201. Gives its entry, and whether it is new here."""
         entry = entry_of_text(text)
-        self.texts[entry.number] = text
+        self.texts[entry.number], self.places[entry.number] = text, place
         while len(self.texts) > MOST_TEXTS:
-            del self.texts[next(iter(self.texts))]
+            oldest = next(iter(self.texts))
+            del self.texts[oldest], self.places[oldest]
         if entry.number in self.entries:
             return entry, False
-        if entry.number > self.last + 1:
+        if entry.number != self.last + 1:
             self.is_whole = False
         if entry.kind == "second" and self.open.get(entry.plate) != entry.first:
             self.is_whole = False
@@ -79,8 +97,8 @@ class Lists:
     def digest_of(self, number: int) -> str | None:
         """The digest of an entry, as it passed or as the export has it."""
         if number in self.texts:
-            return self.texts[number].rpartition("DIGEST ")[2][:64]
-        return self.rows[number].split(",")[10] if number in self.rows else None
+            return digest_of_text(self.texts[number])
+        return digest_of_row(self.rows[number]) if number in self.rows else None
 
     # ---- what is shown
 

@@ -13,7 +13,7 @@ from weighbridge_paper.page import page_of
 from weighbridge_paper.printers import Papers
 from weighbridge_paper.printing import Worker
 from weighbridge_paper.spool import Job, Spool
-from weighbridge_paper.text import NoText, check_digests, read_text
+from weighbridge_paper.text import ZEROS, NoText, Text, check_digests, read_text
 from weighbridge_paper.words import LANGUAGES
 
 from .files import tell
@@ -47,6 +47,7 @@ class Printing:
         self.jobs: list[dict[str, Any]] = []
         self.fault = ""  # why nothing can be noted
         self.on_change: Callable[[], None] = lambda: None
+        self.on_unlinked: Callable[[], None] = lambda: None
         try:
             self.spool.open()
         except OSError as fault:
@@ -155,8 +156,7 @@ class Printing:
         try:
             text = read_text(letters)
             own = text.own.number
-            before = self.digest_of(own - 1)
-            check_digests(text, {own: asked["key"]} if "key" in asked else {}, {} if before is None else {own - 1: before})
+            self._check(text, {own: asked["key"]} if "key" in asked else {}, self.digest_of(own - 1))
         except NoText as fault:
             tell(f"a text of the office isn't printed: {fault}")
             numbers = [int(it) for it in letters.split()[2:3] if re.fullmatch("[0-9]{1,10}", it)]
@@ -172,6 +172,17 @@ class Printing:
 
         with contextlib.suppress(OSError):
             await self._noted(note)
+
+    def _check(self, text: Text, keys: Mapping[int, str], before: str | None) -> None:
+        """Whether the text's digest is that of its fields. Where all was purged, the entry before is none any more. Raises NoText."""
+        own = text.own.number
+        try:
+            check_digests(text, keys, {} if before is None else {own - 1: before})
+        except NoText:
+            self.on_unlinked()
+            if before is None:
+                raise
+            check_digests(text, keys, {own - 1: ZEROS})
 
     async def _noted(self, note: Callable[[], T]) -> T:
         found = await self._beside(note)

@@ -91,6 +91,7 @@ class Routes:
                 web.put("/tares/{plate}", self.keep_tare),
                 web.delete("/tares/{plate}", self.drop_tare),
                 web.post("/lists/refresh", self.refresh),
+                web.post("/lists/seen", self.seen),
                 web.get("/health", self.health),
                 web.get("/metrics", self.metrics),
             ]
@@ -286,7 +287,7 @@ class Routes:
     async def key(self, request: web.Request) -> web.StreamResponse:
         """Whether an entry of the journal has the key, by an export of now: that stores nothing."""
         try:
-            answer = await self.counter.books.export_of_now()
+            answer, _ = await self.counter.books.export_of_now()
             if answer.status != 200:
                 return as_json({"found": None}, 503)
             look = functools.partial(has_key, answer.text, request.match_info["key"])
@@ -297,6 +298,12 @@ class Routes:
     async def refresh(self, request: web.Request) -> web.StreamResponse:
         self.counter.books.wants_export = True
         return as_json({}, 202)
+
+    async def seen(self, request: web.Request) -> web.StreamResponse:
+        """A clerk has read that the lists were begun again."""
+        self.counter.books.journal.seen()
+        self.counter.tell_state()
+        return as_json({})
 
     # ---- kept tares
 

@@ -7,6 +7,7 @@ from dataclasses import dataclass
 
 FIELDS = ("number", "key", "kind", "plate", "moment", "gross_kg", "preset_kg", "interval_kg", "max_kg", "serial", "digest", "previous")
 HEADER = ",".join(FIELDS)
+ZEROS = "0" * 64  # the previous digest of a journal's first entry, and of the first after a purge of all
 HEAD = re.compile(r"WEIGHING (?:SLIP|TICKET) (\d+)\nPLATE (\S+)\n")
 BLOCK = re.compile(r"^(FIRST|SECOND|SINGLE|VOID) NO (\d+)\nAT (.{19})\n(?:G +(\d+) kg\n)?(?:PT +(\d+) kg\n)?", re.M)
 
@@ -70,6 +71,27 @@ def fields_of(row: str) -> list[str]:
     if len(parts) != len(FIELDS):
         raise NoText(row[:40])
     return parts
+
+
+def digest_of_row(row: str) -> str:
+    return row.rsplit(",", 2)[1]
+
+
+def previous_of_row(row: str) -> str:
+    return row.rsplit(",", 1)[1]
+
+
+def serial_of_row(row: str) -> str:
+    return row.rsplit(",", 3)[1]
+
+
+def digest_of_text(text: str) -> str:
+    """The digest of the entry that a text was made for: its own block is the last."""
+    return text.rpartition("DIGEST ")[2][:64]
+
+
+def serial_of_text(text: str) -> str:
+    return text.rpartition(" SERIAL ")[2].partition("\n")[0]
 
 
 def slip_of_row(row: str) -> str | None:
