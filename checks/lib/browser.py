@@ -108,13 +108,11 @@ class Browser:
             time.sleep(every)
         self.key_event(name, is_down=False)
 
-    def hammer(self, name, times, seconds):
-        """Presses a key so often within so long."""
-        began = time.monotonic()
-        for it in range(times):
-            time.sleep(max(0, began + it * seconds / times - time.monotonic()))
-            self.key_event(name)
-            self.key_event(name, is_down=False)
+    def hammer(self, text, pause):
+        """Types as `keys`, with so many seconds between two keys, as the driver keeps them."""
+        wait = {"type": "pause", "duration": round(1000 * pause)}
+        actions = [action for it in text for action in ({"type": "keyDown", "value": it}, {"type": "keyUp", "value": it}, wait)]
+        self.call("POST", "/actions", {"actions": [{"type": "key", "id": "keyboard", "actions": actions}]})
 
     def click_at(self, x, y, count=1):
         """A click of the mouse at a point of the window, or so many at once: a double click is two."""

@@ -5,10 +5,10 @@ Nothing is stored but what was asked for by its own key, and never a ticket of a
 
 import time
 
-from counter_clerk import ESCAPE, F1, F4, F6, F7, F9, F10, SPACE, TAB, Clerk, at_of
+from counter_clerk import ENTER, ESCAPE, F1, F4, F6, F7, F9, F10, SPACE, TAB, Clerk, at_of
 from countering import Bridge, becomes, holds, same
 
-DEAF = 0.7  # seconds
+TEN = 10 * ENTER
 KNOWN, NEW, ON_SITE = "RA-KM-1238", "RA-KM-1237", "RA-KM-1236"
 
 
@@ -56,7 +56,7 @@ def a_question_at_each_plate_that_may_be_another(bridge, clerk):
 def enter_answers_no_question(bridge, clerk):
     clerk.keys(ESCAPE + NEW)
     clerk.sees(f"{ON_SITE} is on site.")
-    nothing_comes_of(bridge, clerk, "Enter ten times in a second on a question", lambda: clerk.browser.hammer("Enter", 10, 1), NEW)
+    nothing_comes_of(bridge, clerk, "Enter ten times in a second on a question", lambda: clerk.browser.hammer(TEN, 0.1), NEW)
     nothing_comes_of(bridge, clerk, "Enter held for 1.3 s on a question", lambda: clerk.browser.hold("Enter", 1.3), NEW)
     same("the focus stays at the plate", "plate", clerk.focus())
     for _ in range(6):
@@ -64,7 +64,7 @@ def enter_answers_no_question(bridge, clerk):
             break
         clerk.keys(TAB)
     same("Tab goes to the first answer", f"{ON_SITE} F1", clerk.focus())
-    nothing_comes_of(bridge, clerk, "Enter ten times in a second on an answer", lambda: clerk.browser.hammer("Enter", 10, 1), NEW)
+    nothing_comes_of(bridge, clerk, "Enter ten times in a second on an answer", lambda: clerk.browser.hammer(TEN, 0.1), NEW)
     for key in (F7, F10):
         nothing_comes_of(bridge, clerk, f"the key F{ord(key) - 0xE030} of another question", lambda key=key: clerk.keys(key), NEW)
     clerk.keys(SPACE)
@@ -72,28 +72,26 @@ def enter_answers_no_question(bridge, clerk):
 
 
 def deaf_after_an_answer(bridge, clerk):
-    clerk.keys(ESCAPE + NEW)
-    clerk.sees(f"{ON_SITE} is on site.")
-    clerk.keys(F1)
-    same("its key takes the plate on site", ON_SITE, clerk.plate())
-    nothing_comes_of(bridge, clerk, "Enter right behind an answer", lambda: clerk.browser.hammer("Enter", 1, 0), ON_SITE)
-    clerk.sees("Ready.")
-    clerk.keys(ESCAPE + NEW + F1)
-    nothing_comes_of(bridge, clerk, "Enter ten times in a second behind an answer", lambda: clerk.browser.hammer("Enter", 10, 1), ON_SITE)
-    clerk.sees("Ready.")
-    clerk.keys(ESCAPE + NEW + F1)
-    nothing_comes_of(bridge, clerk, "Enter held for 1.3 s behind an answer", lambda: clerk.browser.hold("Enter", 1.3), ON_SITE)
-    clerk.sees("Ready.")
-    clerk.keys(ESCAPE + NEW + F6)
-    same("the other key leaves the plate", NEW, clerk.plate())
-    nothing_comes_of(bridge, clerk, "Enter right behind the other answer", lambda: clerk.browser.hammer("Enter", 1, 0), NEW)
-    clerk.sees("Ready.", what="and then it is ready to be weighed in")
-    same("as a first weighing", f"Weigh in · {NEW}", clerk.browser.text("#go-words"))
+    for what, act, plate in (
+        ("its key takes the plate on site, and Enter at once", lambda: clerk.keys(F1 + ENTER), ON_SITE),
+        ("Enter ten times in a second behind an answer", lambda: clerk.browser.hammer(F1 + TEN, 0.1), ON_SITE),
+        ("Enter held for 1.3 s behind an answer", lambda: (clerk.keys(F1), clerk.browser.hold("Enter", 1.3)), ON_SITE),
+        ("the other key leaves the plate, and Enter at once", lambda: clerk.keys(F6 + ENTER), NEW),
+    ):
+        clerk.keys(ESCAPE + NEW)
+        clerk.sees(f"{ON_SITE} is on site.")
+        nothing_comes_of(bridge, clerk, what, act, plate)
+        clerk.sees("Ready.", what=f"{what}: and then it is ready")
+    same("to be weighed in", f"Weigh in · {NEW}", clerk.browser.text("#go-words"))
     clerk.keys(ESCAPE + ON_SITE)
     clerk.sees("Ready.")
-    for dialog, act in (("the search", lambda: clerk.keys(F4 + ESCAPE)), ("the list", lambda: clerk.browser.click("#site button"))):
-        act()
-        nothing_comes_of(bridge, clerk, f"Enter right behind {dialog}", lambda: clerk.browser.hammer("Enter", 1, 0), ON_SITE)
+    take = "document.querySelector('#site button').focus()"
+    for what, act in (
+        ("closed search", lambda: clerk.keys(F4 + ESCAPE + ENTER)),
+        ("plate that the list gave", lambda: (clerk.browser.run(take), clerk.keys(ENTER + ENTER))),
+        ("plate that the list gave, ten times in a second", lambda: (clerk.browser.run(take), clerk.browser.hammer(TEN, 0.1))),
+    ):
+        nothing_comes_of(bridge, clerk, f"Enter right behind a {what}", act, ON_SITE)
         clerk.sees("Ready.")
 
 
@@ -132,7 +130,7 @@ def what_was_taken_is_weighed_once(bridge, clerk):
     clerk.sees("Ready.")
     clerk.browser.hold("Enter", 1.3)
     clerk.sees("Ticket 3")
-    clerk.browser.hammer("Enter", 10, 1)
+    clerk.browser.hammer(TEN, 0.1)
     same("then Enter weighs what was taken, once, held and hammered", [("second", ON_SITE)], rows(bridge)[len(before) :])
 
 
@@ -179,14 +177,13 @@ def a_small_net(bridge, clerk):
         clerk.keys(ESCAPE + "HELD-1")
         clerk.sees(f"The net would be only {net} kg.")
         same(f"a net of {net} kg: its answer has a key of its own", ["It is the right one F7"], clerk.answers())
-        for what, act in (("hammered", lambda: clerk.browser.hammer("Enter", 10, 1)), ("held", lambda: clerk.browser.hold("Enter", 1.3))):
+        for what, act in (("hammered", lambda: clerk.browser.hammer(TEN, 0.1)), ("held", lambda: clerk.browser.hold("Enter", 1.3))):
             nothing_comes_of(bridge, clerk, f"a net of {net} kg: Enter {what}", act, "HELD-1")
         nothing_comes_of(bridge, clerk, f"a net of {net} kg: the keys of another question", lambda: clerk.keys(F1 + F6 + F10), "HELD-1")
     before = rows(bridge)
-    clerk.keys(F7)
-    nothing_comes_of(bridge, clerk, "a net of 0 kg: its key, and Enter at once", lambda: clerk.browser.hammer("Enter", 1, 0), "HELD-1")
+    nothing_comes_of(bridge, clerk, "a net of 0 kg: its key, and Enter at once", lambda: clerk.keys(F7 + ENTER), "HELD-1")
     clerk.sees("Ready.", what="a net of 0 kg: its key answers")
-    clerk.browser.hammer("Enter", 1, 0)
+    clerk.keys(ENTER)
     becomes("a net of 0 kg: and then Enter weighs", lambda: rows(bridge)[len(before) :] == [("second", "HELD-1")])
 
 
@@ -232,7 +229,7 @@ def a_single_off_zero(bridge, clerk):
     bridge.put(9170)
     clerk.sees("The bridge showed 160 kg before this vehicle.", what="160 kg before the vehicle: a Single asks first")
     same("its answer has a key of its own", ["Weigh it all the same F10"], clerk.answers())
-    nothing_comes_of(bridge, clerk, "a Single off zero: Enter hammered", lambda: clerk.browser.hammer("Enter", 10, 1), "SINGLE-1")
+    nothing_comes_of(bridge, clerk, "a Single off zero: Enter hammered", lambda: clerk.browser.hammer(TEN, 0.1), "SINGLE-1")
     nothing_comes_of(bridge, clerk, "a Single off zero: Enter held", lambda: clerk.browser.hold("Enter", 1.3), "SINGLE-1")
     nothing_comes_of(bridge, clerk, "a Single off zero: the keys of other questions", lambda: clerk.keys(F1 + F6 + F7), "SINGLE-1")
     clerk.keys(ESCAPE + "FIRST-1")
@@ -253,7 +250,7 @@ def a_single_off_zero(bridge, clerk):
     before = rows(bridge)
     clerk.keys(F10)
     clerk.sees("Ready.")
-    clerk.browser.hammer("Enter", 1, 0)
+    clerk.keys(ENTER)
     becomes("a Single off zero: and then Enter weighs", lambda: rows(bridge)[len(before) :] == [("single", "SINGLE-1")])
 
 

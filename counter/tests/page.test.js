@@ -138,7 +138,7 @@ test('with a key like Ctrl it is the browser\'s', () => {
 
 test('zero, print and search have their keys, Escape clears, letters go into the plate', () => {
   assert.deepEqual(deedOf(key('F9'), 'other', page()), { is: 'clicked', part: 'zero' });
-  assert.deepEqual([deed('Escape', {}), deed('Escape', { isDialog: true })], ['cleared', 'left']);
+  assert.deepEqual([deed('Escape', {}), deed('Escape', { isDialog: true })], ['cleared', 'closing']);
   assert.deepEqual([deed('KeyA', {}, 'other', { key: 'a' }), deed('KeyA', {}, 'field', { key: 'a' }), deed('Space', {}, 'other', { key: ' ' })], ['typed', 'left', 'left']);
 });
 

@@ -28,7 +28,7 @@ export function deedOf(key, on, { answers, isDialog, isDeaf }) {
   const isPlain = !key.ctrlKey && !key.altKey && !key.metaKey && !key.shiftKey;
   const isOurs = isPlain && (key.code in PAGE_KEYS || ANSWERING.has(key.code)), isEnter = key.key === 'Enter';
   if (key.repeat && (isOurs || isEnter || key.key === 'Escape')) return STOP;
-  if (isDialog) return isOurs ? STOP : LEAVE;
+  if (isDialog) return isOurs ? STOP : key.key === 'Escape' ? { is: 'closing' } : LEAVE;
   const answer = isOurs && answers.find(it => it.key === key.code);
   if (answer) return { is: 'answered', answer };
   if (isOurs) return key.code in PAGE_KEYS ? { is: 'clicked', part: PAGE_KEYS[key.code] } : STOP;

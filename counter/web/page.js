@@ -224,10 +224,11 @@ function keyed(event) {
   show();                            // what is asked now
   const at = performance.now();
   const deed = deedOf(event, placeOf(event.target), { answers: clerk.answers, isDialog: isAsking(), isDeaf: clerk.deafness.isDeaf(at) });
-  if (!['left', 'typed'].includes(deed.is)) event.preventDefault();
+  if (!['left', 'typed', 'closing'].includes(deed.is)) event.preventDefault();
   if (deed.is === 'answered') answer(deed.answer);
   if (deed.is === 'clicked') part(deed.part).click();
   if (deed.is === 'deaf') clerk.deafness.pressed(at);
+  if (deed.is === 'closing') beDeaf();          // at once: the event of its end comes later
   if (deed.is === 'cleared') clearPlate();
   if (deed.is === 'typed') part('plate').focus();
 }
