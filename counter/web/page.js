@@ -131,14 +131,7 @@ function weighFirstInstead() {
 
 const isTouched = () => matchMedia('(pointer: coarse)').matches;
 const isAsking = () => document.querySelector('dialog[open]') !== null;
-
-// The caret too: a browser gives a closed dialog's focus back without it, and letters then go nowhere.
-function focusPlate() {
-  if (isAsking() || isTouched()) return;
-  const field = part('plate'), end = field.value.length;
-  field.focus();
-  field.setSelectionRange(end, end);
-}
+const focusPlate = () => { if (!isAsking() && !isTouched()) part('plate').focus(); };
 
 // What was taken over or answered has to be seen before it is weighed.
 function beDeaf() {
@@ -233,6 +226,13 @@ function keyed(event) {
   if (deed.is === 'typed') part('plate').focus();
 }
 
+// A browser gives the focus back to the plate without its caret, and letters would go nowhere: so it is taken off first.
+function closed() {
+  part('plate').blur();
+  beDeaf();
+  focusPlate();
+}
+
 // The form has just changed under the hand: the second click of a double click, or of two, finds another button where the first one stood.
 function clicked(event) {
   const isDeaf = clerk.deafness.isDeaf(performance.now()), isByHand = event.detail > 0;
@@ -272,7 +272,7 @@ function listenToHands() {
   part('theme').addEventListener('click', turnTheme);
   part('serial').addEventListener('click', showRuns);
   for (const it of document.querySelectorAll('.close')) it.addEventListener('click', () => it.closest('dialog').close());
-  for (const it of document.querySelectorAll('dialog')) it.addEventListener('close', () => { beDeaf(); focusPlate(); });
+  for (const it of document.querySelectorAll('dialog')) it.addEventListener('close', closed);
   document.addEventListener('keydown', keyed, { capture: true });
   document.addEventListener('click', clicked, { capture: true });
 }
