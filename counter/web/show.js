@@ -134,7 +134,7 @@ function papersInTrouble({ jobs }) {
 }
 
 const showAlarms = onlyChanged(alarms => {
-  part('alarms').replaceChildren(...alarms.map(it => make('div', { className: it.look }, make('span', { textContent: it.text }), ...(it.choice ? [choiceButton(it.choice)] : []))));
+  part('alarms').replaceChildren(...alarms.map(it => make('div', { className: it.look }, make('span', { textContent: it.text }), ...(it.choice ? [button(t(it.choice), acts[it.choice])] : []))));
 });
 
 const showNote = onlyChanged(text => { part('note').textContent = text; });
