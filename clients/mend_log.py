@@ -1,17 +1,21 @@
 #!/usr/bin/env python3
-"""Mends one flipped bit in the log of a journal, in a copy: for a log that the program refuses since it is damaged.
+"""Mends flipped bits in the log of a journal, one in a frame at most, in a copy: for a log that the program refuses since it is damaged.
 
   clients/mend_log.py /var/lib/weighbridge/journal.db /srv/mended
 
 Every frame of a log has a checksum of all that stands before it. So in the first frame that isn't whole, or in the log's header, each bit is
-turned over by itself. A checksum takes some bits for one another: of several that make the frame whole, and the one behind it, those count with
-which SQLite finds its database whole and verify.py, beside this program, the journal. Where that is exactly one bit, it is taken for the flipped one;
-of several in a page that stands again further on in the log it is the first, since no entry hangs on it.
-The journal's files with it are written into a new folder; the files themselves are only read. What was changed is printed. Show it to the
-inspector, with both copies: a mended journal is evidence like the damaged one.
+turned over by itself, and then in the next one that isn't whole, until all are, eight at most. A checksum takes some bits for one another: of several
+that make the frame whole, and the one behind it, those count with which SQLite finds its database whole and verify.py, beside this program, the
+journal. Where that is exactly one bit, it is taken for the flipped one; of several in a page that stands again further on in the log it is the first,
+since no entry hangs on it.
+
+The journal's files with it are written into a new folder; the files themselves are only read. What was changed is printed. Then the copy is looked
+at as the program does, by its log, its entries and its `-newest` file, and by the program itself if it is named or in the PATH. What is still wrong is
+printed, with status 1. Show it to the inspector, with both copies: a mended journal is evidence like the damaged one.
 
 It needs Python alone, 3.8 or later, and takes some seconds. Stop the service before.
-Status: 0 a mended copy was written, 1 nothing was written, since nothing is damaged or more than one bit is, 2 a file can't be read or written.
+Status: 0 a mended copy was written, and nothing is wrong with it; 1 nothing was written, since nothing is damaged or no single bits mend it, or
+something is still wrong with the copy; 2 a file can't be read or written.
 """
 import argparse
 import hashlib
@@ -23,49 +27,19 @@ import subprocess
 import sys
 import tempfile
 
-HEADER, FRAME_HEADER = 32, 24
-# How a log begins whose checksums take words with the lowest byte first, and with the highest.
-MARKS = {b"\x37\x7f\x06\x82": "<", b"\x37\x7f\x06\x83": ">"}
+sys.dont_write_bytecode = True  # nothing is written beside this program
+sys.path.insert(0, os.path.dirname(os.path.realpath(__file__)))
+import verify  # noqa: E402
+from verify import FRAME_HEADER, HEADER, Unreadable, checksum  # noqa: E402
+
 BESIDE = ("", "-wal", "-newest")
-VERIFY = os.path.join(os.path.dirname(os.path.realpath(__file__)), "verify.py")
 # The number of a commit's first frame that counts.
-COUNT = b"\xff\0\0\0"
+COUNT = verify.COUNT.to_bytes(4, "big")
+MOST_BITS, MOST_WAYS = 8, 64
 
 
-def checksum(order, before, data):
-    """The checksum of the data behind a checksum, as SQLite's file format has it."""
-    first, second = before
-    words = iter(struct.unpack(f"{order}{len(data) // 4}I", data))
-    for one, other in zip(words, words):
-        first = (first + one + second) & 0xFFFFFFFF
-        second = (second + other + first) & 0xFFFFFFFF
-    return first, second
-
-
-class Log:
+class Log(verify.Log):
     """A log, by its bytes."""
-
-    def __init__(self, data):
-        self.data = data
-        self.order = MARKS.get(bytes(data[:4]))
-        self.salts = data[16:24]
-        self.length = FRAME_HEADER + int.from_bytes(data[8:12], "big")
-
-    def is_signed(self):
-        """Whether the header is whole."""
-        return self.order is not None and checksum(self.order, (0, 0), self.data[:24]) == struct.unpack(">2I", self.data[24:32])
-
-    def sum_before(self, at):
-        """The checksum before the frame at this byte."""
-        end = HEADER if at == HEADER else at - self.length + FRAME_HEADER
-        return struct.unpack(">2I", self.data[end - 8:end])
-
-    def is_whole(self, at):
-        """Whether the frame at this byte is whole, if those before it are."""
-        frame = self.data[at:at + self.length]
-        if len(frame) < self.length or frame[8:16] != self.salts or not any(frame[:4]):
-            return False
-        return checksum(self.order, self.sum_before(at), frame[:8] + frame[FRAME_HEADER:]) == struct.unpack(">2I", frame[16:24])
 
     def is_end(self, at):
         """Whether the log may end at this byte: a frame that was never finished, or one of a log before this one."""
@@ -95,7 +69,18 @@ class Log:
         at = HEADER
         while self.is_whole(at):
             at += self.length
-        return None if self.is_end(at) else at
+        return None if self.is_end(at) and not self.signed_behind(at + self.length) else at
+
+    def refusal(self, size):
+        """Why the program refuses this log beside a file of so many bytes; None if it takes it. It looks closer than SQLite, and takes less."""
+        damage = self.damage(size)
+        stop = self.first_stop() if damage is None and self.is_signed() else None
+        if stop is not None:
+            salts = self.frame(stop[0])[8:16]
+            is_open = salts[0] == self.salts[0]
+            if (is_open and not self.is_torn(*stop)) or (not is_open and salts[0] != 0 and salts[1:] == self.salts[1:]):
+                return f"the frame from byte {stop[0]} isn't of this log, and no power cut leaves it"
+        return damage
 
 
 def turned(data, bit):
@@ -110,38 +95,92 @@ def is_mended_at(log, at):
     return log.is_whole(at) and (log.is_whole(at + log.length) or log.is_end(at + log.length)) and log.is_counted(at)
 
 
-def mended_header(data):
-    """Each bit of the header by which it is whole, and the first frame too."""
-    for bit in range(8 * HEADER):
-        log = Log(turned(data, bit))
-        if log.is_signed() and is_mended_at(log, HEADER):
-            yield bit
+def bits_of_header(data):
+    """Each bit of the header by which it is whole, and the first frame too; if there is none, by which it is whole itself."""
+    whole = [bit for bit in range(8 * HEADER) if Log(turned(data, bit)).is_signed()]
+    return [bit for bit in whole if is_mended_at(Log(turned(data, bit)), HEADER)] or whole
 
 
-def mended_frame(log, at):
-    """Each bit of the frame at this byte by which it is whole, and the next one too."""
+def bits_of_frame(log, at):
+    """Each bit of the frame at this byte by which it is whole, and the next one too; if there is none, by which it is whole itself."""
     frame = log.data[at:at + log.length]
-    for bit in range(8 * len(frame)):
-        other = turned(frame, bit)
-        if checksum(log.order, log.sum_before(at), other[:8] + other[FRAME_HEADER:]) != struct.unpack(">2I", other[16:24]):
-            continue
-        if is_mended_at(Log(log.data[:at] + other + log.data[at + log.length:]), at):
-            yield 8 * at + bit
+    content, stored = frame[:8] + frame[FRAME_HEADER:], struct.unpack(">2I", frame[16:24])
+    total = checksum(log.order, log.sum_before(at), content)
+    found = []
+    if frame[8:16] == log.salts:
+        for bit in bits_by_checksum(log.order, content, stored[0] - total[0], stored[1] - total[1]):
+            found.append(bit if bit < 64 else bit + 8 * (FRAME_HEADER - 8))
+    for bit in range(8 * 8, 8 * FRAME_HEADER):
+        other = turned(frame[:FRAME_HEADER], bit)
+        if other[8:16] == log.salts and struct.unpack(">2I", other[16:24]) == total:
+            found.append(bit)
+    whole = [8 * at + bit for bit in sorted(found) if Log(turned(log.data, 8 * at + bit)).is_whole(at)]
+    return [bit for bit in whole if is_mended_at(Log(turned(log.data, bit)), at)] or whole
 
 
-def is_sound(file, log):
-    """Whether SQLite finds the database whole, and the reader for inspectors the journal."""
+def bits_by_checksum(order, content, first, second):
+    """Each bit of this content by which its checksum is greater by these two numbers: a checksum is a sum in which each word has its own two weights."""
+    first, second = first & 0xFFFFFFFF, second & 0xFFFFFFFF
+    words = struct.unpack(f"{order}{len(content) // 4}I", content)
+    weights = [(1, 1), (0, 1)]  # of the last two words
+    for pair in range(len(words) - 2, -1, -2):
+        for index, (one, other) in enumerate(weights, pair):
+            for bit in range(32):
+                change = -(1 << bit) if words[index] >> bit & 1 else 1 << bit
+                if (one * change) & 0xFFFFFFFF == first and (other * change) & 0xFFFFFFFF == second:
+                    byte = bit // 8 if order == "<" else 3 - bit // 8
+                    yield 8 * (4 * index + byte) + bit % 8
+        weights = [((one + other) & 0xFFFFFFFF, (one + 2 * other) & 0xFFFFFFFF) for one, other in weights]
+
+
+class Stuck(Exception):
+    """No single bits mend it."""
+
+
+def ways(data, bits=()):
+    """Each way to make the log whole by one bit in each damaged place: the bits. Raises Stuck where there is none in a place."""
+    log = Log(data)
+    at = log.first_damage() if log.is_signed() else 0
+    if at is None:
+        return [bits]
+    if len(bits) == MOST_BITS:
+        raise Stuck(f"more than {MOST_BITS} places are damaged")
+    found = bits_of_frame(log, at) if at else bits_of_header(data)
+    made, stuck = [], Stuck(f"in {where_of(at)} 0 single bits could be the flipped one, and it has to be one")
+    for bit in found:
+        try:
+            made += ways(turned(data, bit), (*bits, bit))
+        except Stuck as fault:
+            stuck = fault
+        if len(made) > MOST_WAYS:
+            break
+    if not made:
+        raise stuck
+    return made
+
+
+def where_of(at):
+    return f"the frame from byte {at}" if at else "the header"
+
+
+def with_bits(data, bits):
+    for bit in bits:
+        data = turned(data, bit)
+    return data
+
+
+def faults_of(files):
+    """What the reader for inspectors finds wrong with a journal of these files, and SQLite with the database."""
     with tempfile.TemporaryDirectory() as folder:
         path = os.path.join(folder, "journal.db")
-        write(path, file)
-        write(path + "-wal", log)
-        if subprocess.run([sys.executable, VERIFY, path], stdout=subprocess.DEVNULL, stderr=subprocess.DEVNULL).returncode != 0:
-            return False
-        database = sqlite3.connect(path)
+        for end, it in files.items():
+            write(path + end, it)
         try:
-            return database.execute("PRAGMA integrity_check").fetchall() == [("ok",)]
-        finally:
-            database.close()
+            journal = verify.Journal(path)
+        except (ValueError, sqlite3.Error, Unreadable) as fault:
+            return [str(fault)]
+        found = [*journal.faults_of_files(), *journal.faults_of_rows(), *journal.faults_of_chain(), *journal.faults_of_newest()]
+        return [it.replace(path, "the copy") for it in found]
 
 
 def stands_again(log, at):
@@ -155,25 +194,44 @@ def stands_again(log, at):
     return False
 
 
-def flipped_bit(file, data):
-    """The one bit of the log that is flipped, and where it is."""
-    log = Log(data)
+def flipped_bits(files):
+    """The bits of the log that are flipped."""
+    data = files["-wal"]
     if len(data) < HEADER:
         sys.exit("nothing was written: the log has no whole header")
     if data[0] == 0:
         sys.exit("nothing was written: nothing is in the log, which a checkpoint has emptied")
-    at = log.first_damage() if log.is_signed() else 0
-    if at is None:
+    try:
+        found = ways(data)
+    except Stuck as fault:
+        sys.exit(f"nothing was written: {fault}")
+    if found == [()]:
         sys.exit("nothing was written: no frame of the log is damaged")
-    bits = list(mended_frame(log, at) if log.is_signed() else mended_header(data))
-    if len(bits) > 1:
-        bits = [bit for bit in bits if is_sound(file, turned(data, bit))]
-    if len(bits) > 1 and at and stands_again(Log(turned(data, bits[0])), at):
-        bits = bits[:1]
-    where = f"the frame from byte {at}" if at else "the header"
-    if len(bits) != 1:
-        sys.exit(f"nothing was written: in {where} {len(bits)} single bits could be the flipped one, and it has to be one")
-    return bits[0], where
+    if len(found) > 1:
+        found = [it for it in found if not faults_of({**files, "-wal": with_bits(data, it)})] or found
+    last = place_of(Log(with_bits(data, found[0])), found[0][-1])
+    if len(found) > 1 and len({it[:-1] for it in found}) == 1 and last and stands_again(Log(with_bits(data, found[0])), last):
+        found = found[:1]
+    if len(found) != 1:
+        sys.exit(f"nothing was written: in {where_of(last)} {len(found)} single bits could be the flipped one, and it has to be one")
+    return found[0]
+
+
+def place_of(log, bit):
+    """The byte from which the frame begins that has this bit; 0 for the header."""
+    byte = bit // 8
+    return 0 if byte < HEADER else byte - (byte - HEADER) % log.length
+
+
+def asked_program(program, copy):
+    """What the program says of a copy that it refuses; nothing if it takes it, or isn't there."""
+    if program is None:
+        return []
+    try:
+        it = subprocess.run([program, "check", "--file", copy], capture_output=True, text=True, timeout=600)
+    except (OSError, subprocess.SubprocessError) as fault:
+        return [f"{program} can't be asked: {fault}"]
+    return [] if it.returncode == 0 else [f"{program} check --file {copy}: {' '.join((it.stdout + it.stderr).split())}"]
 
 
 def read(path):
@@ -188,13 +246,16 @@ def write(path, data):
         os.fsync(it.fileno())
 
 
-def mend(path, folder):
-    """Writes the mended copy, and says what was done."""
+def mend(path, folder, program):
+    """Writes the mended copy, and says what was done, and what is still wrong. The status."""
     data = {end: read(path + end) for end in BESIDE if end == "-wal" or os.path.exists(path + end)}
     if not data.get(""):
         sys.exit("nothing was written: the journal's file is missing or empty, and no bit of its log mends that")
-    bit, where = flipped_bit(data[""], data["-wal"])
-    before, data["-wal"] = data["-wal"], turned(data["-wal"], bit)
+    bits = flipped_bits(data)
+    before, data["-wal"] = data["-wal"], with_bits(data["-wal"], bits)
+    log = Log(data["-wal"])
+    if (refusal := log.refusal(len(data[""]))) is not None:
+        sys.exit(f"nothing was written: {len(bits)} flipped bits are found, and the program still refuses the log: {refusal}")
     os.mkdir(folder, 0o700)
     copy = os.path.join(folder, os.path.basename(path))
     try:
@@ -203,25 +264,30 @@ def mend(path, folder):
     except OSError:
         shutil.rmtree(folder)
         raise
-    byte = bit // 8
-    print(f"{path}-wal: bit {bit % 8} of byte {byte}, in {where}, was flipped: {before[byte]:#04x} is {data['-wal'][byte]:#04x} in the copy")
+    for bit in bits:
+        byte = bit // 8
+        print(f"{path}-wal: bit {bit % 8} of byte {byte}, in {where_of(place_of(log, bit))}, was flipped: {before[byte]:#04x} is {data['-wal'][byte]:#04x} in the copy")
     print(f"damaged log, SHA-256 {hashlib.sha256(before).hexdigest()}")
     print(f"mended log, SHA-256 {hashlib.sha256(data['-wal']).hexdigest()}")
+    left = faults_of(data) + asked_program(program, copy)
+    for it in left:
+        print(f"still wrong: {it}")
     print(f"the copy is {copy}; look at it by: weighbridge check --file {copy}")
     print("show both to the inspector before the copy is served")
+    return 1 if left else 0
 
 
 def main():
     parser = argparse.ArgumentParser(description=__doc__, formatter_class=argparse.RawDescriptionHelpFormatter)
     parser.add_argument("journal", help="the journal's file, whose log is refused")
     parser.add_argument("folder", help="the folder to be made for the mended copy")
+    parser.add_argument("--program", default=shutil.which("weighbridge"), help="the program that is asked whether it takes the copy; weighbridge, if that is in the PATH")
     words = parser.parse_args()
     try:
-        mend(words.journal, words.folder)
+        return mend(words.journal, words.folder, words.program)
     except OSError as fault:
         print(f"{fault.filename or words.folder}: {fault.strerror}", file=sys.stderr)
         return 2
-    return 0
 
 
 sys.exit(main())
