@@ -1,6 +1,8 @@
 """The clerk's page in a real browser, for checks/counter: a day's work by keyboard alone, with what is cut or killed within a press."""
 
+import glob
 import http.server
+import os
 import subprocess
 import threading
 import time
@@ -338,8 +340,39 @@ def behind_nginx(bridge):
         nginx.close()
 
 
+def bars_of_the_files_and_the_journal(program):
+    """A bar says that another journal is in use until it is closed, on each page; another one that the counter's disk takes nothing."""
+    bridge = Bridge(program, 10).start_counter()
+    clerk, other = Clerk(at_of(bridge.http)), Clerk(at_of(bridge.http))
+    try:
+        bridge.put(9170)
+        same("a vehicle is weighed in", 201, bridge.weigh("bars-1", "first", "OLD-1")[0])
+        bridge.put(0)
+        becomes("it is on site", lambda: clerk.browser.text("#site-count") == "1")
+        bridge.kill_service()
+        for it in glob.glob(f"{bridge.folder}/journal.db*"):
+            os.unlink(it)
+        bridge.start_service()
+        bridge.wait_until_up()
+        words = "The journal has no entry; it ended at number 1."
+        becomes("after a new file a bar says so on each page", lambda: words in clerk.alarms() and words in other.alarms(), 30)
+        same("with what to do, and no vehicle on site", (True, ""), ("call the operator" in clerk.alarms(), clerk.browser.text("#site-count")))
+        clerk.browser.run("[...document.querySelectorAll('#alarms button')].find(it => it.textContent === 'I have read this').click()")
+        becomes("a press closes it on each page", lambda: words not in clerk.alarms() + other.alarms())
+        os.rename(f"{bridge.folder}/state", f"{bridge.folder}/away")
+        bridge.ask("POST", "/zero")
+        becomes("a bar says that the counter can't write its files", lambda: "The counter can't write its files." in clerk.alarms())
+        os.rename(f"{bridge.folder}/away", f"{bridge.folder}/state")
+        becomes("until it can", lambda: "write its files" not in clerk.alarms())
+    finally:
+        clerk.close()
+        other.close()
+        bridge.close()
+
+
 def show(program):
     print("---- the clerk's page", flush=True)
+    bars_of_the_files_and_the_journal(program)
     bridge = Bridge(program, 10).start_counter()
     network = Network(bridge.http)
     clerk = Clerk(at_of(network.port))
