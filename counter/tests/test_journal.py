@@ -244,6 +244,14 @@ class AnotherJournal(WithBooks):
         await self.read()
         self.assertEqual((["N-2", "N-1"], ["N-2", "N-1"], None), (self.on_site(), self.today(), self.told()), "it is told once")
 
+    async def test_a_text_of_a_number_that_was_purged_is_of_another_journal(self):
+        journal = await self.begin()
+        journal.purge(3)
+        await self.read()
+        other = PlayedJournal("new")
+        self.passes(other.weigh("N-1"))
+        self.assertEqual((["N-1"], (SHORTER, 5, 1)), (self.on_site(), self.told()))
+
     def today(self):
         return [it["plate"] for it in self.books.lists.today(datetime.datetime.now(BERLIN))]
 

@@ -62,8 +62,11 @@ class Lists:
         return sorted((self.places[number], text) for number, text in self.texts.items() if self.places[number] > place)
 
     def contradicts(self, text: str) -> bool:
-        """Whether the entry of a text is here with another digest, so that the text is of another journal."""
-        return self.digest_of(entry_of_text(text).number) not in (None, digest_of_text(text))
+        """Whether a text is of another journal: its entry is here with another digest, or its number is one that the export had no more, or not between."""
+        number = entry_of_text(text).number
+        if number not in self.entries:
+            return number <= next(reversed(self.rows), 0)
+        return self.digest_of(number) != digest_of_text(text)
 
     def passed(self, text: str, place: int = 0) -> tuple[Entry, bool]:
         """Takes a text that the office answered with 201. Gives its entry, and whether it is new here."""
