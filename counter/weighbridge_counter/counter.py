@@ -25,6 +25,7 @@ from .zero import Zero
 STATE_EVERY = 0.25  # seconds
 WITHOUT_VALUE = 1.5  # seconds between two looks whether another one has the terminal
 ANSWERS_WITHIN = 1.2  # seconds
+NOTED_WITHIN = 0.3  # seconds that an answer waits at most for the disk
 GONE_AFTER = 0.5  # seconds without a value after which pages get a sign of life
 
 
@@ -155,6 +156,7 @@ class Counter:
             said = (await asyncio.shield(asyncio.ensure_future(self.terminal.command("Z"))))[0]
             if said == "Z A":
                 self.zero.was_set(by)
+                await self.files.taken(NOTED_WITHIN)  # so that a counter killed after its answer still knows it
             return said
         finally:
             self.tell_state()

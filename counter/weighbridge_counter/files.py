@@ -169,6 +169,11 @@ class Files:
                 is_well = False
         return is_well
 
+    async def taken(self, within: float) -> None:
+        """Gives the disk so long to take what is behind; whether it does changes nothing for who waits."""
+        if self.behind and not self.stuck:
+            await asyncio.wait([asyncio.ensure_future(self.bring())], timeout=within)
+
     def _change(self, name: str, what: Any) -> None:
         self.says[name] = what
         self.changes[name] += 1
