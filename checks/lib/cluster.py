@@ -27,7 +27,7 @@ BIN = folder_of_programs()
 LOCALE = os.environ.get("HEAD_OFFICE_LOCALE", "")
 # Parts of the server's messages that the cases look for.
 MESSAGES = ("permission denied for ", "must be owner of ", "must be superuser", "duplicate key value", "violates ", "invalid input syntax for type", "extra data after")
-MESSAGES += ("missing data for column", "infinit", "out of range", "already exists", "does not exist", "cannot be", "could not", "canceling statement", "cannot ", "too long")
+MESSAGES += ("missing data for column", "infinit", "out of range", "already exists", "does not exist", "cannot be", "could not", "canceling statement", "cannot ", "too long", "unterminated CSV", "header line")
 
 
 def in_english():
@@ -43,6 +43,8 @@ def in_english():
             if sum(piece.startswith("%") for piece in pieces) != len(re.findall(r"%[-\d.]*l*[sduxXc]", english)) or re.search(r"%\d+\$", other):
                 continue
             pattern = "".join("(.*?)" if piece.startswith("%") else re.escape(piece) for piece in pieces)
+            # the head office keeps a question mark for each letter that isn't ASCII
+            pattern = re.sub("[^\0-\x7f]", lambda it: f"(?:{it[0]}|[?])", pattern)
             found.append((re.compile(pattern + r"(?=\n|$)" if pieces[-1] == "" else pattern), re.sub(r"%[-\d.]*l*[sduxXc]", "\0", english)))
     return sorted(found, key=lambda it: -len(it[1]))
 
