@@ -2,7 +2,7 @@
 
 import assert from 'node:assert/strict';
 import { test } from 'node:test';
-import { alike, step } from './web/guide.js';
+import { alike, plateOf, step } from './web/guide.js';
 import { ANSWER_KEYS, DEAF_FOR, Deafness, HAMMERED_WITHIN, PAGE_KEYS, deedOf } from './web/hands.js';
 
 const first = (plate, gross = 18340) => ({ plate, gross, at: '2026-03-10T08:00:00Z', number: 1 });
@@ -30,6 +30,14 @@ test('a known plate of running numbers is not asked for', () => {
 
 test('a known plate that is a part of one on site is asked for all the same', () => {
   assert.deepEqual(plates('RA-KM-123', ['RA-KM-1236'], ['RAKM123']), ['RA-KM-1236']);
+});
+
+test('a short plate is asked for too', () => {
+  for (const typed of ['L13', 'L21', 'L1']) assert.deepEqual(plates(typed, ['L12']), ['L12'], typed);
+});
+
+test('blanks become hyphens, but none at the beginning', () => {
+  for (const [typed, plate] of [['hb kw 12', 'HB-KW-12'], ['HB  KW  12345 A', 'HB-KW-12345-A'], ['\tHB KW 123', 'HB-KW-123'], ['hb ', 'HB-']]) assert.equal(plateOf(typed), plate, typed);
 });
 
 test('two letters off, a plate on site and no plate are not asked for', () => {

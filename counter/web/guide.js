@@ -6,7 +6,7 @@ export const isPlate = plate => /^[A-Z0-9-]{1,12}$/.test(plate);
 
 // Letters as an office takes them: capitals, a hyphen for a blank, two letters for an umlaut.
 export function plateOf(text) {
-  return text.toUpperCase().replace(/Ä/g, 'AE').replace(/Ö/g, 'OE').replace(/Ü/g, 'UE').replace(/ß|ẞ/g, 'SS')
+  return text.trimStart().toUpperCase().replace(/Ä/g, 'AE').replace(/Ö/g, 'OE').replace(/Ü/g, 'UE').replace(/ß|ẞ/g, 'SS')
     .normalize('NFD').replace(/[\u0300-\u036f]/g, '').replace(/[\s_./·]+/g, '-');
 }
 
@@ -14,7 +14,7 @@ const bare = plate => plate.replaceAll('-', '');
 
 // One letter more, less or other, or two that changed places.
 function isNear(one, other) {
-  if (Math.abs(one.length - other.length) > 1 || other.length < 4) return false;
+  if (Math.abs(one.length - other.length) > 1 || other.length < 2) return false;
   let at = 0;
   while (at < other.length && one[at] === other[at]) at++;
   const rests = [[1, 1], [1, 0], [0, 1]].map(([a, b]) => one.slice(at + a) === other.slice(at + b));

@@ -35,7 +35,7 @@ export function showLists() {
 }
 
 function open(entry) {
-  const isOpenFirst = entry.kind === 'first' && known.onSite.some(it => it.number === entry.number);
+  const isOpenFirst = () => entry.kind === 'first' && known.onSite.some(it => it.number === entry.number);
   openEntry(entry, known.papers.printers, acts.print_number, isOpenFirst, acts.withdraw);
 }
 

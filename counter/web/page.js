@@ -162,6 +162,20 @@ function clearPlate() {
   focusPlate();
 }
 
+// What the clerk typed for one vehicle leaves the form with its request, so that letters typed before the answer are the next vehicle's plate, whole. If
+// nothing was stored, it comes back, unless the next plate has been begun.
+function takeForm() {
+  const held = { plate: plate(), oneTare: clerk.oneTare, isFirstInstead: clerk.isFirstInstead, given: Object.fromEntries(GIVEN.map(it => [it, part(it).value])) };
+  clearPlate();
+  return () => {
+    if (plate()) return;
+    part('plate').value = held.plate;
+    for (const it of GIVEN) part(it).value = held.given[it];
+    Object.assign(clerk, { oneTare: held.oneTare, isFirstInstead: held.isFirstInstead });
+    show();
+  };
+}
+
 function take(of) {
   part('plate').value = of;
   typed();
@@ -179,8 +193,8 @@ function answer(it) {
   focusPlate();
 }
 
-function typed() {
-  const field = part('plate'), text = plateOf(field.value);
+function typed(event) {
+  const field = part('plate'), text = plateOf(event?.inputType === 'insertFromPaste' ? field.value.trimEnd() : field.value);
   if (text !== field.value) {
     const at = field.selectionStart + text.length - field.value.length;
     field.value = text;
@@ -205,7 +219,7 @@ function press(event) {
   if (part('go').disabled) return;
   const choice = choiceOf(nowKnown());
   const given = Object.fromEntries(GIVEN.map(it => [it, givenOf(it)]).filter(([, value]) => value));
-  begin('/weighings', { kind: choice.kind, plate: plate(), ...(choice.tare ? { tare: String(choice.tare) } : {}), ...given });
+  begin('/weighings', { kind: choice.kind, plate: plate(), ...(choice.tare ? { tare: String(choice.tare) } : {}), ...given }, takeForm);
 }
 
 function placeOf(target) {

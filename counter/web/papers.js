@@ -33,8 +33,8 @@ export async function textAgain(number) {
   return { why: t(refusal && has(`refused_${refusal}`) ? `refused_${refusal}` : 'office_silent') };
 }
 
-// Opens the text of an entry. `press` prints its paper, `canVoid` says whether it is an open first weighing, `withdraw` begins its void.
-export async function openEntry(entry, printers, press, canVoid, withdraw) {
+// Opens the text of an entry. `press` prints its paper, `isOpenFirst` says whether it is an open first weighing now, `withdraw` begins its void.
+export async function openEntry(entry, printers, press, isOpenFirst, withdraw) {
   const { text, from, why } = await textAgain(entry.number);
   part('entry-title').textContent = `${paperOf(entry)} ${entry.number} · ${entry.plate}`;
   const net = entry.net === null ? '' : ` · ${t('net_of', { kg: kg(entry.net) })}`;
@@ -44,16 +44,21 @@ export async function openEntry(entry, printers, press, canVoid, withdraw) {
   const tools = [];
   if (text !== undefined) tools.push(button(t('print_again'), () => press(entry.number), { autofocus: true }));
   if (text !== undefined && printers.length) tools.push(button(t('print_by_browser'), () => press(entry.number, true)));
-  if (canVoid) tools.push(voidButton(entry, withdraw));
+  if (isOpenFirst()) tools.push(voidButton(entry, isOpenFirst, withdraw));
   tools.push(button(t('close'), () => part('entry').close()));
   part('entry-tools').replaceChildren(...tools);
   part('entry').showModal();
 }
 
-// It has to be pressed twice, and not by one double click.
-function voidButton(entry, withdraw) {
+// It has to be pressed twice, and not by one double click. A void goes by the plate: once that has another open first weighing, or none, it is refused here.
+function voidButton(entry, isOpenFirst, withdraw) {
   let askedAt = null;
   const made = button(t('withdraw'), () => {
+    if (!isOpenFirst()) {
+      made.disabled = true;
+      made.textContent = t('not_open_any_more', { number: entry.number });
+      return;
+    }
     if (askedAt === null) {
       askedAt = performance.now();
       made.textContent = t('withdraw_sure', { plate: entry.plate });

@@ -20,38 +20,42 @@ export function tell(look, word, more) {
   setTimeout(() => { if (clerk.told === told) { clerk.told = null; show(); } }, TOLD_FOR[look]);
 }
 
-// One request at a time in a browser: one that another window keeps is ended first.
-export function begin(target, form) {
+const NOTHING_TAKEN = () => () => {};
+
+// One request at a time in a browser: one that another window keeps is ended first. `takeForm` takes what was typed for it, once it is kept, and returns
+// what gives that back if nothing is stored.
+export function begin(target, form, takeForm = NOTHING_TAKEN) {
   if (clerk.waiting) return;
   if (keptRequest()) { resume(); return; }
   const request = newRequest(target, form);
   if (request === null) tell('bad', 'keeps_nothing');
-  else conclude(request);
+  else conclude(request, takeForm());
 }
 
 const whatOf = request => ({ what: `${t(request.form.kind ? `kind_${request.form.kind}` : 'kind_void')}, ${request.form.plate}` });
 
-async function conclude(request) {
+async function conclude(request, giveBack = NOTHING_TAKEN()) {
   clerk.result = clerk.told = null;
   wait('wait', 'sent', whatOf(request));
   const answer = await send(request, () => wait('wait', 'no_answer_yet', whatOf(request)));
-  if (answer === null) { leave(request); return; }
+  if (answer === null) { leave(request, giveBack); return; }
   clerk.waiting = null;
   if (answer.status === 201) finish(request, answer.text);
-  else refuse(answer);
+  else { giveBack(); refuse(answer); }
   acts.focus();
 }
 
 // There was no answer for so long that another vehicle may be there: the clerk decides.
-function leave(request) {
-  acts.send_again = () => conclude(renewed(request));
+function leave(request, giveBack = NOTHING_TAKEN()) {
+  acts.send_again = () => conclude(renewed(request), giveBack);
   acts.look_up = async () => {
     wait('wait', 'looking');
     const stored = await isStored(request);
-    if (stored === true) { conclude(renewed(request)); return; }
-    if (stored === null) { leave(request); return; }
+    if (stored === true) { conclude(renewed(request), giveBack); return; }
+    if (stored === null) { leave(request, giveBack); return; }
     forget(request);
     clerk.waiting = null;
+    giveBack();
     tell('bad', 'was_not_stored');
   };
   wait('bad', 'lost', whatOf(request), ['send_again', 'look_up']);
@@ -71,7 +75,7 @@ function finish(request, text) {
     look: 'ok', word, values: { ...values, kg: Number(net ?? grosses[0] ?? 0) }, choices: ['print'], number: at, text, madeAt: performance.now(),
     tare: isPair ? { plate: request.form.plate, kg: Math.min(...grosses) } : null,
   };
-  acts.clear();
+  show();
 }
 
 // What this browser kept, of a page before this one or of another window, is sent again by itself, unless it is old.
