@@ -122,7 +122,7 @@ class AFault(OnADisk):
             for _ in range(5):
                 self.assertFalse(await files.bring())
         self.assertEqual(
-            [f"counter: {files.path('zero.json')}: it can't be written: {os.strerror(errno.ENOSPC)}: "],
+            [f"counter: {files.path('zero.json')}: it can't be written, because {os.strerror(errno.ENOSPC)}; "],
             [it.split("look at")[0] for it in self.lines()],
         )
         self.assertEqual(os.strerror(FAULTS[-1]), files.faults["zero.json"])

@@ -201,7 +201,7 @@ class AnotherJournal(WithBooks):
         await self.read()
         self.assertEqual((["A-5", "A-4", "A-3", "A-2", "A-1"], (SHORTER, 7, 5)), (self.on_site(), self.told()))
         self.assertIsNone(self.books.lists.slip_again(7))
-        self.assertIn("the journal: its last number is 5, and was 7: an older copy", self.said.getvalue())
+        self.assertIn("the journal: its last number is 5 and was 7, so an older copy", self.said.getvalue())
 
     async def test_an_older_copy_is_told_over_a_start_of_the_counter(self):
         journal = await self.begin()

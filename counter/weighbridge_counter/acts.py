@@ -21,7 +21,7 @@ from .terminal import NotSent, Terminal, Unanswered
 
 ACT_FILE = "act.json"
 BEGIN_WITHIN = 1.0  # seconds: an act that can't begin within them never begins
-INTEND_WITHIN = 1.0  # seconds: an act of which the disk doesn't know within them never begins
+INTEND_WITHIN = 1.0  # seconds: an act never begins if the disk doesn't have its note within them
 CLEAR_WITHIN = 2.0  # seconds for each of the tries to clear a tare
 CLEAR_TRIES = 3
 TRY_AGAIN_AFTER = 0.3  # seconds
@@ -48,12 +48,12 @@ NO_ANSWER = Told(502, b"counter no_answer\n")
 
 
 class Busy(Exception):
-    """Others are at it for too long, so it never began."""
+    """Raised if other acts take too long. The act never began."""
 
 
 @contextlib.asynccontextmanager
 async def in_time(lock: asyncio.Lock) -> AsyncIterator[None]:
-    """Holds a lock. Raises Busy if others keep it."""
+    """Hold a lock. Raises Busy if others keep it for too long."""
     try:
         await asyncio.wait_for(lock.acquire(), BEGIN_WITHIN)
     except asyncio.TimeoutError:
@@ -132,18 +132,21 @@ class Acts:
         return Told(answer.status, answer.body)
 
     def _tell(self, take: Callable[P, None], *what: P.args, **more: P.kwargs) -> None:
-        """Whatever fails at who hears of an answer, the answer goes to who asked."""
+        """Pass an answer to one of its listeners. If the listener fails, the client still gets the answer."""
         try:
             take(*what, **more)
         except Exception as fault:
             self.counts["answers_not_taken"] += 1
-            tell(f"an answer of the office went out, and couldn't be taken in here: {repr(fault)[:200]}")
+            tell(f"the client gets an answer of the office, but the counter couldn't process it here: {repr(fault)[:200]}")
 
     # ---- a tare that belongs to one weighing
 
     async def _weigh_with_tare(self, target: str, body: bytes, tare: str, asked: Mapping[str, str], told: "asyncio.Future[Told]") -> None:
-        """`TA`, the weighing, `TAC`. The file tells a next start that a tare may be left, so it is on the disk before anything is set; nobody waits at
-        the terminal or the office for the disk. Who asked is told before the tare is cleared. Raises Busy, NotSent, or NoFile if nothing was done."""
+        """Set the tare with `TA`, pass the weighing on, and clear the tare with `TAC`.
+
+        The file tells the counter's next start that a tare may be left, so it is on the disk before anything is set. Nobody waits for the disk at the
+        terminal or the office. The client gets its answer before the tare is cleared. Raises Busy, NotSent, or NoFile; nothing was done then.
+        """
         if self.terminal.fanout.tare is None:
             async with self.terminal.turn(BEGIN_WITHIN, may_settle=True) as turn:
                 with contextlib.suppress(Unanswered):
@@ -172,7 +175,7 @@ class Acts:
         return not_sent(503, "no_terminal") if self.terminal.fanout.tare is None else not_sent(409, "tare_set")
 
     async def _set_tare(self, turn: Turn, tare: str) -> Told | None:
-        """Why it isn't set; None if it is. Raises NotSent."""
+        """Set the tare. Return why it isn't set, or None if it is. Raises NotSent."""
         if self.terminal.fanout.tare is None:
             with contextlib.suppress(Unanswered):
                 await self.terminal.ask(turn, "TA")

@@ -13,7 +13,7 @@ from .office import Answer, NoAnswer, Office
 from .slips import Entry, NoText, serial_of_text
 
 LOOK_EVERY = 0.25  # seconds
-EMPTY_FOR = 3.0  # seconds: so long the bridge is empty before an export is asked for, since it holds up the office
+EMPTY_FOR = 3.0  # seconds that the bridge is empty before the counter asks for an export, because an export delays the office
 NOT_SOONER_THAN = 2.0  # seconds after the last try
 READ_EVERY = 3600.0  # seconds
 PROBE_EVERY = 20.0  # seconds
@@ -53,7 +53,7 @@ class Books:
             self.on_entry(entry)
 
     def _take(self, text: str, place: int) -> tuple[Entry, bool]:
-        """A text of another journal than that of the lists begins them again: the office answers of no other than its own."""
+        """Add a text to the lists. If it is from another journal, start the lists again, because the office answers only from its own journal."""
         is_another, known = self.lists.contradicts(text), self.lists.known(place)
         if is_another:
             self.lists = Lists(self.zone)
@@ -113,12 +113,15 @@ class Books:
         self.counts["exports"] += 1
 
     def _read(self, export: str, known: Known) -> tuple[Lists, str | None]:
-        """It runs in a thread of its own."""
+        """Make lists of an export, and compare them with `known`. This runs in a thread of its own."""
         read = Lists.of_export(self.zone, export)
         return read, why_another(known, read.rows)
 
     def _take_export(self, read: Lists, why: str | None, known: Known, place: int) -> None:
-        """The lists are those of an export and of each text that passed after it was asked for. What passed before is in the export, or in no journal."""
+        """Make the lists those of an export and of each text that passed after the counter asked for it.
+
+        An earlier text is in the export, or in no journal.
+        """
         older, self.lists = self.lists, read
         self.lists.with_texts_of(older)
         self.wants_export = False
@@ -130,8 +133,10 @@ class Books:
         self.on_lists()
 
     async def export_of_now(self) -> tuple[Answer, int]:
-        """An export that begins after it is asked for, and how many texts had passed before: one for all who wait for it, and seldom, since it holds up
-        the office. Raises NoAnswer."""
+        """Return an export that begins after this call, and the number of texts that passed before it began.
+
+        All callers that wait share one export. Exports are rare, because each delays the office. Raises NoAnswer.
+        """
         if self.next_export is None:
             self.next_export = asyncio.ensure_future(self._export())
         return await asyncio.shield(self.next_export)
@@ -139,7 +144,7 @@ class Books:
     async def _export(self) -> tuple[Answer, int]:
         async with self.one_export:
             await asyncio.sleep(self.rest_until - time.monotonic())
-            self.next_export, began, place = None, time.monotonic(), self.places  # who asks from now on gets a later one
+            self.next_export, began, place = None, time.monotonic(), self.places  # a caller that comes from now on gets a later export
             try:
                 return await self.office.ask("GET", "/journal.csv", within=EXPORT_WITHIN), place
             finally:

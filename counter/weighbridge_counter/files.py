@@ -1,8 +1,10 @@
-"""The counter's own files. None is legal, and each is whole or as it was, whenever this program is killed or the power fails.
+"""The counter's own files. None is a legal record.
 
-A disk that is full, takes no writing or hangs holds up nobody and changes no answer: files are written beside the event loop, in the order in which
-it was asked. What a file should say is kept in memory, and tried again each second until the disk has it; a fault is told once, and once more when
-it is over.
+If this program is killed or the power fails, each file has either its new content or its old content, always whole.
+
+A disk that is full, read-only or hangs delays nobody and changes no answer, because a thread of its own writes the files, in the order of the calls.
+Memory keeps what each file should say. If a write fails, the counter tries it again each second until the disk has it. The counter logs a fault
+once, and logs once more when the fault is over.
 """
 
 import asyncio
@@ -21,16 +23,16 @@ from weighbridge_paper.devices import sync_folder
 
 TRY_EVERY = 1.0  # seconds
 SLOW_AFTER = 1.0  # seconds: a write that takes longer is a fault
-WHAT_TO_DO = "look at the disk. Weighing goes on, but a weighing with its own tare is refused, and no tare can be kept"
+WHAT_TO_DO = "look at the disk. Weighing continues, but the counter refuses each weighing with its own tare and can't keep a tare"
 Beside = Callable[[Callable[[], None]], Awaitable[None]]
 
 
 class NoFile(OSError):
-    """A file couldn't be written, so what it should say isn't on the disk. Nothing else was done."""
+    """Raised if a file couldn't be written. What it should say isn't on the disk, and nothing else was done."""
 
 
 def store(path: Path, what: Any) -> None:
-    """Makes a file say this, or takes it away if that is None. Once it returns, a power cut changes nothing of it any more."""
+    """Write `what` into a file, or remove the file if `what` is None. Once this returns, a power cut can't undo it."""
     if what is None:
         path.unlink(missing_ok=True)
     else:
@@ -42,19 +44,19 @@ def store(path: Path, what: Any) -> None:
                 os.fsync(file.fileno())
             os.replace(new, path)
         except OSError:
-            new.unlink(missing_ok=True)  # it may be what fills the disk
+            new.unlink(missing_ok=True)  # this file may be what fills the disk
             raise
     sync_folder(path.parent)
 
 
 def found_in(path: Path) -> Any:
-    """What a file says; None if there is none, or none that can be read. Tells of the latter."""
+    """Return what a file says. Return None if it is missing, or if it can't be read, which is logged."""
     try:
         return json.loads(path.read_text(encoding="utf-8"))
     except FileNotFoundError:
         return None
     except (OSError, ValueError, RecursionError) as fault:
-        tell(f"{path}: it can't be read: {why_of(fault)}: what it said is taken for nothing")
+        tell(f"{path}: it can't be read, because {why_of(fault)}; the counter treats it as missing")
         return None
 
 
@@ -67,7 +69,7 @@ def tell(line: str) -> None:
 
 
 class Thread:
-    """Does one thing after another in a thread that the end of the program doesn't wait for, whatever hangs in it."""
+    """Runs one call after another in a thread of its own. The program can end while a call hangs there."""
 
     def __init__(self) -> None:
         self.asked: queue.SimpleQueue[tuple[Callable[[], None], Callable[[Exception | None], None]]] = queue.SimpleQueue()
@@ -102,7 +104,7 @@ class Thread:
 
 
 class Files:
-    """`says` has what each file should say; `behind` names those of which it isn't certain that the disk has it."""
+    """The counter's files. `says` has what each should say. `behind` names the files whose content may not be on the disk yet."""
 
     def __init__(self, folder: Path, beside: Beside | None = None) -> None:
         self.folder, self.beside = folder, beside or Thread()
@@ -110,11 +112,11 @@ class Files:
             folder.mkdir(mode=0o700, parents=True, exist_ok=True)
             sync_folder(folder.parent)
         self.says: dict[str, Any] = {}
-        self.changes: Counter[str] = Counter()  # of what each file should say
+        self.changes: Counter[str] = Counter()  # by file: how often what it should say has changed
         self.behind: set[str] = set()
-        self.stuck: set[int] = set()  # writes that take too long, and haven't come back
+        self.stuck: set[int] = set()  # writes that take too long and haven't returned
         self.writes = 0
-        self.faults: dict[str, str] = {}  # by file: why the disk hasn't what it should say
+        self.faults: dict[str, str] = {}  # by file: why what it should say isn't on the disk
         self.something = asyncio.Event()
         self.on_change: Callable[[], None] = lambda: None
 
@@ -125,19 +127,22 @@ class Files:
         return self.read(name) is not None
 
     def read(self, name: str) -> Any:
-        """What the file should say; the disk is looked at once."""
+        """Return what the file should say. Only the first call for a file reads the disk."""
         if name not in self.says:
             self.says[name] = found_in(self.path(name))
         return self.says[name]
 
     def keep(self, name: str, what: Any) -> None:
-        """Has the file say this, or be gone if that is None: as soon as the disk takes it. Nobody waits for it."""
+        """Write `what` into the file as soon as the disk takes it, or remove the file if `what` is None. Don't wait for the disk."""
         self._change(name, what)
         self.behind.add(name)
         self.something.set()
 
     async def write(self, name: str, what: Any, within: float) -> None:
-        """Has the file say this, on the disk. Raises NoFile if that fails or takes longer: then it stays as it was, or is made so again."""
+        """Write `what` into the file and wait until the disk has it.
+
+        Raises NoFile if that fails or takes longer than `within` seconds. The file then keeps its old content, or gets it back.
+        """
         if self.stuck:
             raise NoFile(f"{self.path(name)}: the disk hasn't taken what was written before")
         before = self.read(name)
@@ -151,7 +156,7 @@ class Files:
             raise NoFile(f"{self.path(name)}: {self.faults.get(name, 'the disk takes too long')}") from None
 
     async def run(self) -> None:
-        """Brings the files to what they should say, again and again while the disk doesn't take it."""
+        """Write the files that are behind. If that fails, try again each second."""
         while True:
             await self.something.wait()
             self.something.clear()
@@ -160,7 +165,7 @@ class Files:
                 self.something.set()
 
     async def bring(self) -> bool:
-        """One try of each file that is behind. Whether none failed."""
+        """Try once to write each file that is behind. Return True if no write failed."""
         is_well = True
         for name in sorted(self.behind):
             try:
@@ -170,7 +175,7 @@ class Files:
         return is_well
 
     async def taken(self, within: float) -> None:
-        """Gives the disk so long to take what is behind; whether it does changes nothing for who waits."""
+        """Wait up to `within` seconds until the disk has the files that are behind. A fault of the disk isn't raised."""
         if self.behind and not self.stuck:
             await asyncio.wait([asyncio.ensure_future(self.bring())], timeout=within)
 
@@ -203,7 +208,7 @@ class Files:
 
     def _fails(self, name: str, why: str) -> None:
         if name not in self.faults:
-            tell(f"{self.path(name)}: it can't be written: {why}: {WHAT_TO_DO}")
+            tell(f"{self.path(name)}: it can't be written, because {why}; {WHAT_TO_DO}")
         if self.faults.get(name) != why:
             self.faults[name] = why
             self.on_change()

@@ -1,8 +1,13 @@
-"""Whether the office's journal is still the one that the lists were made of.
+"""Decides if the office's journal is still the one that the lists were made of.
 
-A purge that the law allows takes entries away at the low end, and changes no digest of those that stay. So a journal is the same one if the entries
-that both have are the same, none is gone between or at the high end, and none is there again at the low end. Numbers go on after a purge. What can't
-be told from another journal is told to the clerk.
+A purge that the law allows removes entries at the low end, and changes no digest of the entries that stay. Numbers continue after a purge. So a
+journal is still the same one if all of this holds:
+
+- each entry that both have is the same
+- no entry is missing between others or at the high end
+- no entry is back at the low end
+
+If a change may mean another journal, the counter shows it to the clerk.
 """
 
 from collections.abc import Mapping
@@ -15,16 +20,16 @@ from .slips import ZEROS, digest_of_row, previous_of_row, serial_of_row
 FILE = "journal.json"
 SHORTER, EMPTY, CHANGED, SERIAL = "shorter", "empty", "changed", "serial"
 WORDS = {
-    SHORTER: "its last number is {now}, and was {before}: an older copy or another journal is in use",
-    EMPTY: "it has no entry, and its last number was {before}: it was purged, or a new one is in use",
-    CHANGED: "it has other entries than before: another journal is in use",
-    SERIAL: "its entries are of another serial: another bridge's journal is in use",
+    SHORTER: "its last number is {now} and was {before}, so an older copy or another journal is in use",
+    EMPTY: "it has no entry, and its last number was {before}, so it was purged or a new one is in use",
+    CHANGED: "it has other entries than before, so another journal is in use",
+    SERIAL: "its entries have another serial, so another bridge's journal is in use",
 }
 
 
 @dataclass(frozen=True)
 class Known:
-    """What is known of the journal: rows of an export, digests of texts that passed, and where it began, if an export told it."""
+    """Facts about the journal: rows of an export, digests of texts that passed, and the first number, which only an export shows."""
 
     rows: Mapping[int, str] = field(default_factory=dict)
     digests: Mapping[int, str] = field(default_factory=dict)
@@ -37,7 +42,7 @@ class Known:
 
 
 def why_another(known: Known, rows: Mapping[int, str]) -> str | None:
-    """Why an export isn't of the journal that is known; None if it is, or nothing is known."""
+    """Return why an export isn't of the known journal. Return None if it is, or if no journal is known."""
     if known.last == 0:
         return None
     if not rows:
@@ -62,12 +67,15 @@ def changed_by(known: Known, serial: str) -> str:
 
 
 def follows(known: Known, row: str, number: int) -> bool:
-    """Whether a first entry may follow upon a purge of all that is known: numbers go on, and its previous digest is that of the one before, or zeros."""
+    """Return True if a first entry may follow a purge of all known entries.
+
+    Its number is the next one then. Its previous digest is that of the last known entry, or zeros.
+    """
     return number == known.last + 1 and previous_of_row(row) in (ZEROS, known.digest(known.last))
 
 
 class Journal:
-    """Remembers the journal over a start of the counter, and what has to be told of it until a clerk closes that."""
+    """Remembers the journal when the counter restarts, and the change that the page shows until a clerk closes it."""
 
     def __init__(self, files: Files | None = None) -> None:
         self.files, self.begun = files, 0
@@ -77,17 +85,17 @@ class Journal:
         self.kept = known_in(kept.get("known"))
 
     def is_another(self, why: str, known: Known, last: int, at: str) -> None:
-        """The lists are begun again."""
+        """Record and log that another journal is in use, so that the lists start again from it."""
         self.begun += 1
         self.told = {"why": why, "before": known.last, "now": last, "at": at}
-        tell(f"the journal: {WORDS[why].format(**self.told)}. The lists are begun again. If nobody planned that, look at the service's --file")
+        tell(f"the journal: {WORDS[why].format(**self.told)}. The lists start again. If nobody planned that, check the service's --file")
 
     def seen(self) -> None:
         self.told = None
         self.keep(self.kept)
 
     def keep(self, known: Known) -> None:
-        """Remembers where the journal begins and ends."""
+        """Remember where the journal begins and ends."""
         digest = known.digest(known.last) or ""
         self.kept = Known({}, {known.last: digest} if known.last else {}, known.first, known.last, known.serial)
         if self.files is not None:

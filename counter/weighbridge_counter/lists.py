@@ -33,7 +33,7 @@ class Lists:
 
     @classmethod
     def of_export(cls, zone: zoneinfo.ZoneInfo, text: str) -> "Lists":
-        """The lists of an export. It may run in a thread of its own."""
+        """Return the lists of an export. This may run in a thread of its own."""
         made = cls(zone)
         for row in rows_of(text):
             entry = entry_of_row(row)
@@ -41,28 +41,31 @@ class Lists:
             made._take(entry)
         made.first = min(made.rows, default=None)
         made.is_whole = made.is_of_export = True
-        made.near.shown()  # in this thread, where it holds up nothing
+        made.near.shown()  # in this thread, where it delays nothing
         return made
 
     def known(self, until: int) -> Known:
-        """What these lists know of the journal, by their export and by the first texts that passed. Another thread may look at it."""
+        """Return what these lists know of the journal, from their export and the first `until` texts that passed. Another thread may read the result."""
         texts = {number: text for number, text in self.texts.items() if self.places[number] <= until}
-        last = max(next(reversed(self.rows), 0), max(texts, default=0))  # an export's rows come by their numbers
+        last = max(next(reversed(self.rows), 0), max(texts, default=0))  # an export's rows are in the order of their numbers
         serial = serial_of_text(texts[last]) if last in texts else serial_of_row(self.rows[last]) if last else None
         return Known(self.rows, {number: digest_of_text(text) for number, text in texts.items()}, self.first, last, serial)
 
     def with_texts_of(self, older: "Lists") -> None:
-        """Keeps the texts that passed, of the entries that these lists have, too."""
+        """Keep the texts of `older` that passed, if their entries are in these lists too."""
         for number, text in older.texts.items():
             if number in self.rows and digest_of_row(self.rows[number]) == digest_of_text(text):
                 self.texts[number], self.places[number] = text, older.places[number]
 
     def passed_since(self, place: int) -> list[tuple[int, str]]:
-        """The texts that passed after a place, in their order."""
+        """Return the texts that passed after a place, each with its own place, in the order in which they passed."""
         return sorted((self.places[number], text) for number, text in self.texts.items() if self.places[number] > place)
 
     def contradicts(self, text: str) -> bool:
-        """Whether a text is of another journal: its entry is here with another digest, or its number is one that the export had no more, or not between."""
+        """Return True if a text is from another journal.
+
+        Then its entry is here with another digest, or the export ends at or after its number but has no such entry.
+        """
         number = entry_of_text(text).number
         if number not in self.entries:
             return number <= next(reversed(self.rows), 0)

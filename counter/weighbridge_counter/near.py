@@ -1,13 +1,14 @@
-"""Plates that were weighed before and differ by one letter from one on site: such a plate, typed again, is no slip of the finger.
+"""Plates that were weighed before and differ by one letter from a plate on site. If a clerk types such a plate, it is no slip of the finger.
 
-Hyphens don't count. A plate was weighed before if it has a ticket: a first weighing alone may be such a slip, and is withdrawn then.
+Hyphens don't count. A plate was weighed before if it has a ticket. A First without a ticket isn't enough, because its plate may be such a slip,
+and the clerk withdraws it then.
 """
 
 import string
 
 LETTERS = string.ascii_uppercase + string.digits
-MOST_ON_SITE = 500  # vehicles on site, the newest, whose neighbours are looked for
-MOST_TOLD = 2000  # plates that the pages are told; one that isn't among them counts as never weighed, so the page asks once too often
+MOST_ON_SITE = 500  # number of vehicles on site, the newest ones, for which the counter looks up neighbours
+MOST_TOLD = 2000  # number of plates that the pages get. A page treats any other plate as never weighed, and asks once too often
 
 
 def bare(plate: str) -> str:
@@ -15,7 +16,7 @@ def bare(plate: str) -> str:
 
 
 def neighbours(plate: str) -> set[str]:
-    """Each plate that has one letter more, less or other, or two neighbours that changed places."""
+    """Return each plate that differs by one letter more, one less or one changed, or by two neighbouring letters that changed places."""
     cuts = [(plate[:at], plate[at:]) for at in range(len(plate) + 1)]
     found = {one + other[1:] for one, other in cuts if other}
     found |= {one + it + other[1:] for one, other in cuts if other for it in LETTERS}
@@ -25,7 +26,7 @@ def neighbours(plate: str) -> set[str]:
 
 
 def is_near(one: str, other: str) -> bool:
-    """Whether one is a neighbour of the other, without making all of them."""
+    """Return True if one plate is a neighbour of the other. This doesn't build all neighbours."""
     if one == other or abs(len(one) - len(other)) > 1:
         return False
     at = next((it for it, (a, b) in enumerate(zip(one, other)) if a != b), min(len(one), len(other)))
@@ -38,10 +39,10 @@ class Near:
     def __init__(self) -> None:
         self.weighed: set[str] = set()
         self.on_site: dict[str, None] = {}
-        self.found: dict[str, set[str]] = {}  # of each plate on site that was looked at
+        self.found: dict[str, set[str]] = {}  # by plate on site: its neighbours that were weighed before, once they have been looked up
 
     def takes(self, kind: str, plate: str) -> None:
-        """An entry of the journal."""
+        """Process an entry of the journal."""
         plate = bare(plate)
         if kind == "first":
             self.on_site[plate] = None
@@ -55,7 +56,7 @@ class Near:
                     found.add(plate)
 
     def shown(self) -> list[str]:
-        """Plates weighed before that are near one on site; those near the newest on site first, so many at most."""
+        """Return up to `MOST_TOLD` plates that were weighed before and are near one on site. Those near the newest on site come first."""
         told: dict[str, None] = {}
         for plate in list(reversed(self.on_site))[:MOST_ON_SITE]:
             if plate not in self.found:

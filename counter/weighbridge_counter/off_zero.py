@@ -1,12 +1,13 @@
-"""Whether the empty bridge shows something else than zero, and what it showed before the vehicle came.
+"""Decides if the empty bridge shows something other than zero, and keeps what it showed before the vehicle came.
 
-A state machine without a clock: it is told each value with its moment, what the terminal answered to `Z`, and that the service was started. The counter
-knows e by its setup. It doesn't know how far zero is from that of the calibration: so that zero is too far off is what the service says by refusing it.
+This state machine has no clock. Its caller passes each value with its moment, the terminal's answer to `Z`, and each start of the service. The
+counter knows e from its setup. It doesn't know how far zero is from the zero of the calibration. Only the service knows if that is too far, and
+refuses zero then.
 """
 
-MIN_INTERVALS = 20  # below so many intervals e the bridge is empty
+MIN_INTERVALS = 20  # number of intervals e below which the bridge counts as empty
 ASKS_AFTER = 5.0  # seconds for which the bridge is light, stable and off zero
-DOUBTS_FROM = 5  # intervals that the bridge was off zero before the vehicle: a Single, which has no second weighing, is wrong by them
+DOUBTS_FROM = 5  # number of intervals e off zero before the vehicle came. A Single is wrong by them, because it has no second weighing
 ANOTHER_MAY_COME = 5.0  # seconds without a weight, in which one vehicle may go and another come
 
 
@@ -16,20 +17,20 @@ class OffZero:
         self.forget()
 
     def forget(self) -> None:
-        """The service was started: its zero is another one, and what it refused before doesn't count."""
+        """Forget everything, because the service was started. Its zero is another one, and earlier refusals don't count."""
         self.at: float | None = None  # of the last weight
         self.gross: int | None = None  # the last weight
-        self.since: float | None = None  # from then on the bridge has been light, stable and off zero
-        self.asked: int | None = None  # what the bridge shows, if zero is to be set
+        self.since: float | None = None  # the moment from which the bridge has been light, stable and off zero
+        self.asked: int | None = None  # what the bridge shows, if the clerk must set zero
         self.light: int | None = None  # the last stable weight of the light bridge; -20 e if it was below that
         self.is_loaded = False
-        self.refused_from: int | None = None  # at this weight or a greater one zero was refused as too great
-        self.refused_to: int | None = None  # at this weight or a smaller one it was refused as too small
+        self.refused_from: int | None = None  # the service refused zero at this weight as too great, so also at a greater one
+        self.refused_to: int | None = None  # the service refused zero at this weight as too small, so also at a smaller one
 
     # ---- what comes
 
     def saw(self, at: float, state: str, gross: int | None) -> None:
-        """A value of the terminal at its moment, with the gross if that is known."""
+        """Process a value that the terminal sent at the moment `at`. `gross` is None if it isn't known."""
         if self.at is not None and at - self.at > ANOTHER_MAY_COME:
             self.light = self.since = self.asked = None
         limit = MIN_INTERVALS * self.interval
@@ -58,7 +59,7 @@ class OffZero:
             self.asked = gross
 
     def answered(self, reply: str) -> None:
-        """What the terminal answered to `Z`, whoever asked."""
+        """Process the terminal's answer to `Z`, whichever client sent the `Z`."""
         if reply == "Z A":
             self.since = self.asked = self.refused_from = self.refused_to = None
         elif reply == "Z +" and self.gross is not None:
@@ -66,14 +67,17 @@ class OffZero:
         elif reply == "Z -" and self.gross is not None:
             self.refused_to = self.gross
 
-    # ---- what is told
+    # ---- what the pages get
 
     def _is_refused(self, gross: int) -> bool:
         return (self.refused_from is not None and gross >= self.refused_from) or (self.refused_to is not None and gross <= self.refused_to)
 
     def shown(self) -> dict[str, int | bool | None]:
-        """`kg`: what the empty bridge shows, if zero is to be set; `is_refused`: the service refuses it. `before`: what the bridge showed before the
-        vehicle that is on it, None if that isn't known; `is_doubtful`: a Single of it may be wrong by five intervals or more."""
+        """Return what a page shows about zero.
+
+        `kg`: what the empty bridge shows, if the clerk must set zero. `is_refused`: the service refuses that zero. `before`: what the bridge showed
+        before the vehicle that is on it, None if that isn't known. `is_doubtful`: a Single of that vehicle may be wrong by five intervals or more.
+        """
         is_known = self.light is not None and abs(self.light) < DOUBTS_FROM * self.interval
         return {
             "kg": self.asked,

@@ -110,7 +110,10 @@ class Printing:
             thread.join(END_WITHIN)
 
     async def _beside(self, work: Callable[[], T], is_note: bool = True) -> T:
-        """Does something with the database beside the event loop. Raises OSError, and says so once; that it is over, once something was noted."""
+        """Run `work` on the database, outside the event loop.
+
+        Raises OSError, and logs the fault once. Once a note is written, logs that the fault is over.
+        """
         loop = asyncio.get_running_loop()
         slow = loop.call_later(SLOW_AFTER, self._fails, f"{self.spool.folder}: the disk takes longer than {SLOW_AFTER:g} s: look at it")
         try:
@@ -128,7 +131,7 @@ class Printing:
 
     def _fails(self, why: str) -> None:
         if not self.fault:
-            tell(f"{why}. No paper is printed meanwhile; weighing goes on")
+            tell(f"{why}. Until the disk works, no paper is printed; weighing continues")
         self.fault = why
         self.on_change()
 
@@ -174,7 +177,10 @@ class Printing:
             await self._noted(note)
 
     def _check(self, text: Text, keys: Mapping[int, str], before: str | None) -> None:
-        """Whether the text's digest is that of its fields. Where all was purged, the entry before is none any more. Raises NoText."""
+        """Check that the text's digest is that of its fields. Raises NoText if it isn't.
+
+        After a purge of all entries there is no previous entry, so its digest may be zeros.
+        """
         own = text.own.number
         try:
             check_digests(text, keys, {} if before is None else {own - 1: before})

@@ -53,7 +53,7 @@ def entry_of_row(row: str) -> Entry:
 
 
 def rows_of(export: str) -> list[str]:
-    """The rows of an export of the journal. Raises NoText if it is none, or was cut."""
+    """Return the rows of an export of the journal. Raises NoText if the text is no export, or was cut."""
     header, *rows = export.split("\n")
     if header != HEADER or not rows or rows[-1]:
         raise NoText(header[:40])
@@ -61,12 +61,12 @@ def rows_of(export: str) -> list[str]:
 
 
 def has_key(export: str, key: str) -> bool:
-    """Whether an entry of an export has this key, letter for letter: no other column is looked at. Raises NoText."""
+    """Return True if an entry of an export has exactly this key. Only the column `key` is compared. Raises NoText."""
     return key in {fields_of(row)[1] for row in rows_of(export)}
 
 
 def fields_of(row: str) -> list[str]:
-    """The fields of a row, none of which has a comma in it."""
+    """Return the fields of a row. No field has a comma in it. Raises NoText if their number is wrong."""
     parts = row.split(",")
     if len(parts) != len(FIELDS):
         raise NoText(row[:40])
@@ -86,7 +86,7 @@ def serial_of_row(row: str) -> str:
 
 
 def digest_of_text(text: str) -> str:
-    """The digest of the entry that a text was made for: its own block is the last."""
+    """Return the digest of the entry that a text was made for. That entry's block is the last."""
     return text.rpartition("DIGEST ")[2][:64]
 
 

@@ -248,7 +248,7 @@ class Queue:
 
 
 def sync_folder(folder: Path) -> None:
-    """What was renamed or removed in a folder is so only once the folder itself is on the disk."""
+    """Sync a folder to the disk. Only then is a rename or removal in it safe from a power cut."""
     it = os.open(folder, os.O_RDONLY | os.O_DIRECTORY)
     try:
         os.fsync(it)
