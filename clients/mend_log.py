@@ -1,21 +1,23 @@
 #!/usr/bin/env python3
-"""Mends flipped bits in the log of a journal, one in a frame at most, in a copy: for a log that the program refuses since it is damaged.
+"""Repairs flipped bits in a copy of a journal's log, at most one in each frame. Use it if the program refuses the log because it is damaged.
 
   clients/mend_log.py /var/lib/weighbridge/journal.db /srv/mended
 
-Every frame of a log has a checksum of all that stands before it. So in the first frame that isn't whole, or in the log's header, each bit is
-turned over by itself, and then in the next one that isn't whole, until all are, eight at most. A checksum takes some bits for one another: of several
-that make the frame whole, and the one behind it, those count with which SQLite finds its database whole and verify.py, beside this program, the
-journal. Where that is exactly one bit, it is taken for the flipped one; of several in a page that stands again further on in the log it is the first,
-since no entry hangs on it.
+Every frame of a log has a checksum of everything before it. So this program goes to the first damaged place, which is the log's header or a frame,
+and turns over each bit there, one at a time. It repeats this at the next damaged place until each frame is whole. It gives up if more than eight places are damaged.
 
-The journal's files with it are written into a new folder; the files themselves are only read. What was changed is printed. Then the copy is looked
-at as the program does, by its log, its entries and its `-newest` file, and by the program itself if it is named or in the PATH. What is still wrong is
-printed, with status 1. Show it to the inspector, with both copies: a mended journal is evidence like the damaged one.
+A checksum can't tell some bits apart, so several bits may make the frame and the next frame whole. Then only those count with which SQLite finds its
+database whole, and verify.py (in the same folder) finds the journal whole. If exactly one bit is left, that is the flipped one. If several are left
+in a page that a later commit of the log wrote again, the program chooses the first, because no entry depends on that page.
 
-It needs Python alone, 3.8 or later, and takes some seconds. Stop the service before.
-Status: 0 a mended copy was written, and nothing is wrong with it; 1 nothing was written, since nothing is damaged or no single bits mend it, or
-something is still wrong with the copy; 2 a file can't be read or written.
+The program writes the repaired log and the journal's other files into a new folder. It only reads the original files. It prints what it changed. Then
+it checks the copy as the service does: the log, the entries and the `-newest` file. If `weighbridge` is in the PATH, or `--program` names it, it
+runs that program's check too. It prints what is still wrong, and returns status 1 then. Show its output and both copies to the inspector, because a repaired journal is
+evidence like the damaged one.
+
+It needs only Python 3.8 or later, and takes some seconds. Stop the service before.
+Status: 0 if it wrote a repaired copy and nothing is wrong with it; 1 if it wrote nothing, because nothing is damaged or no single bits repair it, or if
+something is still wrong with the copy; 2 if it can't read or write a file.
 """
 import argparse
 import hashlib
@@ -27,28 +29,30 @@ import subprocess
 import sys
 import tempfile
 
-sys.dont_write_bytecode = True  # nothing is written beside this program
+sys.dont_write_bytecode = True  # so that Python writes nothing next to this program
 sys.path.insert(0, os.path.dirname(os.path.realpath(__file__)))
 import verify  # noqa: E402
 from verify import FRAME_HEADER, HEADER, Unreadable, checksum  # noqa: E402
 
 BESIDE = ("", "-wal", "-newest")
-# The number of a commit's first frame that counts.
+# The page number of a commit's first frame if it counts zeros.
 COUNT = verify.COUNT.to_bytes(4, "big")
 MOST_BITS, MOST_WAYS = 8, 64
 
 
 class Log(verify.Log):
-    """A log, by its bytes."""
+    """The bytes of a log, and where a repair may go."""
 
     def is_end(self, at):
-        """Whether the log may end at this byte: a frame that was never finished, or one of a log before this one."""
+        """Return True if the log may end at byte `at`, because a frame there was never finished or is of an earlier log."""
         frame = self.data[at:at + self.length]
         return len(frame) < self.length or frame[8] == 0 or sum(a != b for a, b in zip(frame[8:16], self.salts)) > 1
 
     def is_counted(self, at):
-        """Whether the commit with the frame at this byte is one that counts nothing, or has what it counted: its zeros, and how far its numbers lie below
-        that of the frame that counts."""
+        """Return True if the commit with the frame at byte `at` counts nothing, or has what it counted.
+
+        It counts its zeros, and how far its numbers are below the number of the frame that counts.
+        """
         begin = at
         while begin > HEADER and not any(self.data[begin - self.length + 4:begin - self.length + 8]):
             begin -= self.length
@@ -65,14 +69,17 @@ class Log(verify.Log):
         return found == int.from_bytes(self.data[begin + FRAME_HEADER:begin + FRAME_HEADER + 8], "big")
 
     def first_damage(self):
-        """The byte from which the first frame isn't whole. None if there is none before the log's end."""
+        """Return the byte where the first frame that isn't whole begins. Return None if each frame up to the log's end is whole."""
         at = HEADER
         while self.is_whole(at):
             at += self.length
         return None if self.is_end(at) and not self.signed_behind(at + self.length) else at
 
     def refusal(self, size):
-        """Why the program refuses this log beside a file of so many bytes; None if it takes it. It looks closer than SQLite, and takes less."""
+        """Return why the program refuses this log of a journal file of `size` bytes. Return None if it accepts the log.
+
+        The program checks more than SQLite, and accepts less.
+        """
         damage = self.damage(size)
         stop = self.first_stop() if damage is None and self.is_signed() else None
         if stop is not None:
@@ -84,25 +91,34 @@ class Log(verify.Log):
 
 
 def turned(data, bit):
-    """The data with one bit turned over."""
+    """Return the data with one bit turned over."""
     other = bytearray(data)
     other[bit // 8] ^= 1 << bit % 8
     return bytes(other)
 
 
 def is_mended_at(log, at):
-    """Whether the frame at this byte is whole, and the next one, unless the log ends there, and its commit has as many zeros as it counted."""
+    """Return True if the frame at byte `at` and the next one are whole, and its commit has what it counted.
+
+    If the log ends behind the frame, there needn't be a next one.
+    """
     return log.is_whole(at) and (log.is_whole(at + log.length) or log.is_end(at + log.length)) and log.is_counted(at)
 
 
 def bits_of_header(data):
-    """Each bit of the header by which it is whole, and the first frame too; if there is none, by which it is whole itself."""
+    """Return each bit of the header that, turned over, makes the header and the first frame whole.
+
+    If there is none, return each bit that makes the header itself whole.
+    """
     whole = [bit for bit in range(8 * HEADER) if Log(turned(data, bit)).is_signed()]
     return [bit for bit in whole if is_mended_at(Log(turned(data, bit)), HEADER)] or whole
 
 
 def bits_of_frame(log, at):
-    """Each bit of the frame at this byte by which it is whole, and the next one too; if there is none, by which it is whole itself."""
+    """Return each bit of the frame at byte `at` that, turned over, makes this frame and the next one whole.
+
+    If there is none, return each bit that makes the frame itself whole.
+    """
     frame = log.data[at:at + log.length]
     content, stored = frame[:8] + frame[FRAME_HEADER:], struct.unpack(">2I", frame[16:24])
     total = checksum(log.order, log.sum_before(at), content)
@@ -119,7 +135,10 @@ def bits_of_frame(log, at):
 
 
 def bits_by_checksum(order, content, first, second):
-    """Each bit of this content by which its checksum is greater by these two numbers: a checksum is a sum in which each word has its own two weights."""
+    """Yield each bit of the content that, turned over, makes the two sums of its checksum greater by `first` and `second`.
+
+    A checksum is a sum in which each word has two weights of its own.
+    """
     first, second = first & 0xFFFFFFFF, second & 0xFFFFFFFF
     words = struct.unpack(f"{order}{len(content) // 4}I", content)
     weights = [(1, 1), (0, 1)]  # of the last two words
@@ -134,11 +153,11 @@ def bits_by_checksum(order, content, first, second):
 
 
 class Stuck(Exception):
-    """No single bits mend it."""
+    """Raised if no single bits repair the log."""
 
 
 def ways(data, bits=()):
-    """Each way to make the log whole by one bit in each damaged place: the bits. Raises Stuck where there is none in a place."""
+    """Return each way to make the log whole with one bit in each damaged place, as a tuple of bits. Raises Stuck if a place has no such bit."""
     log = Log(data)
     at = log.first_damage() if log.is_signed() else 0
     if at is None:
@@ -170,7 +189,7 @@ def with_bits(data, bits):
 
 
 def faults_of(files):
-    """What the reader for inspectors finds wrong with a journal of these files, and SQLite with the database."""
+    """Return what verify.py finds wrong with a journal of these files, and what SQLite finds wrong with the database."""
     with tempfile.TemporaryDirectory() as folder:
         path = os.path.join(folder, "journal.db")
         for end, it in files.items():
@@ -184,7 +203,7 @@ def faults_of(files):
 
 
 def stands_again(log, at):
-    """Whether a later commit of the log wrote the page anew that the frame at this byte has."""
+    """Return True if a later commit of the log wrote the page of the frame at byte `at` again."""
     page, it, last = log.data[at:at + 4], at + log.length, 0
     while log.is_whole(it):
         last = it if log.data[it:it + 4] == page else last
@@ -195,7 +214,7 @@ def stands_again(log, at):
 
 
 def flipped_bits(files):
-    """The bits of the log that are flipped."""
+    """Return the bits of the log that are flipped. End the program if they can't be found."""
     data = files["-wal"]
     if len(data) < HEADER:
         sys.exit("nothing was written: the log has no whole header")
@@ -218,19 +237,19 @@ def flipped_bits(files):
 
 
 def place_of(log, bit):
-    """The byte from which the frame begins that has this bit; 0 for the header."""
+    """Return the byte where the frame with this bit begins. Return 0 for the header."""
     byte = bit // 8
     return 0 if byte < HEADER else byte - (byte - HEADER) % log.length
 
 
 def asked_program(program, copy):
-    """What the program says of a copy that it refuses; nothing if it takes it, or isn't there."""
+    """Return what the program says about a copy that it refuses. Return an empty list if it accepts the copy, or if `program` is None."""
     if program is None:
         return []
     try:
         it = subprocess.run([program, "check", "--file", copy], capture_output=True, text=True, timeout=600)
     except (OSError, subprocess.SubprocessError) as fault:
-        return [f"{program} can't be asked: {fault}"]
+        return [f"{program} can't be run: {fault}"]
     return [] if it.returncode == 0 else [f"{program} check --file {copy}: {' '.join((it.stdout + it.stderr).split())}"]
 
 
@@ -247,10 +266,10 @@ def write(path, data):
 
 
 def mend(path, folder, program):
-    """Writes the mended copy, and says what was done, and what is still wrong. The status."""
+    """Write the repaired copy, and print what was done and what is still wrong. Return the exit status."""
     data = {end: read(path + end) for end in BESIDE if end == "-wal" or os.path.exists(path + end)}
     if not data.get(""):
-        sys.exit("nothing was written: the journal's file is missing or empty, and no bit of its log mends that")
+        sys.exit("nothing was written: the journal's file is missing or empty, and no bit of its log repairs that")
     bits = flipped_bits(data)
     before, data["-wal"] = data["-wal"], with_bits(data["-wal"], bits)
     log = Log(data["-wal"])
@@ -268,20 +287,20 @@ def mend(path, folder, program):
         byte = bit // 8
         print(f"{path}-wal: bit {bit % 8} of byte {byte}, in {where_of(place_of(log, bit))}, was flipped: {before[byte]:#04x} is {data['-wal'][byte]:#04x} in the copy")
     print(f"damaged log, SHA-256 {hashlib.sha256(before).hexdigest()}")
-    print(f"mended log, SHA-256 {hashlib.sha256(data['-wal']).hexdigest()}")
+    print(f"repaired log, SHA-256 {hashlib.sha256(data['-wal']).hexdigest()}")
     left = faults_of(data) + asked_program(program, copy)
     for it in left:
         print(f"still wrong: {it}")
-    print(f"the copy is {copy}; look at it by: weighbridge check --file {copy}")
-    print("show both to the inspector before the copy is served")
+    print(f"the copy is {copy}; check it by: weighbridge check --file {copy}")
+    print("show both to the inspector before a service uses the copy")
     return 1 if left else 0
 
 
 def main():
     parser = argparse.ArgumentParser(description=__doc__, formatter_class=argparse.RawDescriptionHelpFormatter)
     parser.add_argument("journal", help="the journal's file, whose log is refused")
-    parser.add_argument("folder", help="the folder to be made for the mended copy")
-    parser.add_argument("--program", default=shutil.which("weighbridge"), help="the program that is asked whether it takes the copy; weighbridge, if that is in the PATH")
+    parser.add_argument("folder", help="the folder to make for the repaired copy")
+    parser.add_argument("--program", default=shutil.which("weighbridge"), help="the program that checks the copy; weighbridge, if that is in the PATH")
     words = parser.parse_args()
     try:
         return mend(words.journal, words.folder, words.program)

@@ -122,7 +122,7 @@ class Service:
         converter.begin()
         self.wait_for_office()
         if isinstance(converter, Fed):
-            # the service answers once it has polled its converter for a second: what is sent from now on is new
+            # The service answers once it has polled its converter for a second, so all that is sent from now on is new.
             get(self, "/indication")
 
     def wait_for_office(self):

@@ -92,14 +92,17 @@ class Browser:
         self.call("POST", "/actions", {"actions": [{"type": "key", "id": "keyboard", "actions": actions}]})
 
     def key_event(self, name, is_down=True, is_repeat=False):
-        """One event of a key, as the system sends it: `Enter`, `Escape` or `F1` to `F12`. A key that is held comes down again and again, with `is_repeat`."""
+        """Send one event of the key `Enter`, `Escape` or `F1` to `F12`, as the system sends it.
+
+        While a key is held, the system sends its event again and again, with `is_repeat`.
+        """
         codes = {"Enter": 13, "Escape": 27} | {f"F{it}": 111 + it for it in range(1, 13)}
         text = {"text": "\r"} if name == "Enter" and is_down else {}
         kind = "keyUp" if not is_down else "keyDown" if text else "rawKeyDown"
         self.tool("Input.dispatchKeyEvent", type=kind, code=name, key=name, windowsVirtualKeyCode=codes[name], autoRepeat=is_repeat, **text)
 
     def hold(self, name, seconds, every=0.033):
-        """Holds a key down for so long, as a keyboard repeats it after half a second."""
+        """Hold a key down for `seconds`. After up to half a second it repeats, as on a keyboard."""
         until = time.monotonic() + seconds
         self.key_event(name)
         time.sleep(min(0.5, seconds / 3))
@@ -109,13 +112,13 @@ class Browser:
         self.key_event(name, is_down=False)
 
     def hammer(self, text, pause):
-        """Types as `keys`, with so many seconds between two keys, as the driver keeps them."""
+        """Type as `keys` does. The driver waits `pause` seconds after each key."""
         wait = {"type": "pause", "duration": round(1000 * pause)}
         actions = [action for it in text for action in ({"type": "keyDown", "value": it}, {"type": "keyUp", "value": it}, wait)]
         self.call("POST", "/actions", {"actions": [{"type": "key", "id": "keyboard", "actions": actions}]})
 
     def click_at(self, x, y, count=1):
-        """A click of the mouse at a point of the window, or so many at once: a double click is two."""
+        """Click the mouse at a point of the window, `count` times at once. A double click is two."""
         for it in range(1, count + 1):
             for kind in ("mousePressed", "mouseReleased"):
                 self.tool("Input.dispatchMouseEvent", type=kind, x=x, y=y, button="left", clickCount=it)

@@ -66,11 +66,11 @@ class Clerk:
         becomes(what or f"the clerk sees: {words}", lambda: words in self.words(), seconds)
 
     def is_ready(self):
-        """Whether the weigh button can be pressed: the page says so of the plate that stands there."""
+        """Return True if the clerk can press the weigh button for the plate in the field."""
         return self.browser.run("return !document.getElementById('go').disabled")
 
     def answers(self):
-        """The answers to the page's question, with their keys."""
+        """Return the answers to the page's question, with their keys."""
         return self.browser.run("return [...document.querySelectorAll('#hint .answer')].map(it => it.textContent)")
 
     def kept(self):

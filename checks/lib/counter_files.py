@@ -1,4 +1,7 @@
-"""The counter's own files on a disk that is full, read-only, slow, or loses its power, and the lists once the journal is another one, for checks/counter."""
+"""Part of checks/counter: the counter's own files, and its lists after the journal was exchanged.
+
+The disk is full, read-only or slow, or loses its power.
+"""
 
 import glob
 import os
@@ -18,7 +21,7 @@ NOT_NOTED = (503, "counter no_file\n")
 
 
 class SmallDisk:
-    """A disk of its own for the counter's folder, which is filled, or takes no writing."""
+    """A separate disk for the counter's folder. The check fills it, or makes it read-only."""
 
     def __init__(self, folder):
         self.folder = folder
@@ -47,7 +50,7 @@ class SmallDisk:
 
 
 def can_mount(folder):
-    """Whether this user may mount a disk."""
+    """Return True if this user can mount a disk."""
     os.mkdir(folder)
     is_mounted = subprocess.run(["mount", "-t", "tmpfs", "tmpfs", folder], capture_output=True).returncode == 0
     if is_mounted:
@@ -66,7 +69,7 @@ def faults(bridge):
 
 
 def weighs_on(bridge, what, key):
-    """All but a tare goes on, with the scale's replies and the office's texts."""
+    """Show that everything except a tare still works, with the scale's replies and the office's texts."""
     bridge.put(0)
     same(f"{what}: zero by the page is answered as the scale answers it", '{"said": "Z A"}', bridge.ask("POST", "/zero")[1])
     same(f"{what}: and by a till", "Z A", bridge.terminal_says("till", "Z"))
@@ -85,7 +88,7 @@ def weighs_on(bridge, what, key):
 
 
 def is_over(bridge, what, key):
-    becomes(f"{what}: over by itself", lambda: not faults(bridge) & {"files", "papers"})
+    becomes(f"{what}: the fault ends automatically", lambda: not faults(bridge) & {"files", "papers"})
     bridge.next_vehicle(9170)
     status, text = bridge.weigh(f"{key}-after", "single", "T-2", 5000)
     holds(f"{what}: then a weighing with a tare is stored", status == 201 and "PT       5000 kg\n" in text, text)
@@ -102,7 +105,7 @@ def is_set_on_disk(bridge):
 def on_a_disk_that_takes_nothing(program):
     bridge = Bridge(program, 20)
     if not can_mount(f"{bridge.folder}/probe"):
-        print("a disk that is full or read-only: left out, since this user may mount none")
+        print("a disk that is full or read-only: left out, because this user can't mount one")
         bridge.close()
         return
     disk = SmallDisk(f"{bridge.folder}/state")
@@ -118,7 +121,7 @@ def on_a_disk_that_takes_nothing(program):
             time.sleep(3)
             found = lines_of(bridge, "zero.json: it can't be written")[-1]
             holds(
-                f"{what}: the log says it once of each file, with what to do",
+                f"{what}: the log names each file once, with what to do",
                 len(lines_of(bridge, "zero.json: it can't be written")) == (1 if what == "full" else 2) and "look at the disk" in found,
                 found,
             )
@@ -128,7 +131,7 @@ def on_a_disk_that_takes_nothing(program):
             same(f"{what}: a counter that is started on it weighs", 201, bridge.weigh(f"{what}-start", "first", f"S-{what}".upper())[0])
             bridge.put(0)
             bridge.ask("POST", "/zero")
-            becomes(f"{what}: and tells it again", lambda: "files" in faults(bridge))
+            becomes(f"{what}: and reports the fault again", lambda: "files" in faults(bridge))
             end()
             is_over(bridge, what, what)
             holds(f"{what}: and the log says that it is over", len(lines_of(bridge, "is written again")) > before[1])
@@ -138,7 +141,7 @@ def on_a_disk_that_takes_nothing(program):
 
 
 def traced(bridge, *words):
-    """strace at the counter; it is told once it is there."""
+    """Attach strace to the counter, and return once it is attached."""
     log = f"{bridge.folder}/strace.log"
     tracing = subprocess.Popen(["strace", "-f", "-y", "-o", log, *words, "-p", str(bridge.counter.pid)], stderr=subprocess.PIPE, text=True)
     holds("strace is there", "attached" in tracing.stderr.readline())
@@ -151,7 +154,7 @@ def ended(tracing):
 
 
 def on_a_slow_disk(bridge):
-    """Each fsync takes seconds: nobody waits for it."""
+    """Show that nobody waits for an fsync that takes `SLOW` seconds."""
     tracing, _ = traced(bridge, "-e", "trace=fsync,fdatasync", "-e", f"inject=fsync,fdatasync:delay_enter={SLOW}s")
     try:
         bridge.put(0)
@@ -171,11 +174,14 @@ def on_a_slow_disk(bridge):
         holds("a slow disk: no weight waits for it", bool(gaps) and max(gaps) < 700, f"{max(gaps, default=0)} ms at most")
     finally:
         ended(tracing)
-    becomes("a slow disk: over by itself", lambda: "files" not in faults(bridge))
+    becomes("a slow disk: the fault ends automatically", lambda: "files" not in faults(bridge))
 
 
 def reaches_the_disk(bridge):
-    """What a power cut may leave: a file is renamed once it is on the disk, and its folder is synced then, also where a tare is dropped."""
+    """Show in which order a change reaches the disk, so that a power cut leaves a whole file.
+
+    A file is renamed once it is on the disk, and then its folder is synced. The folder is synced even if a tare is dropped.
+    """
     tracing, log = traced(bridge, "-e", "trace=fsync,rename,renameat,renameat2,unlink,unlinkat")
     try:
         same("a tare is kept", 200, bridge.ask("PUT", "/tares/CUT-1", body='{"kg": 5000}')[0])
@@ -191,11 +197,11 @@ def reaches_the_disk(bridge):
     kept = ["fsync tares.json.new", "rename tares.json", "fsync ."]
     same("each change of tares.json is the file, its name, its folder", kept * 2, following(calls, "tares.json"))
     noted = ["fsync act.json.new", "rename act.json", "fsync .", "unlink act.json", "fsync ."]
-    same("and the note of a tare, also where it is taken away", noted, following(calls, "act.json"))
+    same("and the note of a tare, including its removal", noted, following(calls, "act.json"))
 
 
 def call_of(line, folder):
-    """A call on a file of the folder, in short."""
+    """Return a call on the folder or one of its files as its name and that file. Return None for any other call."""
     found = re.search(r"(fsync)\(\d+<([^>]*)>\)|(rename|unlink)\w*\((?:AT_FDCWD[^,]*, )?\"([^\"]*)\"(?:, (?:AT_FDCWD[^,]*, )?\"([^\"]*)\")?", line)
     if not found:
         return None
@@ -204,7 +210,7 @@ def call_of(line, folder):
 
 
 def following(calls, name):
-    """The calls on one file, each with what comes next at the folder."""
+    """Return the calls on one file. Each rename or removal is followed by the next call in the folder."""
     found = []
     for it, after in zip(calls, [*calls[1:], ""]):
         if it.split(" ")[1] in (name, f"{name}.new"):
@@ -222,7 +228,7 @@ def plates(bridge, which):
 
 
 def with_another_journal(bridge, change):
-    """The service is stopped, its files are changed, and it is started again."""
+    """Stop the service, change its files, and start it again."""
     bridge.put(0)
     bridge.kill_service()
     change(f"{bridge.folder}/journal.db")
@@ -231,7 +237,7 @@ def with_another_journal(bridge, change):
 
 
 def purged(until):
-    """As a purge takes entries out: their numbers and keys stay as spent ones."""
+    """Return a change that removes the entries up to `until` as a purge does. Their numbers and keys stay as spent ones."""
 
     def change(path):
         with sqlite3.connect(path) as journal:
@@ -255,21 +261,21 @@ def pair(bridge, name):
 
 
 def another_journal(bridge):
-    """A purge is none; a new file, an older copy and another bridge's are, until a clerk closes it."""
+    """Show that the counter reports no purge as another journal, but a new file, an older copy and another bridge's, until a clerk closes it."""
     for name in ("P-1", "P-2", "P-3"):
         same(f"{name} is weighed in and out", 201, pair(bridge, name)[0])
     becomes("they are on the lists", lambda: len(plates(bridge, "today")) == 6)
     exports = exports_of(bridge)
     with_another_journal(bridge, purged(2))
     becomes("after a purge of a part the lists are read again", lambda: exports_of(bridge) > exports)
-    same("they have what stays, and nothing is told", (["P-3", "P-3", "P-2", "P-2"], None), (plates(bridge, "today"), told(bridge)))
+    same("they have what stays, and the counter reports nothing", (["P-3", "P-3", "P-2", "P-2"], None), (plates(bridge, "today"), told(bridge)))
     with_another_journal(bridge, purged(6))
     bridge.next_vehicle(9170)
     same("after a purge of everything a vehicle is weighed in", 201, bridge.weigh("after-purge", "first", "Q-7")[0])
     same("its paper isn't taken for a changed text", None, bridge.json("GET", "/papers")["refused"])
     bridge.put(0)
     becomes("the lists have it, and nothing else", lambda: plates(bridge, "today") == ["Q-7"])
-    same("and nothing is told but what may be so", True, told(bridge) in (None, ("empty", 6, 0)))
+    same("and the counter reports at most that no entry is left", True, told(bridge) in (None, ("empty", 6, 0)))
     bridge.ask("POST", "/lists/seen")
     copy = f"{bridge.folder}/copy-of-the-journal"
     with_another_journal(bridge, lambda path: copied(path, copy))
@@ -280,18 +286,18 @@ def another_journal(bridge):
     same("two more are on site", ["Q-9", "Q-8", "Q-7"], plates(bridge, "on_site"))
     with_another_journal(bridge, lambda path: restored(copy, path))
     becomes("after an older copy was restored only its vehicles are on site", lambda: plates(bridge, "on_site") == ["Q-7"])
-    same("it is told, with the numbers", ("shorter", 9, 7), told(bridge))
+    same("the counter reports it, with the numbers", ("shorter", 9, 7), told(bridge))
     same("and /health names it", True, "journal_changed" in faults(bridge))
     bridge.kill_counter()
     bridge.start_counter()
-    same("also once the counter was started again", ("shorter", 9, 7), told(bridge))
+    same("even after the counter was started again", ("shorter", 9, 7), told(bridge))
     same("a clerk closes it", (200, None), (bridge.ask("POST", "/lists/seen")[0], told(bridge)))
     with_another_journal(bridge, removed)
     bridge.next_vehicle(9170)
     bridge.weigh("new-1", "first", "NEW-1")
     becomes("after a new file Today has its papers and no older ones", lambda: plates(bridge, "today") == ["NEW-1"])
     same("On site too", ["NEW-1"], plates(bridge, "on_site"))
-    same("and it is told", True, told(bridge) in (("empty", 7, 0), ("shorter", 7, 1)))
+    same("and the counter reports it", True, told(bridge) in (("empty", 7, 0), ("shorter", 7, 1)))
     same("a key of the file before isn't found", False, bridge.json("GET", "/keys/after-purge")["found"])
     same("the paper of the new file isn't refused", None, bridge.json("GET", "/papers")["refused"])
 
@@ -327,6 +333,6 @@ def show(program):
             reaches_the_disk(bridge)
             on_a_slow_disk(bridge)
         else:
-            print("a slow disk, and what reaches it in which order: left out, since strace is not installed")
+            print("a slow disk, and what reaches it in which order: left out, because strace is not installed")
     finally:
         bridge.close()

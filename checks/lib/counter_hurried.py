@@ -1,6 +1,7 @@
-"""A clerk in a hurry at the counter's page, for checks/counter: who hammers or holds a key, clicks twice, or calls a bridge empty that isn't at zero.
+"""Part of checks/counter: a clerk in a hurry at the counter's page.
 
-Nothing is stored but what was asked for by its own key, and never a ticket of another plate.
+The clerk hammers or holds a key, clicks twice, or treats a bridge as empty that isn't at zero. The counter stores only what the clerk asked for by
+the key of that answer, and never a ticket of another plate.
 """
 
 import time
@@ -13,12 +14,12 @@ KNOWN, NEW, ON_SITE = "RA-KM-1238", "RA-KM-1237", "RA-KM-1236"
 
 
 def rows(bridge):
-    """What is stored: kind and plate of each entry."""
+    """Return kind and plate of each stored entry."""
     return [(it[2], it[3]) for it in bridge.entries()]
 
 
 def weighed_before(bridge):
-    """A fleet of running numbers: one vehicle was weighed in and out, one is on site, and one comes for the first time."""
+    """Prepare a fleet of running numbers: one vehicle has a ticket, one is on site, and one comes for the first time."""
     bridge.next_vehicle(4000)
     bridge.weigh("past-1", "single", KNOWN, 1000)
     bridge.next_vehicle(9170)
@@ -32,7 +33,7 @@ def asks(clerk, typed, words, answers, what):
 
 
 def nothing_comes_of(bridge, clerk, what, act, plate):
-    """Whatever was done, nothing more is stored, nothing is on its way, and the plate is still this one."""
+    """Show that `act` stores nothing more, that no request is under way, and that the plate is still `plate`."""
     before = rows(bridge)
     act()
     time.sleep(0.3)
@@ -48,7 +49,7 @@ def a_question_at_each_plate_that_may_be_another(bridge, clerk):
     asks(clerk, "RAKM1236", f"{ON_SITE} is on site.", one, "equal without hyphens: it asks")
     clerk.keys(ESCAPE + KNOWN)
     clerk.sees("Ready.", what="a known plate of running numbers: it asks nothing")
-    same("a known plate of running numbers: no answers stand there", [], clerk.answers())
+    same("a known plate of running numbers: the page shows no answers", [], clerk.answers())
     clerk.keys(ESCAPE + ON_SITE)
     clerk.sees("Ready.", what="the plate on site itself: it asks nothing")
 
@@ -135,7 +136,7 @@ def what_was_taken_is_weighed_once(bridge, clerk):
 
 
 def opens_by_search(clerk, plate):
-    """Opens the text of the newest entry of a plate."""
+    """Open the text of the newest entry of a plate."""
     press = "document.querySelector('#searching[open] #hits button')?.click(); return document.querySelector('#entry[open] .danger') !== null"
     clerk.keys(F4 + plate)
     becomes("the search finds it", lambda: plate in clerk.browser.run("return document.getElementById('hits').textContent"))
@@ -241,7 +242,7 @@ def a_single_off_zero(bridge, clerk):
     clerk.sees("Ready.", what="a Single after zero: it asks nothing")
     bridge.put(80)
     bridge.put(9170)
-    clerk.sees("The bridge showed 160 kg before this vehicle.", what="an answer is of one vehicle: the next one is asked for again")
+    clerk.sees("The bridge showed 160 kg before this vehicle.", what="an answer is for one vehicle: the page asks again at the next one")
     bridge.kill_counter()
     bridge.start_counter()
     clerk.sees(

@@ -341,7 +341,10 @@ def behind_nginx(bridge):
 
 
 def bars_of_the_files_and_the_journal(program):
-    """A bar says that another journal is in use until it is closed, on each page; another one that the counter's disk takes nothing."""
+    """Show two bars of the page.
+
+    One says on each page, until a clerk closes it, that another journal is in use. The other says that the counter can't write its files.
+    """
     bridge = Bridge(program, 10).start_counter()
     clerk, other = Clerk(at_of(bridge.http)), Clerk(at_of(bridge.http))
     try:

@@ -174,7 +174,9 @@ class WithATare(WithABridge):
         with contextlib.redirect_stderr(io.StringIO()) as said:
             told = await self.weigh(bridge)
         self.assertEqual((503, b"counter no_file\n", False), (told.status, told.body, told.is_sent))
-        self.assertEqual(([], [], True), (bridge.played.done, bridge.office.bodies, "act.json: it can't be written, because No such file" in said.getvalue()))
+        self.assertEqual(
+            ([], [], True), (bridge.played.done, bridge.office.bodies, "act.json: it can't be written, because No such file" in said.getvalue())
+        )
         self.assertFalse(bridge.acts.is_busy())
 
     async def test_without_values_nothing_is_sent(self):

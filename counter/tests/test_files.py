@@ -1,4 +1,4 @@
-"""The counter's own files on a disk that is full, takes no writing, hangs, or loses its power: no reply and no answer is another one."""
+"""The counter's own files on a disk that is full, read-only, hangs, or loses its power. Each reply and answer stays the same."""
 
 import asyncio
 import contextlib
@@ -31,7 +31,7 @@ FAULTS = (errno.ENOSPC, errno.EROFS, errno.EIO)
 
 
 class PlayedDisk:
-    """A disk that takes writes, refuses them, or hangs until it is told to go on."""
+    """A disk that takes writes, refuses them, or hangs until a test sets `goes_on`."""
 
     def __init__(self):
         self.fault, self.goes_on, self.tries = None, asyncio.Event(), 0
@@ -68,7 +68,7 @@ class TheWayToTheDisk(unittest.TestCase):
         self.path = Path(folder.name) / "tares.json"
 
     def calls_of(self, work):
-        """What reaches the disk, in its order."""
+        """Return what reaches the disk, in its order."""
         names, calls, real = {}, [], SimpleNamespace(open=os.open, fsync=os.fsync, replace=os.replace, unlink=os.unlink)
 
         def fsync(number):
@@ -211,7 +211,7 @@ class ATare(OnADisk):
             self.assertEqual((503, b"counter no_file\n", False), (told.status, told.body, told.is_sent))
             self.assertEqual(([], [], 0), (bridge.played.done, bridge.office.bodies, bridge.played.tare))
             told = await self.weigh(bridge, b"key=K2&kind=first&plate=AB-12")
-            self.assertEqual((201, TICKET.encode()), (told.status, told.body), "a weighing without a tare goes on")
+            self.assertEqual((201, TICKET.encode()), (told.status, told.body), "a weighing without a tare still works")
 
     async def test_a_note_that_hangs_keeps_nobody_waiting_at_the_terminal_or_the_office(self):
         bridge = self.bridge((201, TICKET), (201, TICKET))
@@ -251,7 +251,7 @@ class ATare(OnADisk):
         bridge.played.connect()
         bridge.played.reading(2)
         await bridge.until(bridge.acts.look())
-        self.assertTrue(bridge.played.fanout.is_settled, "a new connection is looked at, and everybody may ask")
+        self.assertTrue(bridge.played.fanout.is_settled, "the counter checks a new connection, and everybody may ask")
         self.disk.fault = None
         self.assertTrue(await bridge.files.bring())
         self.assertIsNone(bridge.on_disk())

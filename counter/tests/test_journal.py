@@ -1,4 +1,7 @@
-"""Another journal than before: the lists are those of the newest export and of what passed since, and what can't be a purge is told until it is closed."""
+"""The counter after the office's journal was exchanged for another one.
+
+The lists are those of the newest export and of what passed after it. If the change can't be a purge, the counter reports it until a clerk closes it.
+"""
 
 import asyncio
 import contextlib
@@ -40,7 +43,7 @@ class PlayedJournal:
         self.name, self.serial, self.rows, self.last = name, serial, {}, 0
 
     def weigh(self, plate):
-        """The text of a First."""
+        """Weigh a vehicle in, and return the text of its First."""
         self.last += 1
         previous = self.rows[self.last - 1].split(",")[10] if self.last - 1 in self.rows else ZEROS
         digest = hashlib.sha256(f"{self.name} {self.last} {plate} {previous}".encode()).hexdigest()
@@ -63,7 +66,7 @@ class PlayedJournal:
 
 
 class Office:
-    """Answers with the export of the moment in which it is asked, once it may."""
+    """Answers with the export of the moment of the request, once a test sets `goes_on`."""
 
     def __init__(self, journal):
         self.journal, self.goes_on = journal, asyncio.Event()
@@ -85,7 +88,7 @@ class WithBooks(unittest.IsolatedAsyncioTestCase):
         self.addCleanup(told.__exit__, None, None, None)
 
     def counter(self, journal):
-        """The books of a counter that is started now."""
+        """Return the books of a counter that is started now."""
         self.office = Office(journal)
         self.files = Files(self.folder, at_once)
         self.books = Books(self.office, BERLIN, Counts(), Journal(self.files))
@@ -99,7 +102,7 @@ class WithBooks(unittest.IsolatedAsyncioTestCase):
         self.assertTrue(await self.files.bring())
 
     async def begin(self, vehicles=5):
-        """A counter that has read a journal of some vehicles on site."""
+        """Make a counter that has read a journal with `vehicles` on site. Return the journal."""
         (self.folder / "journal.json").unlink(missing_ok=True)
         journal = PlayedJournal()
         for it in range(1, vehicles + 1):
@@ -112,7 +115,7 @@ class WithBooks(unittest.IsolatedAsyncioTestCase):
         return [it["plate"] for it in self.books.lists.on_site()]
 
     def told(self):
-        """Why, the last number before and the one now."""
+        """Return the reason, the last number before, and the last number now. Return None if the counter reports nothing."""
         it = self.books.journal.told
         return None if it is None else (it["why"], it["before"], it["now"])
 
@@ -242,7 +245,7 @@ class AnotherJournal(WithBooks):
         self.passes(other.weigh("N-2"))
         self.books.journal.seen()
         await self.read()
-        self.assertEqual((["N-2", "N-1"], ["N-2", "N-1"], None), (self.on_site(), self.today(), self.told()), "it is told once")
+        self.assertEqual((["N-2", "N-1"], ["N-2", "N-1"], None), (self.on_site(), self.today(), self.told()), "the counter reports it once")
 
     async def test_a_text_of_a_number_that_was_purged_is_of_another_journal(self):
         journal = await self.begin()
@@ -309,7 +312,7 @@ class AnotherJournal(WithBooks):
         self.assertEqual(((CHANGED, 5, 5), 4), (self.told(), len(self.on_site())))
 
     async def test_an_export_from_before_it_does_not_bring_it_back(self):
-        """The export was asked for, then the journal was exchanged and a vehicle weighed, then the export came."""
+        """Exchange the journal and weigh a vehicle after the counter has asked for an export, and before that export comes."""
         await self.begin()
         other = PlayedJournal("new")
         self.office.goes_on.clear()
@@ -370,7 +373,7 @@ class AnotherJournal(WithBooks):
 
 class ThePaperAfterAPurge(unittest.IsolatedAsyncioTestCase):
     async def taken(self, text, before, key="K2"):
-        """Whether a text is taken for the office's, and whether the lists are looked at again."""
+        """Return two truths: the counter accepts the text as the office's, and it checks the lists again."""
         missed = []
         with tempfile.TemporaryDirectory() as folder, contextlib.redirect_stderr(io.StringIO()):
             printing = Printing(Papers(Path(folder), Template(("Kieswerk",), (), "en", BERLIN)), lambda number: before)
@@ -393,7 +396,7 @@ class ThePaperAfterAPurge(unittest.IsolatedAsyncioTestCase):
 
 
 def at_zeros(number):
-    """A First upon a purge of all before it."""
+    """Return a First that follows a purge of all entries before it."""
     moment, at = 1741593600, "2025-03-10 08:00:00"
     signed = f"version 2\nnumber {number}\nkey K2\nkind first\nplate AB-12\nmoment {moment}\ngross 18340\npreset -\ninterval 20\nmax 60000\nserial WB01\nprevious {ZEROS}\n"
     digest = hashlib.sha256(signed.encode()).hexdigest()

@@ -159,7 +159,7 @@ class Kept(unittest.IsolatedAsyncioTestCase):
         self.folder, self.day = Path(folder.name), datetime.date(2025, 3, 10)
 
     def files(self):
-        """As a counter that is started now finds them."""
+        """Return the files as a counter that is started now finds them."""
         return Files(self.folder, at_once)
 
     def tares(self):

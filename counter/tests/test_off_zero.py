@@ -1,4 +1,4 @@
-"""An empty bridge that shows something, and what it showed before the vehicle came: on a clock that is played."""
+"""An empty bridge that is off zero, and what it showed before the vehicle came. The test plays the clock."""
 
 import tempfile
 import unittest
@@ -16,7 +16,7 @@ class Played(unittest.TestCase):
         self.at, self.bridge = 1000.0, OffZero(20)
 
     def shows(self, kg, seconds=1.0, state="S"):
-        """Ten readings a second, for so long; nothing else comes meanwhile."""
+        """Send ten readings a second for `seconds`, and nothing else. Return what the page shows."""
         for _ in range(round(seconds * 10)):
             self.at += 0.1
             self.bridge.saw(self.at, state, kg)
@@ -162,7 +162,7 @@ class BeforeTheVehicle(Played):
 
 
 class AtTheCounter(unittest.TestCase):
-    """The counter tells its pages: before the weight, and of whatever client's zero."""
+    """The counter informs its pages before it sends the weight, and after a zero of any client."""
 
     def setUp(self):
         folder = tempfile.TemporaryDirectory()

@@ -1,4 +1,5 @@
-// The one place that decides what the clerk is told to do now: a look, a word, its values, what may be pressed, and a question's answers with their keys.
+// The only place that decides what the page asks of the clerk now. It gives a look, a word with its values, what may be pressed, and the answers to a
+// question with their keys.
 
 import { ANSWER_KEYS } from './hands.js';
 
@@ -22,8 +23,9 @@ function isNear(one, other) {
   return isTurned || rests.includes(true);
 }
 
-// Vehicles on site that the plate may mean, the likeliest first: it is theirs without hyphens; or one letter off, and was never weighed; or a part of theirs.
-// `weighedNear` has the plates that were weighed before, so that a fleet's running numbers get no question. What it lacks is asked for once too often.
+// Returns the vehicles on site that the plate may mean, the likeliest first. The plate is theirs without hyphens, or differs by one letter and was never
+// weighed, or is a part of theirs.
+// `weighedNear` has the plates that were weighed before, so that a fleet's running numbers get no question. If it lacks a plate, the page asks once too often.
 export function alike(plate, onSite, weighedNear) {
   if (!plate || onSite.some(it => it.plate === plate)) return [];
   const typed = bare(plate), isNew = !weighedNear.includes(typed);
@@ -50,7 +52,7 @@ export function netOf(choice, gross) {
   return choice.tare ? gross - choice.tare : null;
 }
 
-// A question stands until it is answered for this plate and this vehicle. `subject` is what it asks of: of another one it is asked again.
+// A question stays until the clerk answers it for this plate and this vehicle. `subject` is what it asks about. For another subject the page asks again.
 const isAnswered = (now, question, subject) => now.answered[question] === subject;
 const answerTo = (question, subject, key, word) => ({ key, word, question, subject });
 
@@ -63,7 +65,7 @@ function isItOneOf(like) {
 
 const subjectOf = like => like.map(it => it.plate).join(' ');
 
-// A Single has no second weighing: what the bridge showed before the vehicle stays in its net.
+// A Single has no second weighing, so what the bridge showed before the vehicle stays in its net.
 function wasOffZero({ before }) {
   const answers = [answerTo('off_zero', `${before}`, ANSWER_KEYS.off_zero, 'weigh_all_the_same')];
   return before === null ? { look: 'wait', word: 'unknown_before', answers } : { look: 'wait', word: 'off_zero_before', values: { kg: before }, answers };

@@ -1,9 +1,9 @@
-// What a key does, and how long Enter is deaf: decided without a browser and without a clock of its own.
+// Decides what a key does, and how long Enter doesn't react. It needs no browser, and has no clock of its own.
 
-export const DEAF_FOR = 700;         // milliseconds after a plate was taken over or a question was answered
-export const HAMMERED_WITHIN = 250;  // milliseconds at most between two presses of a hand that hammers
+export const DEAF_FOR = 700;         // milliseconds after the clerk took a plate from a list or answered a question
+export const HAMMERED_WITHIN = 250;  // milliseconds at most between two presses by a clerk who hammers
 
-// Hands that hammer weigh nothing that eyes haven't seen: Enter and the weigh button are deaf for a while, and as long as Enter is hammered.
+// Enter and the weigh button don't react for a while, and while the clerk hammers Enter. So hammering weighs nothing that the clerk hasn't seen.
 export class Deafness {
   until = -Infinity;
 
@@ -16,7 +16,7 @@ export class Deafness {
 
 export const PAGE_KEYS = { F9: 'zero', F8: 'last', F4: 'find' };
 
-// Each question has keys of its own, so that a key pressed too often answers no other one. Chromium and Firefox leave them to the page.
+// Each question has keys of its own, so that a key pressed too often answers no other question. Chromium and Firefox leave these keys to the page.
 export const ANSWER_KEYS = { on_site: ['F1', 'F2', 'F3'], another: 'F6', small_net: 'F7', off_zero: 'F10' };
 const ANSWERING = new Set(Object.values(ANSWER_KEYS).flat());
 

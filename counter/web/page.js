@@ -133,7 +133,7 @@ const isTouched = () => matchMedia('(pointer: coarse)').matches;
 const isAsking = () => document.querySelector('dialog[open]') !== null;
 const focusPlate = () => { if (!isAsking() && !isTouched()) part('plate').focus(); };
 
-// What was taken over or answered has to be seen before it is weighed.
+// The clerk must see what was taken from a list or answered before it is weighed.
 function beDeaf() {
   clerk.deafness.begin(performance.now());
   showDeafness();
@@ -235,19 +235,19 @@ function keyed(event) {
   if (deed.is === 'answered') answer(deed.answer);
   if (deed.is === 'clicked') part(deed.part).click();
   if (deed.is === 'deaf') clerk.deafness.pressed(at);
-  if (deed.is === 'closing') beDeaf();          // at once: the event of its end comes later
+  if (deed.is === 'closing') beDeaf();          // at once, because the event of its end comes later
   if (deed.is === 'cleared') clearPlate();
   if (deed.is === 'typed') part('plate').focus();
 }
 
-// A browser gives the focus back to the plate without its caret, and letters would go nowhere: so it is taken off first.
+// A browser gives the focus back to the plate without its caret, so letters would go nowhere. So the page removes the focus first.
 function closed() {
   part('plate').blur();
   beDeaf();
   focusPlate();
 }
 
-// The form has just changed under the hand: the second click of a double click, or of two, finds another button where the first one stood.
+// The form has just changed, so the second of two quick clicks finds another button where the first one was.
 function clicked(event) {
   const isDeaf = clerk.deafness.isDeaf(performance.now()), isByHand = event.detail > 0;
   if (!isDeaf || !isByHand || !(event.detail > 1 || part('weigh').contains(event.target))) return;

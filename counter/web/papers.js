@@ -50,7 +50,8 @@ export async function openEntry(entry, printers, press, isOpenFirst, withdraw) {
   part('entry').showModal();
 }
 
-// It has to be pressed twice, and not by one double click. A void goes by the plate: once that has another open first weighing, or none, it is refused here.
+// The clerk must press it twice. A double click isn't enough. A void names the plate, not the entry. So if the plate has another open first weighing by now, or
+// none, the button refuses.
 function voidButton(entry, isOpenFirst, withdraw) {
   let askedAt = null;
   const made = button(t('withdraw'), () => {

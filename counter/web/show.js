@@ -35,7 +35,7 @@ function forgetResult(now) {
   if (result.leftAt !== undefined && (gross >= now.min || performance.now() - result.leftAt > RESULT_AFTER_LEAVING)) clerk.result = null;
 }
 
-// An answer is of one vehicle: once the bridge is empty, the next one is asked for anew.
+// An answer is for one vehicle. Once the bridge is empty, the page asks again for the next one.
 function forgetAnswers(now) {
   const gross = grossOf(now.weight);
   if (gross !== null && gross < now.min) clerk.answered = {};

@@ -25,7 +25,7 @@ from .zero import Zero
 STATE_EVERY = 0.25  # seconds
 WITHOUT_VALUE = 1.5  # seconds between two looks whether another one has the terminal
 ANSWERS_WITHIN = 1.2  # seconds
-NOTED_WITHIN = 0.3  # seconds that an answer waits at most for the disk
+NOTED_WITHIN = 0.3  # seconds that an answer waits for the disk at most
 GONE_AFTER = 0.5  # seconds without a value after which pages get a sign of life
 
 
@@ -99,7 +99,7 @@ class Counter:
         before = self.off_zero.shown()
         self.off_zero.saw(value.at, value.state, self.gross())
         if self.off_zero.shown() != before:
-            self.tell_state()  # before the weight: so no page has a vehicle's weight without what the bridge showed before it
+            self.tell_state()  # before the weight, so that no page has a vehicle's weight without what the bridge showed before
         looks = (value.state, value.kg, self.terminal.fanout.tare)
         since = value.at - self.told_weight_at
         if (looks != self.told_weight and since >= FASTEST) or since >= SLOWEST:
@@ -145,7 +145,7 @@ class Counter:
         self.pages.tell("entry", {"entry": lists.shown(entry.number), "on_site": lists.on_site(), "weighed_near": lists.near.shown()})
 
     def _miss_entries(self) -> None:
-        """A text doesn't follow upon the newest entry of the lists."""
+        """Ask for an export, because a text doesn't follow the newest entry of the lists."""
         self.books.wants_export = True
 
     # ---- commands of pages

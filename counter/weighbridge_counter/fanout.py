@@ -84,7 +84,7 @@ class Fanout:
         self.counts: Counter[str] = Counter()
         self.on_value: Callable[[Value], None] = lambda value: None
         self.on_first_value: Callable[[], None] = lambda: None
-        self.on_zero: Callable[[str], None] = lambda reply: None  # what `Z` was answered, whoever asked
+        self.on_zero: Callable[[str], None] = lambda reply: None  # gets the answer to each `Z`, whichever client sent it
         self.link = "down"  # down; waits: connected, no value yet; up
         self.value: Value | None = None
         self.period = 0.1

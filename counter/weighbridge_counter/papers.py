@@ -38,7 +38,7 @@ def papers_of(setup: Setup) -> Papers:
 class Printing:
     def __init__(self, papers: Papers, digest_of: Callable[[int], str | None]) -> None:
         self.papers, self.digest_of = papers, digest_of
-        self.spool = Spool(papers.spool, is_opened=False)  # a disk that takes nothing keeps nobody from weighing
+        self.spool = Spool(papers.spool, is_opened=False)  # opened later, because a disk that takes nothing must not stop weighing
         self.notes = ThreadPoolExecutor(1, "papers")  # one after another, in the order in which they were asked for
         self.something, self.is_over = [threading.Event() for _ in papers.printers], threading.Event()
         self.threads: list[threading.Thread] = []
@@ -78,7 +78,7 @@ class Printing:
             probing.cancel()
 
     async def _probe(self) -> None:
-        """Whether papers can be noted again."""
+        """After a fault, try regularly if papers can be noted again."""
         while True:
             await asyncio.sleep(TRY_EVERY)
             if self.fault:

@@ -285,7 +285,7 @@ class Routes:
         return as_json({"hits": await self.in_turn(lambda: self.counter.books.lists.search(words)), "whole": self.counter.books.is_whole()})
 
     async def key(self, request: web.Request) -> web.StreamResponse:
-        """Whether an entry of the journal has the key, by an export of now: that stores nothing."""
+        """Answer if an entry of the journal has the key. This asks for an export, and stores nothing."""
         try:
             answer, _ = await self.counter.books.export_of_now()
             if answer.status != 200:
@@ -300,7 +300,7 @@ class Routes:
         return as_json({}, 202)
 
     async def seen(self, request: web.Request) -> web.StreamResponse:
-        """A clerk has read that the lists were begun again."""
+        """Close the report that the lists started again, because a clerk has read it."""
         self.counter.books.journal.seen()
         self.counter.tell_state()
         return as_json({})

@@ -45,6 +45,6 @@ class Tares:
         return {plate: {**tare, "is_over": tare["until"] < today} for plate, tare in self.kept.items()}
 
     async def _replace(self, kept: dict[str, dict[str, Any]]) -> None:
-        """Nothing is kept, and nothing dropped, that isn't so on the disk. Raises NoFile."""
+        """Replace the kept tares once the disk has the new ones. Raises NoFile, and changes nothing then."""
         await self.files.write(FILE, kept, WRITE_WITHIN)
         self.kept = kept

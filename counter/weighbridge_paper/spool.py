@@ -51,19 +51,19 @@ class Job:
 
 class Spool:
     def __init__(self, folder: Path, is_opened: bool = True) -> None:
-        """Raises OSError if it can't be opened; if that is left for later, only for a folder that is another user's."""
+        """Open the spool, unless `is_opened` is false. Raises OSError if the folder is another user's, or if the spool can't be opened."""
         self.folder, self.is_made = folder, False
         refuse_strange_root(folder)
         if is_opened:
             self.open()
 
     def open(self) -> None:
-        """Makes what isn't there yet. Raises OSError."""
+        """Make the folder and the tables that are missing. Raises OSError."""
         with self._open():
             pass
 
     def probe(self) -> None:
-        """Writes a transaction that changes nothing. Raises OSError if nothing can be noted."""
+        """Write a transaction that changes no paper. Raises OSError if nothing can be noted."""
         with self._open() as database:
             found = database.execute("PRAGMA user_version").fetchone()[0]
             database.execute(f"PRAGMA user_version = {1 - int(found != 0)}")
