@@ -4,20 +4,23 @@
   clients/mend_log.py /var/lib/weighbridge/journal.db /srv/mended
 
 Every frame of a log has a checksum of everything before it. So this program goes to the first damaged place, which is the log's header or a frame,
-and turns over each bit there, one at a time. It repeats this at the next damaged place until each frame is whole. It gives up if more than eight places are damaged.
+and turns over each bit there, one at a time. It repeats this at the next damaged place until each frame is whole. If more than eight places are
+damaged, it gives up.
 
-A checksum can't tell some bits apart, so several bits may make the frame and the next frame whole. Then only those count with which SQLite finds its
-database whole, and verify.py (in the same folder) finds the journal whole. If exactly one bit is left, that is the flipped one. If several are left
-in a page that a later commit of the log wrote again, the program chooses the first, because no entry depends on that page.
+Different bits can have the same effect on a checksum, so several bits may make the frame and the next frame whole. Then only those count with which
+SQLite finds its database whole, and verify.py (in the same folder) finds the journal whole. If exactly one bit is left, that is the flipped one. If
+several are left in a page that a later commit of the log wrote again, the program chooses the first, because no entry depends on that page.
 
 The program writes the repaired log and the journal's other files into a new folder. It only reads the original files. It prints what it changed. Then
-it checks the copy as the service does: the log, the entries and the `-newest` file. If `weighbridge` is in the PATH, or `--program` names it, it
-runs that program's check too. It prints what is still wrong, and returns status 1 then. Show its output and both copies to the inspector, because a repaired journal is
-evidence like the damaged one.
+it checks the copy as the service does: the log, the entries and the `-newest` file. If `weighbridge` is in the PATH, or `--program` names it, that
+program checks the copy too. It prints what is still wrong. Show the output and both copies to the inspector, because a repaired journal is evidence
+like the damaged one.
 
 It needs only Python 3.8 or later, and takes some seconds. Stop the service before.
-Status: 0 if it wrote a repaired copy and nothing is wrong with it; 1 if it wrote nothing, because nothing is damaged or no single bits repair it, or if
-something is still wrong with the copy; 2 if it can't read or write a file.
+
+Status 0: it wrote a repaired copy, and nothing is wrong with it.
+Status 1: it wrote nothing, because nothing is damaged or no single bits repair it. Or something is still wrong with the copy.
+Status 2: it can't read or write a file.
 """
 import argparse
 import hashlib

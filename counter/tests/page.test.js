@@ -10,37 +10,37 @@ const plates = (typed, onSite, weighedNear = []) => alike(typed, onSite.map(it =
 
 // ---- which plates are asked for
 
-test('a part of a plate on site is asked for', () => {
+test('the page asks about a part of a plate on site', () => {
   for (const typed of ['1236', 'RA', 'KM1236', 'KM-1236', 'RA-KM-123', '6']) assert.deepEqual(plates(typed, ['RA-KM-1236']), ['RA-KM-1236'], typed);
 });
 
-test('the same without hyphens is asked for', () => {
+test('the page asks about a plate on site without its hyphens', () => {
   for (const typed of ['RAKM1236', 'RA-KM1236', 'R-A-KM-1236']) assert.deepEqual(plates(typed, ['RA-KM-1236']), ['RA-KM-1236'], typed);
 });
 
-test('one letter off is asked for if it was never weighed', () => {
+test('the page asks about one letter off if the plate was never weighed', () => {
   for (const typed of ['RA-KM-1237', 'RA-KM-1263', 'RA-KM-12366', 'RA-M-1236', 'RA-MK-1236']) assert.deepEqual(plates(typed, ['RA-KM-1236']), ['RA-KM-1236'], typed);
 });
 
-test('a known plate of running numbers is not asked for', () => {
+test('the page does not ask about a known plate of running numbers', () => {
   assert.deepEqual(plates('RA-KM-1237', ['RA-KM-1236'], ['RAKM1237']), []);
   assert.deepEqual(plates('RAKM1237', ['RA-KM-1236'], ['RAKM1237']), []);
   assert.deepEqual(plates('RA-KM-1238', ['RA-KM-1236'], ['RAKM1237']), ['RA-KM-1236'], 'another one is');
 });
 
-test('a known plate that is a part of one on site is asked for all the same', () => {
+test('the page asks even about a known plate that is a part of one on site', () => {
   assert.deepEqual(plates('RA-KM-123', ['RA-KM-1236'], ['RAKM123']), ['RA-KM-1236']);
 });
 
-test('a short plate is asked for too', () => {
+test('the page asks about a short plate too', () => {
   for (const typed of ['L13', 'L21', 'L1']) assert.deepEqual(plates(typed, ['L12']), ['L12'], typed);
 });
 
-test('blanks become hyphens, but none at the beginning', () => {
+test('blanks become hyphens, but not at the beginning', () => {
   for (const [typed, plate] of [['hb kw 12', 'HB-KW-12'], ['HB  KW  12345 A', 'HB-KW-12345-A'], ['\tHB KW 123', 'HB-KW-123'], ['hb ', 'HB-']]) assert.equal(plateOf(typed), plate, typed);
 });
 
-test('two letters off, a plate on site and no plate are not asked for', () => {
+test('the page does not ask about two letters off, a plate on site, or no plate', () => {
   for (const typed of ['RA-KM-1247', 'RA-KM-6231', 'HB-X-1', 'RA-KM-1236', '', '-', 'XYZ']) assert.deepEqual(plates(typed, ['RA-KM-1236']), [], typed);
 });
 
@@ -57,7 +57,7 @@ const now = (more = {}, offZero = {}, weight = {}) => ({
 });
 const keysOf = told => told.answers.map(it => it.key);
 
-test('without a question it is ready, and while Enter is deaf it is not', () => {
+test('without a question it is ready, but not while Enter does not react', () => {
   assert.deepEqual([step(now()).word, step(now()).isReady], ['ready', true]);
   assert.deepEqual([step(now({ isDeaf: true })).word, step(now({ isDeaf: true })).isReady], ['one_moment', undefined]);
 });
@@ -85,7 +85,7 @@ test('an answer holds for its plate and its vehicles, and another question follo
   assert.equal(step(asking).word, 'is_it_one', 'a vehicle more on site is asked for again');
 });
 
-test('a small net is asked for, also one of zero', () => {
+test('the page asks about a small net, even one of zero', () => {
   for (const gross of [9000, 9020, 8980, 9380]) {
     const told = step(now({ plate: 'RA-KM-1236', onSite: [first('RA-KM-1236', gross)] }));
     assert.deepEqual([told.word, keysOf(told), told.values.net], ['small_net', ['F7'], Math.abs(gross - 9000)]);
@@ -101,7 +101,7 @@ test('an empty bridge off zero asks for zero, and sends for the operator if that
   assert.deepEqual(step(now({}, { kg: 160, is_refused: true }, light)), { look: 'bad', word: 'off_zero_refused', values: { kg: 160 } });
 });
 
-test('a Single asks if the bridge was off zero before it or that is not known, a First and a Second do not', () => {
+test('a Single asks if the bridge was off zero before it or if that is not known, but a First and a Second do not', () => {
   const off = { before: 160, is_doubtful: true };
   assert.deepEqual([step(now({ oneTare: 5000 }, off)).word, keysOf(step(now({ oneTare: 5000 }, off)))], ['off_zero_before', ['F10']]);
   assert.equal(step(now({ tares: { 'HB-X-1': { kg: 5000, is_over: false } } }, off)).word, 'off_zero_before');
@@ -150,7 +150,7 @@ test('zero, print and search have their keys, Escape clears, letters go into the
   assert.deepEqual([deed('KeyA', {}, 'other', { key: 'a' }), deed('KeyA', {}, 'field', { key: 'a' }), deed('Space', {}, 'other', { key: ' ' })], ['typed', 'left', 'left']);
 });
 
-test('Enter is deaf for 700 ms, and as long as it is hammered', () => {
+test('Enter does not react for 700 ms, and while the clerk hammers it', () => {
   assert.equal(DEAF_FOR, 700);
   const ears = new Deafness();
   assert.equal(ears.isDeaf(0), false);

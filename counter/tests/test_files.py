@@ -95,7 +95,7 @@ class TheWayToTheDisk(unittest.TestCase):
         )
         self.assertEqual([("unlink", str(self.path)), ("fsync", folder)], self.calls_of(lambda: store(self.path, None)))
 
-    def test_whatever_fails_the_file_is_as_it_was_and_nothing_lies_beside_it(self):
+    def test_after_any_failure_the_file_is_as_before_and_nothing_is_next_to_it(self):
         store(self.path, {"is": "old"})
         for name in ("weighbridge_counter.files.json.dump", "weighbridge_counter.files.os.fsync", "weighbridge_counter.files.os.replace"):
             with mock.patch(name, side_effect=OSError(errno.ENOSPC, "full")), self.assertRaises(OSError):
@@ -106,7 +106,7 @@ class TheWayToTheDisk(unittest.TestCase):
         with mock.patch("weighbridge_counter.files.sync_folder", side_effect=OSError(errno.EIO, "broken")), self.assertRaises(OSError):
             store(self.path, {"is": "new"})
 
-    def test_one_that_is_no_file_of_the_counter_is_told_and_taken_for_none(self):
+    def test_a_file_that_is_none_of_the_counter_s_is_logged_and_ignored(self):
         for letters in (b"", b"{", b"\xff", b"[" * 100000):
             self.path.write_bytes(letters)
             with contextlib.redirect_stderr(io.StringIO()) as said:
@@ -115,7 +115,7 @@ class TheWayToTheDisk(unittest.TestCase):
 
 
 class AFault(OnADisk):
-    async def test_it_is_told_once_and_once_more_when_it_is_over(self):
+    async def test_a_fault_is_logged_once_and_once_more_when_it_is_over(self):
         files = self.bridge().files
         for self.disk.fault in FAULTS:
             files.keep("zero.json", {"is_set": True})

@@ -206,7 +206,7 @@ class AnotherJournal(WithBooks):
         self.assertIsNone(self.books.lists.slip_again(7))
         self.assertIn("the journal: its last number is 5 and was 7, so an older copy", self.said.getvalue())
 
-    async def test_an_older_copy_is_told_over_a_start_of_the_counter(self):
+    async def test_an_older_copy_is_reported_after_a_restart_of_the_counter(self):
         journal = await self.begin()
         older = journal.copy()
         self.passes(journal.weigh("B-6"))
@@ -215,7 +215,7 @@ class AnotherJournal(WithBooks):
         await self.read()
         self.assertEqual((5, (SHORTER, 6, 5)), (len(self.on_site()), self.told()))
 
-    async def test_where_nothing_is_remembered_nothing_is_told_and_nothing_old_is_shown(self):
+    async def test_if_nothing_is_remembered_nothing_is_reported_and_nothing_old_is_shown(self):
         journal = await self.begin()
         older = journal.copy()
         self.passes(journal.weigh("B-6"))
@@ -326,7 +326,7 @@ class AnotherJournal(WithBooks):
         await self.read()
         self.assertEqual((["N-1"], True), (self.on_site(), self.books.is_whole()))
 
-    async def test_it_is_told_until_a_clerk_closes_it_over_any_start(self):
+    async def test_it_is_reported_until_a_clerk_closes_it_even_after_a_restart(self):
         journal = await self.begin()
         self.office.journal = PlayedJournal("new")
         await self.read()
@@ -341,7 +341,7 @@ class AnotherJournal(WithBooks):
         self.assertIsNone(self.told())
         self.assertEqual(journal.last, 5)
 
-    async def test_a_file_of_it_that_says_nothing_is_taken_for_none(self):
+    async def test_a_file_of_it_that_says_nothing_is_ignored(self):
         for it in ([], {"known": 5, "told": 5}, {"known": {"last": "5"}, "told": {"why": "x"}}, {"told": {"why": SHORTER}}):
             self.counter(PlayedJournal())
             self.files.keep("journal.json", it)

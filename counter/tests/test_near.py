@@ -28,7 +28,7 @@ class Letters(unittest.TestCase):
         for one, other, wanted in rows:
             self.assertEqual((wanted, wanted), (is_near(one, other), is_near(other, one)), (one, other))
 
-    def test_both_ways_to_tell_agree_on_each_text_of_three_letters(self):
+    def test_both_functions_agree_on_each_text_of_three_letters(self):
         with mock.patch.object(near, "LETTERS", "AB1"):
             texts = ["".join(it) for length in range(5) for it in itertools.product("AB1", repeat=length)]
             for text in texts:
@@ -46,17 +46,17 @@ class WeighedBefore(unittest.TestCase):
         made = self.near(("single", "RA-KM-1237"), ("first", "RA-KM-1238"), ("second", "RA-KM-1238"), ("first", "RAKM-1236"))
         self.assertEqual(["RAKM1237", "RAKM1238"], made.shown())
 
-    def test_a_first_alone_or_withdrawn_does_not(self):
+    def test_a_first_without_a_ticket_or_withdrawn_does_not(self):
         self.assertEqual([], self.near(("first", "RA-KM-1237"), ("void", "RA-KM-1237"), ("first", "RA-KM-1236")).shown())
         self.assertEqual([], self.near(("first", "RA-KM-1237"), ("first", "RA-KM-1236")).shown())
 
-    def test_only_near_ones_are_told_and_none_without_a_vehicle_on_site(self):
+    def test_only_near_ones_are_shown_and_none_without_a_vehicle_on_site(self):
         made = self.near(("single", "RA-KM-1237"), ("single", "RA-KM-9999"), ("first", "RA-KM-1236"))
         self.assertEqual(["RAKM1237"], made.shown())
         made.takes("second", "RA-KM-1236")
         self.assertEqual([], made.shown())
 
-    def test_one_that_is_weighed_meanwhile_is_told_from_then_on(self):
+    def test_one_that_is_weighed_meanwhile_is_shown_from_then_on(self):
         made = self.near(("first", "RA-KM-1236"))
         self.assertEqual([], made.shown())
         made.takes("single", "RA-KM-1237")
@@ -71,7 +71,7 @@ class WeighedBefore(unittest.TestCase):
             told = made.shown()
         self.assertEqual((10, True), (len(told), all(is_near(it, "A2000") for it in told)))
 
-    def test_a_fleet_of_running_numbers_takes_no_time_worth_a_word(self):
+    def test_a_fleet_of_running_numbers_takes_below_20_ms_for_each_entry(self):
         entries = [("single", f"RA-KM-{it}") for it in range(1000, 9999)] + [("first", f"RA-KM-{it}") for it in range(1200, 1300)]
         made = self.near(*entries)
         made.shown()

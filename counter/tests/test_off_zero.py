@@ -24,7 +24,7 @@ class Played(unittest.TestCase):
 
 
 class TheEmptyBridge(Played):
-    def test_after_five_seconds_off_zero_it_is_to_be_set_to_zero(self):
+    def test_after_five_seconds_off_zero_it_must_be_set_to_zero(self):
         self.assertIsNone(self.shows(160, 5.0)["kg"])
         self.assertEqual(160, self.shows(160, 0.2)["kg"])
 
@@ -190,7 +190,7 @@ class AtTheCounter(unittest.TestCase):
         told = b"".join(self.page.frames) + self.page.weight
         self.assertTrue(0 <= told.index(b'"before":160,"is_doubtful":true') < told.index(b'"net":9000'))
 
-    def test_what_is_told_once_is_not_told_again(self):
+    def test_what_the_page_got_once_is_not_sent_again(self):
         self.shows(160, 10)
         self.page.frames.clear()
         self.shows(160, 10)

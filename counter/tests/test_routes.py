@@ -96,7 +96,7 @@ class AKey(unittest.IsolatedAsyncioTestCase):
         for key in ("20", "WB01", "first", "AB-12", "1", "k1", "K", "60000", DIGEST[:32]):
             self.assertEqual((200, {"found": False}), await self.asked(key, (200, rows)), key)
 
-    async def test_where_it_is_not_known_it_is_told_so(self):
+    async def test_if_it_is_not_known_the_answer_says_so(self):
         self.assertEqual((502, {"found": None}), await self.asked("K1", None))
         self.assertEqual((503, {"found": None}), await self.asked("K1", (503, "store 2 disk\n")))
         for text in ("", "number,key\n1,K1\n", export(ROW)[:-40]):

@@ -144,7 +144,7 @@ class Acts:
     async def _weigh_with_tare(self, target: str, body: bytes, tare: str, asked: Mapping[str, str], told: "asyncio.Future[Told]") -> None:
         """Set the tare with `TA`, pass the weighing on, and clear the tare with `TAC`.
 
-        The file tells the counter's next start that a tare may be left, so it is on the disk before anything is set. Nobody waits for the disk at the
+        The file warns the counter's next start that a tare may be left, so it is on the disk before anything is set. Nobody waits for the disk at the
         terminal or the office. The client gets its answer before the tare is cleared. Raises Busy, NotSent, or NoFile; nothing was done then.
         """
         if self.terminal.fanout.tare is None:

@@ -28,7 +28,7 @@ Beside = Callable[[Callable[[], None]], Awaitable[None]]
 
 
 class NoFile(OSError):
-    """Raised if a file couldn't be written. What it should say isn't on the disk, and nothing else was done."""
+    """Raised if a file couldn't be written. Its new content isn't on the disk, and nothing else was done."""
 
 
 def store(path: Path, what: Any) -> None:
