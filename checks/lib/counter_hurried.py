@@ -4,6 +4,7 @@ The clerk hammers or holds a key, clicks twice, or treats a bridge as empty that
 the key of that answer, and never a ticket of another plate.
 """
 
+import signal
 import time
 
 from counter_clerk import ENTER, ESCAPE, F1, F4, F6, F7, F9, F10, SPACE, TAB, Clerk, at_of
@@ -255,6 +256,55 @@ def a_single_off_zero(bridge, clerk):
     becomes("a Single off zero: and then Enter weighs", lambda: rows(bridge)[len(before) :] == [("single", "SINGLE-1")])
 
 
+def letters_before_the_answer(bridge, clerk):
+    bridge.put(0)
+    becomes("the bridge is at zero again", lambda: bridge.terminal_says("till", "Z") == "Z A")
+    for own, typed, pause in (("OWN-AAAA", "HB-KW-77", 0.02), ("TAKEN-BB", "KI-XY-8899", 0.08)):
+        bridge.next_vehicle(5000)
+        before = rows(bridge)
+        clerk.keys(ESCAPE + own)
+        clerk.sees("Ready.")
+        clerk.browser.hammer(ENTER + typed, pause)
+        becomes(f"a key each {pause} s before the answer: this vehicle is weighed", lambda: rows(bridge)[len(before) :] == [("first", own)])
+        time.sleep(0.5)
+        same(f"a key each {pause} s before the answer: the next plate is whole", typed, clerk.plate())
+    bridge.next_vehicle(6000)
+    clerk.keys(ESCAPE + "HELD-1")
+    clerk.sees("Ready.")
+    before = rows(bridge)
+    bridge.service.send_signal(signal.SIGSTOP)
+    clerk.keys(ENTER)
+    clerk.keys("HB-KW-77")
+    same("while there is no answer, the next plate can be typed", "HB-KW-77", clerk.plate())
+    bridge.service.send_signal(signal.SIGCONT)
+    becomes("once the service continues, the held weighing is stored", lambda: rows(bridge)[len(before) :] == [("first", "HELD-1")])
+    time.sleep(0.5)
+    same("and the next plate is still whole", "HB-KW-77", clerk.plate())
+
+
+def withdraws_only_what_it_shows(bridge, clerk):
+    bridge.next_vehicle(9000)
+    bridge.weigh("old-1", "first", "WD-1")
+    click = "[...document.querySelectorAll('#today button')].find(it => it.textContent.includes('WD-1'))?.click()"
+    buttons = "return [...document.querySelectorAll('#entry-tools .danger')].map(it => [it.textContent, it.disabled])"
+    clerk.keys(ESCAPE)
+    becomes("the dialog of a first weighing offers to withdraw it", lambda: (clerk.browser.run(click), clerk.browser.run(buttons))[1])
+    bridge.next_vehicle(4000)
+    bridge.weigh("old-2", "second", "WD-1")
+    bridge.next_vehicle(9100)
+    bridge.weigh("old-3", "first", "WD-1")
+    before = rows(bridge)
+    press = "document.querySelector('#entry-tools .danger').click()"
+    becomes(
+        "once the plate was weighed out and in again, it refuses",
+        lambda: (clerk.browser.run(press), time.sleep(0.8), clerk.browser.run(buttons))[2][0][0].endswith("is not open any more"),
+    )
+    clerk.browser.run(press)
+    time.sleep(0.5)
+    same("and nothing is withdrawn", [], rows(bridge)[len(before) :])
+    clerk.browser.run("document.getElementById('entry').close()")
+
+
 def show(program):
     print("---- a clerk in a hurry", flush=True)
     bridge = Bridge(program, 10).start_counter()
@@ -273,6 +323,8 @@ def show(program):
         a_small_net(bridge, clerk)
         off_zero(bridge, clerk)
         a_single_off_zero(bridge, clerk)
+        letters_before_the_answer(bridge, clerk)
+        withdraws_only_what_it_shows(bridge, clerk)
     finally:
         if clerk:
             clerk.close()
