@@ -26,7 +26,7 @@ def folder_of_programs():
 BIN = folder_of_programs()
 LOCALE = os.environ.get("HEAD_OFFICE_LOCALE", "")
 # Parts of the server's messages that the cases look for.
-MESSAGES = ("permission denied for ", "must be owner of ", "must be superuser", "duplicate key value", "violates ", "invalid input syntax for type", "extra data after")
+MESSAGES = ("permission denied", "too many connections", "must be owner of ", "must be superuser", "duplicate key value", "violates ", "invalid input syntax for type", "extra data after")
 MESSAGES += ("missing data for column", "infinit", "out of range", "already exists", "does not exist", "cannot be", "could not", "canceling statement", "cannot ", "too long", "unterminated CSV", "header line")
 
 
