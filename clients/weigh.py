@@ -56,11 +56,24 @@ while True:
     if 0 < status < 500:
         break
     if time.monotonic() >= END:
-        print(f"no answer for {SECONDS:g} s, so it isn't known whether the weighing is stored", file=sys.stderr)
-        print(f"if the vehicle is still on the bridge: {sys.argv[0]} {form['kind']} {form['plate']} {form['key']}", file=sys.stderr)
-        print(f"if it has left, don't: look for the key {form['key']} in the office's journal.csv", file=sys.stderr)
+        print(
+            f"no answer for {SECONDS:g} s, so it isn't known whether the weighing is stored",
+            file=sys.stderr,
+        )
+        print(
+            f"if the vehicle is still on the bridge: {sys.argv[0]} {form['kind']} {form['plate']} {form['key']}",
+            file=sys.stderr,
+        )
+        print(
+            f"if it has left, don't: look for the key {form['key']} in the office's journal.csv",
+            file=sys.stderr,
+        )
         sys.exit(3)
     print(f"no answer yet ({status:03}); asking again", file=sys.stderr, flush=True)
     time.sleep(1)
-print(text if status == 201 else reason(text), end="", file=sys.stdout if status == 201 else sys.stderr)
+print(
+    text if status == 201 else reason(text),
+    end="",
+    file=sys.stdout if status == 201 else sys.stderr,
+)
 sys.exit(0 if status == 201 else 1)

@@ -110,14 +110,37 @@ class Fed:
 class Service:
     """`weighbridge serve` over a file, with a converter that this program plays."""
 
-    def __init__(self, program, file, converter, *options, turns=1_000_000_000, limit=None, errors=subprocess.PIPE):
+    def __init__(
+        self,
+        program,
+        file,
+        converter,
+        *options,
+        turns=1_000_000_000,
+        limit=None,
+        errors=subprocess.PIPE,
+    ):
         """`limit` is called in the new process before the program begins; `errors` is its standard error."""
         self.converter = converter
         self.terminal, self.office = free_port(), free_port()
-        words = [program, "serve", "--file", file, "--terminal", f"{HOST}:{self.terminal}", "--office", f"{HOST}:{self.office}"]
+        words = [
+            program,
+            "serve",
+            "--file",
+            file,
+            "--terminal",
+            f"{HOST}:{self.terminal}",
+            "--office",
+            f"{HOST}:{self.office}",
+        ]
         words += ["--converter", converter.source, "--turns", str(turns), *options]
         self.process = subprocess.Popen(
-            words, stdin=subprocess.DEVNULL, stdout=subprocess.PIPE, stderr=errors, text=True, preexec_fn=limit
+            words,
+            stdin=subprocess.DEVNULL,
+            stdout=subprocess.PIPE,
+            stderr=errors,
+            text=True,
+            preexec_fn=limit,
         )
         converter.begin()
         self.wait_for_office()
@@ -215,7 +238,9 @@ def exchange_bytes(port, data, timeout=60, meanwhile=lambda: None):
 
 def exchange(service, data, timeout=60, meanwhile=lambda: None):
     """The status and the body of a request's response; None where the connection gave none. Something may be done once it is sent."""
-    head, parted, body = exchange_bytes(service.office, data, timeout, meanwhile).partition(b"\r\n\r\n")
+    head, parted, body = exchange_bytes(service.office, data, timeout, meanwhile).partition(
+        b"\r\n\r\n"
+    )
     if not parted:
         return None
     return int(head.split()[1]), body.decode()

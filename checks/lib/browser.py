@@ -18,13 +18,30 @@ class Browser:
     def __init__(self, port, folder, width, height):
         self.at, self.folder = f"http://127.0.0.1:{port}", folder
         self.driver = subprocess.Popen(
-            ["chromedriver", f"--port={port}", f"--log-path={os.path.join(folder, 'chromedriver.log')}"],
-            stdin=subprocess.DEVNULL, stdout=subprocess.DEVNULL, stderr=subprocess.DEVNULL, start_new_session=True,
+            [
+                "chromedriver",
+                f"--port={port}",
+                f"--log-path={os.path.join(folder, 'chromedriver.log')}",
+            ],
+            stdin=subprocess.DEVNULL,
+            stdout=subprocess.DEVNULL,
+            stderr=subprocess.DEVNULL,
+            start_new_session=True,
         )
         self.wait_for_driver(port)
-        words = ["--headless=new", "--no-sandbox", "--disable-gpu", "--disable-dev-shm-usage", f"--window-size={width},{height}"]
+        words = [
+            "--headless=new",
+            "--no-sandbox",
+            "--disable-gpu",
+            "--disable-dev-shm-usage",
+            f"--window-size={width},{height}",
+        ]
         options = {"args": words + [f"--user-data-dir={os.path.join(folder, 'profile')}"]}
-        wanted = {"browserName": "chrome", "acceptInsecureCerts": True, "goog:chromeOptions": options}
+        wanted = {
+            "browserName": "chrome",
+            "acceptInsecureCerts": True,
+            "goog:chromeOptions": options,
+        }
         found = self.call("POST", "/session", {"capabilities": {"alwaysMatch": wanted}})
         self.at += f"/session/{found['sessionId']}"
 
@@ -40,7 +57,9 @@ class Browser:
 
     def call(self, method, path, body=None):
         data = None if body is None else json.dumps(body).encode()
-        request = urllib.request.Request(self.at + path, data, {"Content-Type": "application/json"}, method=method)
+        request = urllib.request.Request(
+            self.at + path, data, {"Content-Type": "application/json"}, method=method
+        )
         with urllib.request.urlopen(request, timeout=60) as answer:
             return json.load(answer)["value"]
 
@@ -83,13 +102,28 @@ class Browser:
 
     def look(self, width, height, is_dark=False):
         """Shows the page in this size, light or dark."""
-        self.tool("Emulation.setDeviceMetricsOverride", width=width, height=height, deviceScaleFactor=1, mobile=False)
-        self.tool("Emulation.setEmulatedMedia", features=[{"name": "prefers-color-scheme", "value": "dark" if is_dark else "light"}])
+        self.tool(
+            "Emulation.setDeviceMetricsOverride",
+            width=width,
+            height=height,
+            deviceScaleFactor=1,
+            mobile=False,
+        )
+        self.tool(
+            "Emulation.setEmulatedMedia",
+            features=[{"name": "prefers-color-scheme", "value": "dark" if is_dark else "light"}],
+        )
 
     def keys(self, text):
         """Types where the focus is. Keys with a name are of WebDriver's private letters."""
-        actions = [action for it in text for action in ({"type": "keyDown", "value": it}, {"type": "keyUp", "value": it})]
-        self.call("POST", "/actions", {"actions": [{"type": "key", "id": "keyboard", "actions": actions}]})
+        actions = [
+            action
+            for it in text
+            for action in ({"type": "keyDown", "value": it}, {"type": "keyUp", "value": it})
+        ]
+        self.call(
+            "POST", "/actions", {"actions": [{"type": "key", "id": "keyboard", "actions": actions}]}
+        )
 
     def key_event(self, name, is_down=True, is_repeat=False):
         """Send one event of the key `Enter`, `Escape` or `F1` to `F12`, as the system sends it.
@@ -99,7 +133,15 @@ class Browser:
         codes = {"Enter": 13, "Escape": 27} | {f"F{it}": 111 + it for it in range(1, 13)}
         text = {"text": "\r"} if name == "Enter" and is_down else {}
         kind = "keyUp" if not is_down else "keyDown" if text else "rawKeyDown"
-        self.tool("Input.dispatchKeyEvent", type=kind, code=name, key=name, windowsVirtualKeyCode=codes[name], autoRepeat=is_repeat, **text)
+        self.tool(
+            "Input.dispatchKeyEvent",
+            type=kind,
+            code=name,
+            key=name,
+            windowsVirtualKeyCode=codes[name],
+            autoRepeat=is_repeat,
+            **text,
+        )
 
     def hold(self, name, seconds, every=0.033):
         """Hold a key down for `seconds`. After up to half a second it repeats, as on a keyboard."""
@@ -114,17 +156,28 @@ class Browser:
     def hammer(self, text, pause):
         """Type as `keys` does. The driver waits `pause` seconds after each key."""
         wait = {"type": "pause", "duration": round(1000 * pause)}
-        actions = [action for it in text for action in ({"type": "keyDown", "value": it}, {"type": "keyUp", "value": it}, wait)]
-        self.call("POST", "/actions", {"actions": [{"type": "key", "id": "keyboard", "actions": actions}]})
+        actions = [
+            action
+            for it in text
+            for action in ({"type": "keyDown", "value": it}, {"type": "keyUp", "value": it}, wait)
+        ]
+        self.call(
+            "POST", "/actions", {"actions": [{"type": "key", "id": "keyboard", "actions": actions}]}
+        )
 
     def click_at(self, x, y, count=1):
         """Click the mouse at a point of the window, `count` times at once. A double click is two."""
         for it in range(1, count + 1):
             for kind in ("mousePressed", "mouseReleased"):
-                self.tool("Input.dispatchMouseEvent", type=kind, x=x, y=y, button="left", clickCount=it)
+                self.tool(
+                    "Input.dispatchMouseEvent", type=kind, x=x, y=y, button="left", clickCount=it
+                )
 
     def middle_of(self, selector):
-        return self.run("const it = document.querySelector(arguments[0]).getBoundingClientRect(); return [it.x + it.width / 2, it.y + it.height / 2]", selector)
+        return self.run(
+            "const it = document.querySelector(arguments[0]).getBoundingClientRect(); return [it.x + it.width / 2, it.y + it.height / 2]",
+            selector,
+        )
 
     def picture(self):
         return base64.b64decode(self.call("GET", "/screenshot"))

@@ -51,7 +51,9 @@ def main():
     with open(os.path.join(folder, "crates.txt"), "w") as file:
         file.writelines([*(lines[crate] for crate in crates), f"{name}: {' '.join(libraries)}\n"])
     subprocess.run(["git", "init", "-q", folder], check=True)
-    run = subprocess.run(["rt", "ci"], cwd=folder, stdout=subprocess.PIPE, stderr=subprocess.STDOUT, text=True)
+    run = subprocess.run(
+        ["rt", "ci"], cwd=folder, stdout=subprocess.PIPE, stderr=subprocess.STDOUT, text=True
+    )
     if run.returncode != 0:
         raise SystemExit(run.stdout)
 

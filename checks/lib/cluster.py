@@ -26,8 +26,30 @@ def folder_of_programs():
 BIN = folder_of_programs()
 LOCALE = os.environ.get("HEAD_OFFICE_LOCALE", "")
 # Parts of the server's messages that the cases look for.
-MESSAGES = ("permission denied", "too many connections", "must be owner of ", "must be superuser", "duplicate key value", "violates ", "invalid input syntax for type", "extra data after")
-MESSAGES += ("missing data for column", "infinit", "out of range", "already exists", "does not exist", "cannot be", "could not", "canceling statement", "cannot ", "too long", "unterminated CSV", "header line")
+MESSAGES = (
+    "permission denied",
+    "too many connections",
+    "must be owner of ",
+    "must be superuser",
+    "duplicate key value",
+    "violates ",
+    "invalid input syntax for type",
+    "extra data after",
+)
+MESSAGES += (
+    "missing data for column",
+    "infinit",
+    "out of range",
+    "already exists",
+    "does not exist",
+    "cannot be",
+    "could not",
+    "canceling statement",
+    "cannot ",
+    "too long",
+    "unterminated CSV",
+    "header line",
+)
 
 
 def in_english():
@@ -38,14 +60,28 @@ def in_english():
         catalogue = gettext.GNUTranslations(it)._catalog
     found = []
     for english, other in catalogue.items():
-        if isinstance(english, str) and english != other and any(part in english for part in MESSAGES) and len(other) > 12:
+        if (
+            isinstance(english, str)
+            and english != other
+            and any(part in english for part in MESSAGES)
+            and len(other) > 12
+        ):
             pieces = re.split(r"(%(?:\d+\$)?[-\d.]*l*[sduxXc])", other)
-            if sum(piece.startswith("%") for piece in pieces) != len(re.findall(r"%[-\d.]*l*[sduxXc]", english)) or re.search(r"%\d+\$", other):
+            if sum(piece.startswith("%") for piece in pieces) != len(
+                re.findall(r"%[-\d.]*l*[sduxXc]", english)
+            ) or re.search(r"%\d+\$", other):
                 continue
-            pattern = "".join("(.*?)" if piece.startswith("%") else re.escape(piece) for piece in pieces)
+            pattern = "".join(
+                "(.*?)" if piece.startswith("%") else re.escape(piece) for piece in pieces
+            )
             # the head office keeps a question mark for each letter that isn't ASCII
             pattern = re.sub("[^\0-\x7f]", lambda it: f"(?:{it[0]}|[?])", pattern)
-            found.append((re.compile(pattern + r"(?=\n|$)" if pieces[-1] == "" else pattern), re.sub(r"%[-\d.]*l*[sduxXc]", "\0", english)))
+            found.append(
+                (
+                    re.compile(pattern + r"(?=\n|$)" if pieces[-1] == "" else pattern),
+                    re.sub(r"%[-\d.]*l*[sduxXc]", "\0", english),
+                )
+            )
     return sorted(found, key=lambda it: -len(it[1]))
 
 
@@ -59,7 +95,11 @@ def english(said):
         for pattern, message in IN_ENGLISH:
             if it := pattern.search(line):
                 values = iter(it.groups())
-                lines[at] = line[: it.start()] + re.sub("\0", lambda _: next(values), message) + line[it.end() :]
+                lines[at] = (
+                    line[: it.start()]
+                    + re.sub("\0", lambda _: next(values), message)
+                    + line[it.end() :]
+                )
                 break
     return "\n".join(lines)
 
@@ -67,7 +107,14 @@ def english(said):
 def as_server(words, **options):
     """Runs a program of the server as the user that it runs as."""
     words = ["runuser", "-u", "postgres", "--", *words] if os.getuid() == 0 else words
-    return subprocess.run(words, check=True, stdout=subprocess.DEVNULL, stderr=subprocess.DEVNULL, stdin=subprocess.DEVNULL, **options)
+    return subprocess.run(
+        words,
+        check=True,
+        stdout=subprocess.DEVNULL,
+        stderr=subprocess.DEVNULL,
+        stdin=subprocess.DEVNULL,
+        **options,
+    )
 
 
 class Cluster:
@@ -79,17 +126,38 @@ class Cluster:
         if os.getuid() == 0:
             shutil.chown(self.folder, "postgres")
         if make:
-            words = [f"{BIN}/initdb", "-D", self.data, "-U", OWNER, "-A", "trust", "-E", "UTF8", "--locale=C.UTF-8"]
+            words = [
+                f"{BIN}/initdb",
+                "-D",
+                self.data,
+                "-U",
+                OWNER,
+                "-A",
+                "trust",
+                "-E",
+                "UTF8",
+                "--locale=C.UTF-8",
+            ]
             as_server([*words, "--locale-provider=icu", "--icu-locale=en-US"])
         language = [f"lc_messages = '{LOCALE}'"] if LOCALE else []
-        self.set(["listen_addresses = ''", f"unix_socket_directories = '{self.folder}'", *language, *settings])
+        self.set(
+            [
+                "listen_addresses = ''",
+                f"unix_socket_directories = '{self.folder}'",
+                *language,
+                *settings,
+            ]
+        )
 
     def set(self, lines):
         with open(os.path.join(self.data, "postgresql.conf"), "a") as it:
             it.write("".join(f"{line}\n" for line in lines))
 
     def start(self):
-        as_server([f"{BIN}/pg_ctl", "-D", self.data, "-l", os.path.join(self.data, "log"), "-w", "start"], cwd=self.folder)
+        as_server(
+            [f"{BIN}/pg_ctl", "-D", self.data, "-l", os.path.join(self.data, "log"), "-w", "start"],
+            cwd=self.folder,
+        )
 
     def stop(self, how="fast"):
         """Stops it: `fast`, or `immediate`, without a checkpoint, as if the machine had failed."""
@@ -97,7 +165,15 @@ class Cluster:
 
     def environment(self, user=OWNER, database="head_office"):
         language = {"LC_ALL": LOCALE} if LOCALE else {}
-        return {**os.environ, **language, "PGHOST": self.folder, "PGPORT": str(self.port), "PGDATABASE": database, "PGUSER": user, "PGOPTIONS": ""}
+        return {
+            **os.environ,
+            **language,
+            "PGHOST": self.folder,
+            "PGPORT": str(self.port),
+            "PGDATABASE": database,
+            "PGUSER": user,
+            "PGOPTIONS": "",
+        }
 
     def run(self, words, user=OWNER, database="head_office", given=None, **more):
         """The status of a program that connects to it, and all that it printed."""

@@ -12,13 +12,20 @@ import bridge
 from converting import PROGRAM, TOP, Running, calibrate, holds, ran, same
 from devices import wait_for
 
+
 def filtered(kind, number, readings):
     """What a filter gives after each reading, by its definition: of the last counts since a reading failed, none until there are so many."""
     last, found = [], []
     for counts in readings:
         last = [] if counts is None else [*last, counts][-number:]
         ordered = sorted(last)
-        whole = Fraction(sum(last), number) if kind == "mean" else Fraction(ordered[(len(last) - 1) // 2] + ordered[len(last) // 2], 2) if last else None
+        whole = (
+            Fraction(sum(last), number)
+            if kind == "mean"
+            else Fraction(ordered[(len(last) - 1) // 2] + ordered[len(last) // 2], 2)
+            if last
+            else None
+        )
         found.append(None if len(last) < number else (2 * whole + 1).__floor__() // 2)
     return found
 
@@ -29,16 +36,42 @@ def filters(folder):
     os.makedirs(own)
     calibrate(own, [(0, 0), (2_000_000, 2_000_000)])
     made = random.Random(1)
-    for kind, number in (("median", 1), ("median", 2), ("median", 5), ("median", 32), ("mean", 1), ("mean", 3), ("mean", 8), ("mean", 32)):
-        same(f"the filter {kind} {number}", 0, ran("finish", "--calibration", "calibration", "--filter", kind, str(number), folder=own)[0])
-        readings = [None if made.random() < 0.02 else made.choice([made.randrange(-50, 50), made.randrange(-900_000, 900_000)]) for _ in range(400)]
+    for kind, number in (
+        ("median", 1),
+        ("median", 2),
+        ("median", 5),
+        ("median", 32),
+        ("mean", 1),
+        ("mean", 3),
+        ("mean", 8),
+        ("mean", 32),
+    ):
+        same(
+            f"the filter {kind} {number}",
+            0,
+            ran(
+                "finish", "--calibration", "calibration", "--filter", kind, str(number), folder=own
+            )[0],
+        )
+        readings = [
+            None
+            if made.random() < 0.02
+            else made.choice([made.randrange(-50, 50), made.randrange(-900_000, 900_000)])
+            for _ in range(400)
+        ]
         running = Running(own)
         client = running.client()
         time.sleep(0.2)
         for at in range(0, 400, 4):
-            running.write("".join("lost\n" if it is None else f"{it}\n" for it in readings[at : at + 4]))
+            running.write(
+                "".join("lost\n" if it is None else f"{it}\n" for it in readings[at : at + 4])
+            )
             wait_for("the lines", lambda at=at: len(client.lines) >= at + 4)
-        same(f"{kind} of {number}", ["lost" if it is None else str(it) for it in filtered(kind, number, readings)], client.texts())
+        same(
+            f"{kind} of {number}",
+            ["lost" if it is None else str(it) for it in filtered(kind, number, readings)],
+            client.texts(),
+        )
         client.close()
         running.close()
     print("3,200 lines through eight filters, as computed: ok", flush=True)
@@ -46,7 +79,11 @@ def filters(folder):
 
 def steady(loads, kind, number, window=4, band=2):
     """How many of 100 readings are stable, of loads in tenths that a cell gives 25 counts each."""
-    shown = [(2 * it + 25) // 50 for it in filtered(kind, number, [round(25 * it) for it in loads]) if it is not None]
+    shown = [
+        (2 * it + 25) // 50
+        for it in filtered(kind, number, [round(25 * it) for it in loads])
+        if it is not None
+    ]
     held = [max(some) - min(some) <= band for some in zip(*(shown[at:] for at in range(window)))]
     return 100 * sum(held) / len(held)
 
@@ -56,16 +93,26 @@ def what_filters_do():
     made, times = random.Random(1), range(4_000)
     disturbed = {
         "| noise of a tenth": [made.gauss(1_000, 1) for _ in times],
-        "| sway of 5 tenths": [1_000 + 5 * math.sin(0.3 * math.pi * at + at / 4_000) for at in times],
-        "| one reading of 20": [1_000 + (made.choice((-40, 40)) if made.random() < 0.05 else 0) for _ in times],
+        "| sway of 5 tenths": [
+            1_000 + 5 * math.sin(0.3 * math.pi * at + at / 4_000) for at in times
+        ],
+        "| one reading of 20": [
+            1_000 + (made.choice((-40, 40)) if made.random() < 0.05 else 0) for _ in times
+        ],
     }
     with open(os.path.join(TOP, "docs", "operating.md")) as it:
         page = it.read().splitlines()
     for name, loads in disturbed.items():
         row = next(line for line in page if line.startswith(name))
         told = [int(it) for it in row.split("|")[2:7]]
-        found = [steady(loads, *it) for it in (("mean", 1), ("median", 3), ("median", 5), ("mean", 4), ("mean", 8))]
-        holds(f"{row}: {[round(it) for it in found]}", all(abs(one - other) <= 3 for one, other in zip(told, found)))
+        found = [
+            steady(loads, *it)
+            for it in (("mean", 1), ("median", 3), ("median", 5), ("mean", 4), ("mean", 8))
+        ]
+        holds(
+            f"{row}: {[round(it) for it in found]}",
+            all(abs(one - other) <= 3 for one, other in zip(told, found)),
+        )
     print("what filters do, as docs/operating.md tells: ok", flush=True)
 
 
@@ -74,7 +121,12 @@ class Swinging(threading.Thread):
 
     def __init__(self, running, frequency):
         super().__init__(daemon=True)
-        self.running, self.frequency, self.since, self.over = running, frequency, None, threading.Event()
+        self.running, self.frequency, self.since, self.over = (
+            running,
+            frequency,
+            None,
+            threading.Event(),
+        )
         self.start()
 
     def run(self):
@@ -95,8 +147,13 @@ class Swinging(threading.Thread):
 
 def stable_equilibrium(folder):
     """A load is pushed and let go, and `S` sent once half of a filter's readings have seen it, since a median shows none of it before: in the five
-    seconds after its answer no more than two adjacent weights are indicated, one of them the answer's. The window has a second."""
-    cases = [(kind, number, frequency) for kind, number in (("median", 5), ("mean", 8)) for frequency in (0.4, 1.0, 1.5)]
+    seconds after its answer no more than two adjacent weights are indicated, one of them the answer's. The window has a second.
+    """
+    cases = [
+        (kind, number, frequency)
+        for kind, number in (("median", 5), ("mean", 8))
+        for frequency in (0.4, 1.0, 1.5)
+    ]
     tried = [threading.Thread(target=comes_to_rest, args=(folder, *case)) for case in cases]
     for it in tried:
         it.start()
@@ -112,7 +169,9 @@ def comes_to_rest(folder, kind, number, frequency):
     ran("finish", "--calibration", "calibration", "--filter", kind, str(number), folder=own)
     running = Running(own)
     swinging = Swinging(running, frequency)
-    service = bridge.Service(PROGRAM, os.path.join(own, "journal.db"), running, "--window", "10", "--wait", "200")
+    service = bridge.Service(
+        PROGRAM, os.path.join(own, "journal.db"), running, "--window", "10", "--wait", "200"
+    )
     terminal = bridge.Terminal(service)
     time.sleep(4)
     swinging.since = time.monotonic()
@@ -127,8 +186,15 @@ def comes_to_rest(folder, kind, number, frequency):
     found = answer[4:14].strip()
     shown = sorted(int(it) for it in weights | {found}) if answer.startswith("S S ") else []
     fits = 1 <= len(shown) <= 2 and shown[-1] - shown[0] <= 20
-    holds(f"{name}: S is answered {answer!r} after {waited:.1f} s, and then {sorted(weights)} kg are indicated", fits)
-    print(f"{name}: stable after {waited:.1f} s, {found} kg, and then {sorted(weights)}\n", end="", flush=True)
+    holds(
+        f"{name}: S is answered {answer!r} after {waited:.1f} s, and then {sorted(weights)} kg are indicated",
+        fits,
+    )
+    print(
+        f"{name}: stable after {waited:.1f} s, {found} kg, and then {sorted(weights)}\n",
+        end="",
+        flush=True,
+    )
     terminal.close()
     swinging.close()
     running.close()

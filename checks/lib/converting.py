@@ -15,8 +15,12 @@ TOP = os.path.dirname(os.path.dirname(os.path.dirname(os.path.abspath(__file__))
 GIVEN = [it for it in sys.argv[1:] if it != "--long"]
 IS_LONG = len(GIVEN) < len(sys.argv) - 1
 SECONDS = float(GIVEN[0]) if GIVEN else 600.0
-PROGRAM, CONVERTER = GIVEN[1:3] if len(GIVEN) > 2 else (os.path.join(TOP, name) for name in ("weighbridge", "weighbridge-converter"))
-READERS = os.path.join(TOP, "converters")
+PROGRAM, CONVERTER = (
+    GIVEN[1:3]
+    if len(GIVEN) > 2
+    else (os.path.join(TOP, name) for name in ("weighbridge", "weighbridge-converter"))
+)
+READERS = os.path.join(TOP, "readers")
 # Counts and tenths of e: not on one line, and the middle of a segment is no whole tenth.
 POINTS = [(-8_388, 0), (250_000, 10_000), (700_123, 30_000)]
 # How old a line may be when it comes: a second, and what it takes on a busy machine.
@@ -61,18 +65,37 @@ def line_of(counts):
 
 def ran(*words, given="", folder=None, environment=None):
     """The status of a run of the program, and what it printed and reported."""
-    it = subprocess.run([CONVERTER, *words], input=given, capture_output=True, text=True, cwd=folder, env=environment)
+    it = subprocess.run(
+        [CONVERTER, *words],
+        input=given,
+        capture_output=True,
+        text=True,
+        cwd=folder,
+        env=environment,
+    )
     return it.returncode, it.stdout, it.stderr
 
 
 def lines(counts, number=50):
-    return "".join(f"{counts + (0, 1, 0, -1)[at % 4]}\r\n" for at in range(number // 4 * 4)) + f"{counts}\n" * (number % 4)
+    return "".join(
+        f"{counts + (0, 1, 0, -1)[at % 4]}\r\n" for at in range(number // 4 * 4)
+    ) + f"{counts}\n" * (number % 4)
 
 
 def calibrate(folder, points=POINTS):
     """A calibration of these points, made step by step."""
     for counts, load in points:
-        status, _, err = ran("point", "--calibration", "calibration", "--load", str(load), "--spread", "4", given=lines(counts), folder=folder)
+        status, _, err = ran(
+            "point",
+            "--calibration",
+            "calibration",
+            "--load",
+            str(load),
+            "--spread",
+            "4",
+            given=lines(counts),
+            folder=folder,
+        )
         same(f"a point at {load}", (0, ""), (status, err))
     return ran("finish", "--calibration", "calibration", folder=folder)
 
@@ -84,7 +107,14 @@ class Running:
         self.port = bridge.free_port()
         self.source = f"tcp:{bridge.HOST}:{self.port}"
         self.told, self.reader = os.path.join(folder, "told"), None
-        words = [CONVERTER, "run", "--calibration", os.path.join(folder, "calibration"), "--listen", f"{bridge.HOST}:{self.port}"]
+        words = [
+            CONVERTER,
+            "run",
+            "--calibration",
+            os.path.join(folder, "calibration"),
+            "--listen",
+            f"{bridge.HOST}:{self.port}",
+        ]
         given = subprocess.PIPE
         if reader:
             with open(self.told, "w") as told:
@@ -100,7 +130,9 @@ class Running:
 
     def listens(self):
         if self.process.poll() is not None:
-            raise SystemExit(f"converters: the program ended: {self.process.stderr.read().decode()}")
+            raise SystemExit(
+                f"converters: the program ended: {self.process.stderr.read().decode()}"
+            )
         with open("/proc/net/tcp") as it:
             return any(f":{self.port:04X} 00000000:0000 0A" in line for line in it)
 
@@ -166,7 +198,12 @@ class Client(threading.Thread):
 
 def first_line(*words):
     """What a reader prints first but for the line that was begun before, and what it tells."""
-    reader = begun([os.path.join(READERS, words[0]), *words[1:]], stdout=subprocess.PIPE, stderr=subprocess.PIPE, text=True)
+    reader = begun(
+        [os.path.join(READERS, words[0]), *words[1:]],
+        stdout=subprocess.PIPE,
+        stderr=subprocess.PIPE,
+        text=True,
+    )
     found = reader.stdout.readline().strip()
     reader.kill()
     return found, reader.communicate()[1]

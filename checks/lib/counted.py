@@ -5,7 +5,10 @@ counts = [0, 0]
 
 def case(name, is_so, found=""):
     counts[0 if is_so else 1] += 1
-    print(f"{'ok    ' if is_so else 'FAILED'} {name}{'' if is_so else f': {found!r:.1000}'}", flush=True)
+    print(
+        f"{'ok    ' if is_so else 'FAILED'} {name}{'' if is_so else f': {found!r:.1000}'}",
+        flush=True,
+    )
 
 
 def same(name, wanted, found):

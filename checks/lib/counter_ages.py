@@ -9,7 +9,11 @@ import time
 from counter_clerk import ENTER, ESCAPE
 from countering import becomes, holds, kg_of
 
-FAULTS = ("No connection to the counter's program.", "The scale's program doesn't run.", "The scale doesn't answer.")
+FAULTS = (
+    "No connection to the counter's program.",
+    "The scale's program doesn't run.",
+    "The scale doesn't answer.",
+)
 
 
 def gone_after(clerk, stop, go_on):
@@ -30,8 +34,16 @@ def weight_within_a_second(bridge, clerk, network):
     bridge.put(9170)
     becomes("a weight is shown", lambda: clerk.kg() == 18340)
     for what, stop, go_on in (
-        ("the counter stands still", lambda: bridge.counter.send_signal(19), lambda: bridge.counter.send_signal(18)),
-        ("the service stands still", lambda: bridge.service.send_signal(19), lambda: bridge.service.send_signal(18)),
+        (
+            "the counter stands still",
+            lambda: bridge.counter.send_signal(19),
+            lambda: bridge.counter.send_signal(18),
+        ),
+        (
+            "the service stands still",
+            lambda: bridge.service.send_signal(19),
+            lambda: bridge.service.send_signal(18),
+        ),
         ("the counter is killed", bridge.kill_counter, bridge.start_counter),
         ("the network is gone", network.is_there.clear, network.is_there.set),
     ):
@@ -61,7 +73,11 @@ def never_old(bridge, clerk, what, seconds=6, may_show_none=False):
         if shown is None and at > 12 and kg == kg_of(bridge.converter.load):
             shown = kg
             delays.append(time.monotonic() - changed)
-        fresh = {kg_of(load) for moment, load in list(bridge.converter.sent)[-300:] if moment > began - 1.3}
+        fresh = {
+            kg_of(load)
+            for moment, load in list(bridge.converter.sent)[-300:]
+            if moment > began - 1.3
+        }
         if kg not in fresh:
             late.append(kg)
     delays.sort()
@@ -118,7 +134,9 @@ def a_change_at_the_page(bridge, clerk, network):
     group = os.getpgid(clerk.browser.driver.pid)
     suspended = [
         int(it)
-        for it in subprocess.run(["pgrep", "-f", clerk.browser.folder], capture_output=True, text=True).stdout.split()
+        for it in subprocess.run(
+            ["pgrep", "-f", clerk.browser.folder], capture_output=True, text=True
+        ).stdout.split()
         if int(it) != os.getpid()
     ]
     for it in suspended:
@@ -129,5 +147,9 @@ def a_change_at_the_page(bridge, clerk, network):
         os.kill(it, signal.SIGCONT)
     time.sleep(0.3)
     kg = clerk.kg()
-    holds("a browser that was suspended shows no old weight", kg in (None, 8140) and group > 0, f"{kg}, {len(suspended)} processes")
+    holds(
+        "a browser that was suspended shows no old weight",
+        kg in (None, 8140) and group > 0,
+        f"{kg}, {len(suspended)} processes",
+    )
     becomes("and then the new one", lambda: clerk.kg() == 8140)

@@ -8,7 +8,13 @@ from bridge import HOST, free_port
 from browser import Browser
 from countering import becomes
 
-ENTER, ESCAPE, TAB, SPACE, F1, F4, F6, F7, F8, F9, F10 = "\ue007", "\ue00c", "\ue004", " ", *(chr(0xE030 + it) for it in (1, 4, 6, 7, 8, 9, 10))
+ENTER, ESCAPE, TAB, SPACE, F1, F4, F6, F7, F8, F9, F10 = (
+    "\ue007",
+    "\ue00c",
+    "\ue004",
+    " ",
+    *(chr(0xE030 + it) for it in (1, 4, 6, 7, 8, 9, 10)),
+)
 
 
 def at_of(port):
@@ -19,7 +25,9 @@ class Clerk:
     """A clerk at the page, who has a keyboard alone."""
 
     def __init__(self, at, folder=None, width=1280, height=800, is_dark=False, lang="en"):
-        self.at, self.browser = at, Browser(free_port(), folder or tempfile.mkdtemp(prefix="browser-"), width, height)
+        self.at, self.browser = at, Browser(
+            free_port(), folder or tempfile.mkdtemp(prefix="browser-"), width, height
+        )
         self.browser.look(width, height, is_dark)
         self.load(lang)
 
@@ -39,11 +47,15 @@ class Clerk:
 
     def sentence(self):
         """What the page says is to be done now, and what stands below it, read at once."""
-        return self.browser.run("return ['words', 'more'].map(it => document.getElementById(it).textContent)")
+        return self.browser.run(
+            "return ['words', 'more'].map(it => document.getElementById(it).textContent)"
+        )
 
     def choose(self):
         """Presses the first of the choices, if it still stands there."""
-        return self.browser.run("const it = document.querySelector('#choices button'); if (it) it.click(); return it !== null")
+        return self.browser.run(
+            "const it = document.querySelector('#choices button'); if (it) it.click(); return it !== null"
+        )
 
     def weight(self):
         return self.browser.run("return document.getElementById('weight').textContent")
@@ -57,7 +69,9 @@ class Clerk:
         return self.browser.run("return document.getElementById('plate').value")
 
     def focus(self):
-        return self.browser.run("return document.activeElement.id || document.activeElement.textContent")
+        return self.browser.run(
+            "return document.activeElement.id || document.activeElement.textContent"
+        )
 
     def keys(self, text):
         self.browser.keys(text)
@@ -71,7 +85,9 @@ class Clerk:
 
     def answers(self):
         """Return the answers to the page's question, with their keys."""
-        return self.browser.run("return [...document.querySelectorAll('#hint .answer')].map(it => it.textContent)")
+        return self.browser.run(
+            "return [...document.querySelectorAll('#hint .answer')].map(it => it.textContent)"
+        )
 
     def kept(self):
         return self.browser.run("return localStorage.getItem('weighbridge.request')")

@@ -40,7 +40,11 @@ class Streams(threading.Thread):
                 elif key.data == 0:
                     now = time.monotonic()
                     for line in data.split(b"\n"):
-                        if line.startswith(b'data: {"state":"') and line.endswith(b"}") and b'"net"' in line:
+                        if (
+                            line.startswith(b'data: {"state":"')
+                            and line.endswith(b"}")
+                            and b'"net"' in line
+                        ):
                             self.weights.append((now, json.loads(line[6:])["net"]))
 
     def close(self):
@@ -76,7 +80,9 @@ def spend(bridge, seconds):
             break
     took = time.monotonic() - began
     after = [sizes.sizes_of(it) for it in (bridge.counter, bridge.service)]
-    return [(100 * (cpu - past) / took, memory / 1024) for (memory, cpu), past in zip(after, before)]
+    return [
+        (100 * (cpu - past) / took, memory / 1024) for (memory, cpu), past in zip(after, before)
+    ]
 
 
 def weigh_with(bridge, count):
@@ -87,7 +93,9 @@ def weigh_with(bridge, count):
         bridge.next_vehicle(9170)
         time.sleep(random.random() / bridge.pace)
         began = time.monotonic()
-        status, _ = bridge.weigh(f"cost-{bridge.pace}-{at}", kind, f"C-{at}", 5000 if kind == "single" else None)
+        status, _ = bridge.weigh(
+            f"cost-{bridge.pace}-{at}", kind, f"C-{at}", 5000 if kind == "single" else None
+        )
         if status == 201:
             times[kind].append(time.monotonic() - began)
     return times
@@ -109,7 +117,10 @@ def show(program, seconds=12):
             streams.close()
             line = f"{pages} pages, {pace} readings a second, each another: counter {counter:.1f} % of a core, {memory:.0f} MB, service {service:.1f} %; {rate:.2f} kB/s a page"
             print(line, flush=True)
-            holds(f"{pages} pages at {pace}: each has a stream that stays", len(streams.heard) == pages and streams.ended == 0)
+            holds(
+                f"{pages} pages at {pace}: each has a stream that stays",
+                len(streams.heard) == pages and streams.ended == 0,
+            )
             if pages == 20:
                 holds(
                     f"{pages} pages at {pace}: at most {MOST_CPU:.0f} % of a core and {MOST_MEMORY:.0f} MB",

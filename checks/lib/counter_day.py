@@ -92,7 +92,14 @@ class Day:
 
     def work(self, plate, load, typed, fault=None):
         """One vehicle, from driving on to driving off, as the sentences say."""
-        bridge, clerk, is_on, since, shown, until = self.bridge, self.clerk, False, time.monotonic(), "", time.monotonic() + PATIENCE
+        bridge, clerk, is_on, since, shown, until = (
+            self.bridge,
+            self.clerk,
+            False,
+            time.monotonic(),
+            "",
+            time.monotonic() + PATIENCE,
+        )
         while time.monotonic() < until:
             words, more = clerk.sentence()
             if words != shown:
@@ -102,7 +109,9 @@ class Day:
             if not words and time.monotonic() - since < LOADS_WITHIN:
                 time.sleep(0.15)
                 continue
-            done = re.match(r"(?:Slip|Ticket) (\d+): ", words) or re.match(rf"{plate} is weighed, (?:Slip|Ticket) (\d+)", words)
+            done = re.match(r"(?:Slip|Ticket) (\d+): ", words) or re.match(
+                rf"{plate} is weighed, (?:Slip|Ticket) (\d+)", words
+            )
             if done and plate in words + more and is_on:
                 self.told.append((int(done[1]), plate))
                 bridge.converter.load = 0
@@ -145,40 +154,59 @@ class Day:
             elif what == "again":
                 clerk.choose()
             time.sleep(0.15)
-        self.doubts.append(f"{plate}: nothing came of it in {PATIENCE} s: {clerk.words()} | {clerk.more()}")
+        self.doubts.append(
+            f"{plate}: nothing came of it in {PATIENCE} s: {clerk.words()} | {clerk.more()}"
+        )
         bridge.converter.load = 0
 
     def vehicle(self, number, fault):
         if self.site and self.rng.random() < 0.5:
             plate = self.rng.choice(list(self.site))
             load = self.site.pop(plate) - self.rng.randrange(2500, 5000)
-            typed = plate.replace("-", "") if self.rng.random() < 0.3 else plate.lower().replace("-", " ")
+            typed = (
+                plate.replace("-", "")
+                if self.rng.random() < 0.3
+                else plate.lower().replace("-", " ")
+            )
         else:
-            plate, load = f"HB-{self.rng.choice('ABCDEFGH')}{self.rng.choice('KLMNP')}-{number}{self.rng.randrange(10, 99)}", self.rng.randrange(
-                8000, 16000
+            plate, load = (
+                f"HB-{self.rng.choice('ABCDEFGH')}{self.rng.choice('KLMNP')}-{number}{self.rng.randrange(10, 99)}",
+                self.rng.randrange(8000, 16000),
             )
             self.site[plate], typed = load, plate.lower()
         self.work(plate, load, typed, fault)
 
 
 def show(program):
-    print(f"---- a day of {VEHICLES} vehicles with {len(FAULTS)} faults, at the page alone", flush=True)
+    print(
+        f"---- a day of {VEHICLES} vehicles with {len(FAULTS)} faults, at the page alone",
+        flush=True,
+    )
     bridge = Bridge(program, 10).start_counter()
     network = Network(bridge.http)
     clerk = Clerk(at_of(network.port))
     day = Day(bridge, network, clerk)
     try:
         for number in range(VEHICLES):
-            day.vehicle(number, FAULTS[number // 3 - 1] if number % 3 == 0 and 0 < number // 3 <= len(FAULTS) else None)
+            day.vehicle(
+                number,
+                FAULTS[number // 3 - 1]
+                if number % 3 == 0 and 0 < number // 3 <= len(FAULTS)
+                else None,
+            )
         time.sleep(4)
         rows = [(int(it[0]), it[3]) for it in bridge.entries()]
         same("no sentence left the clerk in doubt", [], day.doubts)
         same("what the clerk was told is what is stored", rows, day.told)
         holds("each vehicle is weighed", len(rows) == VEHICLES, f"{len(rows)}")
-        holds("the journal is sound", bridge.ask("GET", "/check", port=bridge.office)[1].startswith("SOUND"))
+        holds(
+            "the journal is sound",
+            bridge.ask("GET", "/check", port=bridge.office)[1].startswith("SOUND"),
+        )
         becomes(
             "the lists have all of them",
-            lambda: f"_entries {len(rows)}\n" in bridge.ask("GET", "/metrics")[1] and bridge.health()["state"]["lists_whole"],
+            lambda: f"_entries {len(rows)}\n" in bridge.ask("GET", "/metrics")[1]
+            and bridge.health()["state"]["lists_whole"],
             20,
         )
         same("no tare is left", "TA A          0 kg", bridge.tare())

@@ -20,16 +20,42 @@ SHORT = 0.2  # seconds: a guesser doesn't wait for a refusal that is held back
 def head_of(nginx, target, *words):
     """The status and the fields of an answer."""
     it = subprocess.run(
-        ["curl", "-sk", "-m", "1.5", "-o", "/dev/null", "-D", "-", *words, f"https://{HOST}:{nginx.port}{target}"], capture_output=True, text=True
+        [
+            "curl",
+            "-sk",
+            "-m",
+            "1.5",
+            "-o",
+            "/dev/null",
+            "-D",
+            "-",
+            *words,
+            f"https://{HOST}:{nginx.port}{target}",
+        ],
+        capture_output=True,
+        text=True,
     )
     lines = it.stdout.strip().split("\n")
     fields = dict(line.strip().split(": ", 1) for line in lines[1:] if ": " in line)
-    return (lines[0].split()[1] if lines[0] else "none"), {name.lower(): value for name, value in fields.items()}
+    return (lines[0].split()[1] if lines[0] else "none"), {
+        name.lower(): value for name, value in fields.items()
+    }
 
 
 def plainly(nginx, *words):
     return subprocess.run(
-        ["curl", "-s", "-m", "5", "-o", "/dev/null", "-w", "%{http_code} %{redirect_url}", *words, f"http://{HOST}:{nginx.plain}/a?b=c"],
+        [
+            "curl",
+            "-s",
+            "-m",
+            "5",
+            "-o",
+            "/dev/null",
+            "-w",
+            "%{http_code} %{redirect_url}",
+            *words,
+            f"http://{HOST}:{nginx.plain}/a?b=c",
+        ],
         capture_output=True,
         text=True,
     ).stdout
@@ -57,7 +83,14 @@ def other_sites(nginx):
         ("another name below ours", ["Sec-Fetch-Site: same-site"]),
     ):
         words = [it for field in fields for it in ("-H", field)]
-        same(f"{name} is refused", ["403", "403"], [head_of(nginx, "/weighings", *KNOWN, *weighs, *words)[0], head_of(nginx, "/", *KNOWN, *words)[0]])
+        same(
+            f"{name} is refused",
+            ["403", "403"],
+            [
+                head_of(nginx, "/weighings", *KNOWN, *weighs, *words)[0],
+                head_of(nginx, "/", *KNOWN, *words)[0],
+            ],
+        )
     routes = ("/purge", "/journal.csv", "/tickets.csv", "/check", "/metrics")
     found = [head_of(nginx, it, *KNOWN, *words)[0] for it in routes for words in ([], weighs)]
     same("a clerk can't purge, and gets no export", ["404"] * len(found), found)
@@ -66,16 +99,40 @@ def other_sites(nginx):
 
 
 def fields_of_answers(nginx):
-    for target in ("/", "/web/page.js", "/time", "/indication", "/openapi.json", "/nothing", "/events"):
+    for target in (
+        "/",
+        "/web/page.js",
+        "/time",
+        "/indication",
+        "/openapi.json",
+        "/nothing",
+        "/events",
+    ):
         found = head_of(nginx, target, *KNOWN)[1]
         policy = found.get("content-security-policy", "")
         holds(f"{target}: in no frame", "frame-ancestors 'none'" in policy, policy)
-        holds(f"{target}: nothing from elsewhere, and no script within the page", "default-src 'none'" in policy and "unsafe" not in policy, policy)
-        wanted = {"x-content-type-options": "nosniff", "cross-origin-resource-policy": "same-origin", "strict-transport-security": "max-age=31536000"}
-        same(f"{target}: its type, its site, and https", wanted, {name: found.get(name) for name in wanted})
+        holds(
+            f"{target}: nothing from elsewhere, and no script within the page",
+            "default-src 'none'" in policy and "unsafe" not in policy,
+            policy,
+        )
+        wanted = {
+            "x-content-type-options": "nosniff",
+            "cross-origin-resource-policy": "same-origin",
+            "strict-transport-security": "max-age=31536000",
+        }
+        same(
+            f"{target}: its type, its site, and https",
+            wanted,
+            {name: found.get(name) for name in wanted},
+        )
     same("a refusal has no cookie", None, head_of(nginx, "/", *WRONG)[1].get("set-cookie"))
     cookie = head_of(nginx, "/", *KNOWN)[1].get("set-cookie", "")
-    holds("the cookie is for this site alone, and no script reads it", all(it in cookie for it in ("Secure", "HttpOnly", "SameSite=Strict")), cookie)
+    holds(
+        "the cookie is for this site alone, and no script reads it",
+        all(it in cookie for it in ("Secure", "HttpOnly", "SameSite=Strict")),
+        cookie,
+    )
     cookie = cookie.split(";")[0]
     same("the cookie opens nothing", "401", head_of(nginx, "/", "-H", f"Cookie: {cookie}")[0])
     return cookie
@@ -88,7 +145,18 @@ def guesses(nginx, cookie):
     holds("for a second", time.monotonic() - began >= 1, f"{time.monotonic() - began:.1f} s")
 
     def guess(_):
-        words = ["curl", "-sk", "-m", str(SHORT), "-o", "/dev/null", "-w", "%{http_code}", *WRONG, f"https://{HOST}:{nginx.port}/"]
+        words = [
+            "curl",
+            "-sk",
+            "-m",
+            str(SHORT),
+            "-o",
+            "/dev/null",
+            "-w",
+            "%{http_code}",
+            *WRONG,
+            f"https://{HOST}:{nginx.port}/",
+        ]
         return subprocess.run(words, capture_output=True, text=True).stdout
 
     with ThreadPoolExecutor(8) as pool:
@@ -96,15 +164,27 @@ def guesses(nginx, cookie):
     took = time.monotonic() - began
     looked_at = sum(it != "429" for it in found)
     # nginx reads its clock once a round, and on a busy machine lets some more through
-    holds("of 150 guesses without waiting few are looked at", looked_at <= TRIES + took + 10, f"{looked_at} in {took:.1f} s")
+    holds(
+        "of 150 guesses without waiting few are looked at",
+        looked_at <= TRIES + took + 10,
+        f"{looked_at} in {took:.1f} s",
+    )
     same("the right password is slowed with them", "429", head_of(nginx, "/", *KNOWN)[0])
-    same("another cookie doesn't help", "429", head_of(nginx, "/", *KNOWN, "-H", "Cookie: weighbridge=1")[0])
+    same(
+        "another cookie doesn't help",
+        "429",
+        head_of(nginx, "/", *KNOWN, "-H", "Cookie: weighbridge=1")[0],
+    )
     same(
         "who logged in before is not, at whatever he guesses",
         ["401"] * 3,
         [head_of(nginx, "/", *WRONG, "-H", f"Cookie: {cookie}")[0] for _ in range(3)],
     )
-    same("nor where he has the password", ["200"] * 40, [head_of(nginx, "/time", *KNOWN, "-H", f"Cookie: {cookie}")[0] for _ in range(40)])
+    same(
+        "nor where he has the password",
+        ["200"] * 40,
+        [head_of(nginx, "/time", *KNOWN, "-H", f"Cookie: {cookie}")[0] for _ in range(40)],
+    )
 
 
 def many_open(nginx, cookie):
@@ -120,7 +200,11 @@ def many_open(nginx, cookie):
         streams.append(stream)
     for it in streams:
         it.close()
-    same("one address has so many requests open, and no more", (MOST_OPEN, 10), (answers.count("200"), answers.count("429")))
+    same(
+        "one address has so many requests open, and no more",
+        (MOST_OPEN, 10),
+        (answers.count("200"), answers.count("429")),
+    )
 
 
 def doors(counter_port):

@@ -51,22 +51,40 @@ def watch_display(port, seconds):
 def many_clients(bridge):
     bridge.put(9170)
     display = Meanwhile(watch_display, bridge.ports["display"], 6)
-    tills = [Meanwhile(ask_at_random, bridge.ports[name], seed, 60) for seed, name in enumerate(("till", "other"))]
+    tills = [
+        Meanwhile(ask_at_random, bridge.ports[name], seed, 60)
+        for seed, name in enumerate(("till", "other"))
+    ]
     zeros = Meanwhile(lambda: [bridge.ask("POST", "/zero")[1] for _ in range(15)])
     results = [it.get() for it in tills]
     times = sorted(it for _, took in results for it in took)
-    same("two tills and a page at once: each reply is of its own question", [], [it for wrong, _ in results for it in wrong])
+    same(
+        "two tills and a page at once: each reply is of its own question",
+        [],
+        [it for wrong, _ in results for it in wrong],
+    )
     lines = display.get()
     holds(
         "a display has each value meanwhile",
-        abs(len(lines) / 6 - bridge.pace) < 0.1 * bridge.pace + 0.5 and all(it.startswith("S ") for it in lines),
+        abs(len(lines) / 6 - bridge.pace) < 0.1 * bridge.pace + 0.5
+        and all(it.startswith("S ") for it in lines),
         f"{len(lines) / 6:.1f} a second; a till's answer: median {1000 * times[len(times) // 2]:.0f} ms, worst {1000 * times[-1]:.0f} ms",
     )
-    holds("a page's zero is refused in the scale's words", all('"Z +"' in it or "not_sent" in it for it in zeros.get()))
+    holds(
+        "a page's zero is refused in the scale's words",
+        all('"Z +"' in it or "not_sent" in it for it in zeros.get()),
+    )
     bridge.terminal_says("till", "TAC")
-    same("a port that only reads refuses what would change the scale", ["ES"] * 4, bridge.terminal_says("display", "Z", "T", "TA 5000 kg", "TAC"))
+    same(
+        "a port that only reads refuses what would change the scale",
+        ["ES"] * 4,
+        bridge.terminal_says("display", "Z", "T", "TA 5000 kg", "TAC"),
+    )
     same("and answers the rest", [NO_TARE], [bridge.terminal_says("till", "TA")])
-    holds("a client that shuts its side is answered", bridge_half_closed(bridge) == b"TA A       3000 kg\r\nTAC A\r\n")
+    holds(
+        "a client that shuts its side is answered",
+        bridge_half_closed(bridge) == b"TA A       3000 kg\r\nTAC A\r\n",
+    )
 
 
 def bridge_half_closed(bridge):
@@ -126,7 +144,9 @@ def a_copy_without_the_reset(program, pace):
     found = 0
     for _ in range(4):
         said, after, late = refused_while_held(copy, "TA 5000 kg", 1.4)
-        found += all(it is None or it.endswith(" I") for it in said) and (after[1] != NO_TARE or late > 0)
+        found += all(it is None or it.endswith(" I") for it in said) and (
+            after[1] != NO_TARE or late > 0
+        )
         copy.terminal_says("till", "TAC")
     copy.close()
     holds("a copy without the reset fails that test", found > 0, f"{found} of 4 times")
@@ -139,7 +159,12 @@ def nothing_late_when_the_counter_stands_still(bridge):
         bridge.counter.send_signal(19)
         client = Client(bridge.ports["till"])
         client.send("TA 5000 kg")
-        page = Meanwhile(bridge.ask, "POST", "/weighings", {"key": f"late-{seconds}", "kind": "single", "plate": "LATE", "tare": "3000"})
+        page = Meanwhile(
+            bridge.ask,
+            "POST",
+            "/weighings",
+            {"key": f"late-{seconds}", "kind": "single", "plate": "LATE", "tare": "3000"},
+        )
         time.sleep(seconds)
         client.close()
         bridge.counter.send_signal(18)
@@ -161,26 +186,56 @@ def a_tare_of_one_weighing(bridge):
 
     bridge.next_vehicle(9170)
     status, text = single(5000)
-    holds("a Single with its tare in one act", status == 201 and "PT       5000 kg\n" in text and text.endswith("N      13340 kg\n"))
+    holds(
+        "a Single with its tare in one act",
+        status == 201 and "PT       5000 kg\n" in text and text.endswith("N      13340 kg\n"),
+    )
     same("no tare is left", NO_TARE, bridge.tare())
-    same("nor where the office refuses", ((409, "refused 11 not_cleared\n"), NO_TARE), (single(5000), bridge.tare()))
+    same(
+        "nor where the office refuses",
+        ((409, "refused 11 not_cleared\n"), NO_TARE),
+        (single(5000), bridge.tare()),
+    )
     bridge.next_vehicle(9170)
-    same("nor by one that is not below the weight", ((409, "refused 10 no_preset\n"), NO_TARE), (single(30000), bridge.tare()))
-    same("nor by one above Max", ((409, "counter tare_refused\n"), NO_TARE), (single(99999), bridge.tare()))
+    same(
+        "nor by one that is not below the weight",
+        ((409, "refused 10 no_preset\n"), NO_TARE),
+        (single(30000), bridge.tare()),
+    )
+    same(
+        "nor by one above Max",
+        ((409, "counter tare_refused\n"), NO_TARE),
+        (single(99999), bridge.tare()),
+    )
     same("what is no tare", (422, "counter bad_tare\n"), single("5x"))
     bridge.terminal_says("till", "TA 3000 kg")
-    same("one that a till has set is refused by name, and stays", ((409, "counter tare_set\n"), "TA A       3000 kg"), (single(5000), bridge.tare()))
-    same("and a First meets it by name", (409, "refused 9 tare_active\n"), bridge.weigh("tare-first", "first", "AB-12"))
-    same("the page clears it", ('{"said": "TAC A"}', NO_TARE), (bridge.ask("POST", "/tare/clear")[1], bridge.tare()))
+    same(
+        "one that a till has set is refused by name, and stays",
+        ((409, "counter tare_set\n"), "TA A       3000 kg"),
+        (single(5000), bridge.tare()),
+    )
+    same(
+        "and a First meets it by name",
+        (409, "refused 9 tare_active\n"),
+        bridge.weigh("tare-first", "first", "AB-12"),
+    )
+    same(
+        "the page clears it",
+        ('{"said": "TAC A"}', NO_TARE),
+        (bridge.ask("POST", "/tare/clear")[1], bridge.tare()),
+    )
     acts = [
         Meanwhile(bridge.weigh, f"side-{it}", kind, f"S-{it}", tare)
-        for it, (kind, tare) in enumerate([("single", 4000), ("first", None), ("single", 5000), ("first", None)])
+        for it, (kind, tare) in enumerate(
+            [("single", 4000), ("first", None), ("single", 5000), ("first", None)]
+        )
     ]
     told = [it.get() for it in acts]
     stored = [it for it in told if it[0] == 201]
     holds(
         "of four at once one is stored, with its own tare or none",
-        len(stored) == 1 and all(it[1].split()[0] in ("refused", "counter") for it in told if it[0] != 201),
+        len(stored) == 1
+        and all(it[1].split()[0] in ("refused", "counter") for it in told if it[0] != 201),
         str([it[1].split("\n")[0] for it in told]),
     )
     same("and none is left", NO_TARE, bridge.tare())
@@ -189,7 +244,9 @@ def a_tare_of_one_weighing(bridge):
 def disturb(bridge, what, told):
     """Kills or holds the counter or the service, and waits until all is there again."""
     if "hold" in what:
-        bridge.hold(bridge.counter if what == "hold counter" else bridge.service, random.uniform(1.1, 2.5))
+        bridge.hold(
+            bridge.counter if what == "hold counter" else bridge.service, random.uniform(1.1, 2.5)
+        )
         told.get()
     elif what == "counter":
         bridge.kill_counter()
@@ -208,7 +265,12 @@ def killed_within_the_act(bridge, kills):
     span, left, stored, twice = 0.05 + 3.0 / bridge.pace, 0, 0, 0
     moments = [
         (what, at)
-        for what, count in (("counter", kills), ("service", kills), ("hold counter", kills // 3), ("hold service", kills // 3))
+        for what, count in (
+            ("counter", kills),
+            ("service", kills),
+            ("hold counter", kills // 3),
+            ("hold service", kills // 3),
+        )
         for at in range(count)
     ]
     for what, at in moments:
@@ -221,14 +283,23 @@ def killed_within_the_act(bridge, kills):
         count = sum(it[1] == key for it in bridge.entries())
         again = bridge.weigh(key, "single", f"K-{at}", 5000)
         stored += count
-        twice += count > 1 or (count == 1 and again[0] != 201) or sum(it[1] == key for it in bridge.entries()) > 1
+        twice += (
+            count > 1
+            or (count == 1 and again[0] != 201)
+            or sum(it[1] == key for it in bridge.entries()) > 1
+        )
         if told.get() and told.get()[0] == 201:
             twice += told.get()[1] != again[1]
     same(
-        f"killed {2 * kills} times and held {kills // 3 * 2} times within the act, no tare is left and each key has one entry", (0, 0), (left, twice)
+        f"killed {2 * kills} times and held {kills // 3 * 2} times within the act, no tare is left and each key has one entry",
+        (0, 0),
+        (left, twice),
     )
     holds("some of them were stored, and some not", 0 < stored < len(moments), f"{stored} stored")
-    holds("the journal is sound", bridge.ask("GET", "/check", port=bridge.office)[1].startswith("SOUND"))
+    holds(
+        "the journal is sound",
+        bridge.ask("GET", "/check", port=bridge.office)[1].startswith("SOUND"),
+    )
 
 
 def zero_since_the_start(bridge):
@@ -238,30 +309,42 @@ def zero_since_the_start(bridge):
     same("it is known", True, bridge.health()["state"]["zero"]["known"])
     bridge.kill_counter()
     bridge.start_counter()
-    becomes("and still is once the counter was started again", lambda: bridge.health()["state"]["zero"]["known"])
+    becomes(
+        "and still is once the counter was started again",
+        lambda: bridge.health()["state"]["zero"]["known"],
+    )
     becomes("the service is seen", lambda: bridge.health()["service"] is not None)
     service = bridge.health()["service"]
     holds(
         "the service's program, words and start are shown",
-        service["process"] == bridge.service.pid and "--pace" in service["words"] and service["program"]["version"].startswith("weighbridge "),
+        service["process"] == bridge.service.pid
+        and "--pace" in service["words"]
+        and service["program"]["version"].startswith("weighbridge "),
         str(service["program"]),
     )
     bridge.kill_counter()
     bridge.kill_service()
     bridge.start_service()
     bridge.start_counter()
-    becomes("a start of the service is noticed, though the counter was away", lambda: bridge.health()["state"]["zero"]["known"] is False)
+    becomes(
+        "a start of the service is noticed, though the counter was away",
+        lambda: bridge.health()["state"]["zero"]["known"] is False,
+    )
     same("a till sets zero", "Z A", bridge.terminal_says("till", "Z"))
     same("and it is known again", True, bridge.health()["state"]["zero"]["known"])
     bridge.kill_service()
     bridge.start_service()
     bridge.wait_until_up()
-    becomes("a start within is noticed too", lambda: bridge.health()["state"]["zero"]["known"] is False)
+    becomes(
+        "a start within is noticed too", lambda: bridge.health()["state"]["zero"]["known"] is False
+    )
     bridge.ask("POST", "/zero")
     bridge.hold(bridge.service, 3)
     bridge.wait_until_up()
     time.sleep(0.5)
-    same("a service that stood still wasn't started", True, bridge.health()["state"]["zero"]["known"])
+    same(
+        "a service that stood still wasn't started", True, bridge.health()["state"]["zero"]["known"]
+    )
 
 
 def another_at_the_terminal(bridge):
@@ -271,10 +354,17 @@ def another_at_the_terminal(bridge):
         other.send("SIR")
         other.line()
         bridge.start_counter(is_waited_for=False)
-        becomes("another one at the terminal is named", lambda: bridge.health()["state"]["link"] == "waits")
+        becomes(
+            "another one at the terminal is named",
+            lambda: bridge.health()["state"]["link"] == "waits",
+        )
         told = [it["link"] for name, it in bridge.events(5) if name == "state"]
         same("and it stays so while the counter tries again", {"waits"}, set(told))
-        same("a weighing with a tare is not begun", (503, "counter no_terminal\n"), bridge.weigh("other-1", "single", "A", 5000))
+        same(
+            "a weighing with a tare is not begun",
+            (503, "counter no_terminal\n"),
+            bridge.weigh("other-1", "single", "A", 5000),
+        )
     bridge.wait_until_up()
     bridge.service.send_signal(19)
     with Client(bridge.ports["till"]) as client:
@@ -282,7 +372,9 @@ def another_at_the_terminal(bridge):
         told = [it["link"] for name, it in bridge.events(6) if name == "state"]
     bridge.service.send_signal(18)
     bridge.wait_until_up()
-    same("a service that stands still is told as one that doesn't answer", {"up", "held"}, set(told))
+    same(
+        "a service that stands still is told as one that doesn't answer", {"up", "held"}, set(told)
+    )
 
 
 def show(program, pace, kills):

@@ -38,14 +38,30 @@ def nothing_comes_of(bridge, clerk, what, act, plate):
     before = rows(bridge)
     act()
     time.sleep(0.3)
-    same(f"{what}: nothing is stored", ([], None, plate), (rows(bridge)[len(before) :], clerk.kept(), clerk.plate()))
+    same(
+        f"{what}: nothing is stored",
+        ([], None, plate),
+        (rows(bridge)[len(before) :], clerk.kept(), clerk.plate()),
+    )
 
 
 def a_question_at_each_plate_that_may_be_another(bridge, clerk):
     bridge.next_vehicle(4070)
     one = [f"{ON_SITE} F1", "No, another vehicle F6"]
-    asks(clerk, NEW, f"{ON_SITE} is on site. Is it this one?", one, "one letter off, and never weighed: it asks")
-    asks(clerk, "RA-KM-1263", f"{ON_SITE} is on site.", one, "two letters that changed places, and never weighed: it asks")
+    asks(
+        clerk,
+        NEW,
+        f"{ON_SITE} is on site. Is it this one?",
+        one,
+        "one letter off, and never weighed: it asks",
+    )
+    asks(
+        clerk,
+        "RA-KM-1263",
+        f"{ON_SITE} is on site.",
+        one,
+        "two letters that changed places, and never weighed: it asks",
+    )
     asks(clerk, "1236", f"{ON_SITE} is on site.", one, "a part of a plate: it asks")
     asks(clerk, "RAKM1236", f"{ON_SITE} is on site.", one, "equal without hyphens: it asks")
     clerk.keys(ESCAPE + KNOWN)
@@ -58,26 +74,65 @@ def a_question_at_each_plate_that_may_be_another(bridge, clerk):
 def enter_answers_no_question(bridge, clerk):
     clerk.keys(ESCAPE + NEW)
     clerk.sees(f"{ON_SITE} is on site.")
-    nothing_comes_of(bridge, clerk, "Enter ten times in a second on a question", lambda: clerk.browser.hammer(TEN, 0.1), NEW)
-    nothing_comes_of(bridge, clerk, "Enter held for 1.3 s on a question", lambda: clerk.browser.hold("Enter", 1.3), NEW)
+    nothing_comes_of(
+        bridge,
+        clerk,
+        "Enter ten times in a second on a question",
+        lambda: clerk.browser.hammer(TEN, 0.1),
+        NEW,
+    )
+    nothing_comes_of(
+        bridge,
+        clerk,
+        "Enter held for 1.3 s on a question",
+        lambda: clerk.browser.hold("Enter", 1.3),
+        NEW,
+    )
     same("the focus stays at the plate", "plate", clerk.focus())
     for _ in range(6):
         if ON_SITE in clerk.focus():
             break
         clerk.keys(TAB)
     same("Tab goes to the first answer", f"{ON_SITE} F1", clerk.focus())
-    nothing_comes_of(bridge, clerk, "Enter ten times in a second on an answer", lambda: clerk.browser.hammer(TEN, 0.1), NEW)
+    nothing_comes_of(
+        bridge,
+        clerk,
+        "Enter ten times in a second on an answer",
+        lambda: clerk.browser.hammer(TEN, 0.1),
+        NEW,
+    )
     for key in (F7, F10):
-        nothing_comes_of(bridge, clerk, f"the key F{ord(key) - 0xE030} of another question", lambda key=key: clerk.keys(key), NEW)
+        nothing_comes_of(
+            bridge,
+            clerk,
+            f"the key F{ord(key) - 0xE030} of another question",
+            lambda key=key: clerk.keys(key),
+            NEW,
+        )
     to_first = "document.querySelector('#hint .answer')?.focus()"
-    becomes("the space bar presses it", lambda: (clerk.browser.run(to_first), clerk.keys(SPACE), clerk.plate())[2] == ON_SITE)
+    becomes(
+        "the space bar presses it",
+        lambda: (clerk.browser.run(to_first), clerk.keys(SPACE), clerk.plate())[2] == ON_SITE,
+    )
 
 
 def deaf_after_an_answer(bridge, clerk):
     for what, act, plate in (
-        ("its key takes the plate on site, and Enter at once", lambda: clerk.keys(F1 + ENTER), ON_SITE),
-        ("Enter ten times in a second behind an answer", lambda: clerk.browser.hammer(F1 + TEN, 0.1), ON_SITE),
-        ("Enter held for 1.3 s behind an answer", lambda: (clerk.keys(F1), clerk.browser.hold("Enter", 1.3)), ON_SITE),
+        (
+            "its key takes the plate on site, and Enter at once",
+            lambda: clerk.keys(F1 + ENTER),
+            ON_SITE,
+        ),
+        (
+            "Enter ten times in a second behind an answer",
+            lambda: clerk.browser.hammer(F1 + TEN, 0.1),
+            ON_SITE,
+        ),
+        (
+            "Enter held for 1.3 s behind an answer",
+            lambda: (clerk.keys(F1), clerk.browser.hold("Enter", 1.3)),
+            ON_SITE,
+        ),
         ("the other key leaves the plate, and Enter at once", lambda: clerk.keys(F6 + ENTER), NEW),
     ):
         clerk.keys(ESCAPE + NEW)
@@ -91,7 +146,10 @@ def deaf_after_an_answer(bridge, clerk):
     for what, act in (
         ("closed search", lambda: clerk.keys(F4 + ESCAPE + ENTER)),
         ("plate that the list gave", lambda: (clerk.browser.run(take), clerk.keys(ENTER + ENTER))),
-        ("plate that the list gave, ten times in a second", lambda: (clerk.browser.run(take), clerk.browser.hammer(TEN, 0.1))),
+        (
+            "plate that the list gave, ten times in a second",
+            lambda: (clerk.browser.run(take), clerk.browser.hammer(TEN, 0.1)),
+        ),
     ):
         nothing_comes_of(bridge, clerk, f"Enter right behind a {what}", act, ON_SITE)
         clerk.sees("Ready.")
@@ -100,17 +158,29 @@ def deaf_after_an_answer(bridge, clerk):
 def a_double_click(bridge, clerk):
     for width in (1280, 360):
         clerk.browser.look(width, 800)
-        becomes(f"{width} px wide", lambda width=width: clerk.browser.run("return innerWidth") == width)
+        becomes(
+            f"{width} px wide", lambda width=width: clerk.browser.run("return innerWidth") == width
+        )
         time.sleep(0.3)
         for answer, plate in ((1, ON_SITE), (2, NEW)):
             clerk.keys(ESCAPE + NEW)
             clerk.sees(f"{ON_SITE} is on site.")
-            clerk.browser.run(f"document.querySelector('#hint .answer:nth-of-type({answer})').scrollIntoView({{ block: 'center' }})")
+            clerk.browser.run(
+                f"document.querySelector('#hint .answer:nth-of-type({answer})').scrollIntoView({{ block: 'center' }})"
+            )
             at = clerk.browser.middle_of(f"#hint .answer:nth-of-type({answer})")
             nothing_comes_of(
-                bridge, clerk, f"{width} px: a double click on answer {answer}", lambda at=at: clerk.browser.click_at(*at, count=2), plate
+                bridge,
+                clerk,
+                f"{width} px: a double click on answer {answer}",
+                lambda at=at: clerk.browser.click_at(*at, count=2),
+                plate,
             )
-            same(f"{width} px: and no dialog is open", 0, clerk.browser.run("return document.querySelectorAll('dialog[open]').length"))
+            same(
+                f"{width} px: and no dialog is open",
+                0,
+                clerk.browser.run("return document.querySelectorAll('dialog[open]').length"),
+            )
         clerk.keys(ESCAPE + NEW)
         clerk.sees(f"{ON_SITE} is on site.")
         clerk.browser.run("document.getElementById('go').scrollIntoView({ block: 'center' })")
@@ -120,8 +190,18 @@ def a_double_click(bridge, clerk):
             clerk.browser.run("document.querySelector('#hint .answer').click()")
             clerk.browser.click_at(*at)
 
-        nothing_comes_of(bridge, clerk, f"{width} px: an answer, and the weigh button at once", takes_and_weighs, ON_SITE)
-        same(f"{width} px: and no dialog is open", 0, clerk.browser.run("return document.querySelectorAll('dialog[open]').length"))
+        nothing_comes_of(
+            bridge,
+            clerk,
+            f"{width} px: an answer, and the weigh button at once",
+            takes_and_weighs,
+            ON_SITE,
+        )
+        same(
+            f"{width} px: and no dialog is open",
+            0,
+            clerk.browser.run("return document.querySelectorAll('dialog[open]').length"),
+        )
     clerk.browser.look(1280, 800)
     clerk.sees("Ready.")
 
@@ -133,14 +213,21 @@ def what_was_taken_is_weighed_once(bridge, clerk):
     clerk.browser.hold("Enter", 1.3)
     clerk.sees("Ticket 3")
     clerk.browser.hammer(TEN, 0.1)
-    same("then Enter weighs what was taken, once, held and hammered", [("second", ON_SITE)], rows(bridge)[len(before) :])
+    same(
+        "then Enter weighs what was taken, once, held and hammered",
+        [("second", ON_SITE)],
+        rows(bridge)[len(before) :],
+    )
 
 
 def opens_by_search(clerk, plate):
     """Open the text of the newest entry of a plate."""
     press = "document.querySelector('#searching[open] #hits button')?.click(); return document.querySelector('#entry[open] .danger') !== null"
     clerk.keys(F4 + plate)
-    becomes("the search finds it", lambda: plate in clerk.browser.run("return document.getElementById('hits').textContent"))
+    becomes(
+        "the search finds it",
+        lambda: plate in clerk.browser.run("return document.getElementById('hits').textContent"),
+    )
     becomes("its slip is there", lambda: clerk.browser.run(press))
 
 
@@ -149,10 +236,18 @@ def what_is_held_acts_once(bridge, clerk):
         window.fetch = (target, how) => { window.asked.push(new URL(target, location.origin).pathname); return real(target, how); }"""
     clerk.browser.run(count)
     clerk.browser.hold("F9", 1.3)
-    same("F9 held for 1.3 s sets zero once", 1, clerk.browser.run("return window.asked.filter(it => it === '/zero').length"))
+    same(
+        "F9 held for 1.3 s sets zero once",
+        1,
+        clerk.browser.run("return window.asked.filter(it => it === '/zero').length"),
+    )
     clerk.browser.hold("F8", 1.3)
     time.sleep(0.5)
-    same("F8 held for 1.3 s prints once", 1, clerk.browser.run("return window.asked.filter(it => it.startsWith('/papers/')).length"))
+    same(
+        "F8 held for 1.3 s prints once",
+        1,
+        clerk.browser.run("return window.asked.filter(it => it.startsWith('/papers/')).length"),
+    )
     bridge.next_vehicle(9170)
     bridge.weigh("held-1", "first", "HELD-1")
     opens_by_search(clerk, "HELD-1")
@@ -161,15 +256,25 @@ def what_is_held_acts_once(bridge, clerk):
             break
         clerk.keys(TAB)
     clerk.browser.hold("Enter", 1.3)
-    same("Enter held on Withdraw asks once more, and withdraws nothing", "Press again: withdraw HELD-1", clerk.focus())
+    same(
+        "Enter held on Withdraw asks once more, and withdraws nothing",
+        "Press again: withdraw HELD-1",
+        clerk.focus(),
+    )
     clerk.keys(ESCAPE)
     opens_by_search(clerk, "HELD-1")
     clerk.browser.click_at(*clerk.browser.middle_of("#entry .danger"), count=2)
-    same("a double click on Withdraw asks once more", "Press again: withdraw HELD-1", clerk.browser.text("#entry .danger"))
+    same(
+        "a double click on Withdraw asks once more",
+        "Press again: withdraw HELD-1",
+        clerk.browser.text("#entry .danger"),
+    )
     clerk.keys(ESCAPE)
     same("nothing was withdrawn", False, ("void", "HELD-1") in rows(bridge))
     clerk.keys(ESCAPE + "AB")
-    same("letters go into the plate once a text that the search found is closed", "AB", clerk.plate())
+    same(
+        "letters go into the plate once a text that the search found is closed", "AB", clerk.plate()
+    )
     clerk.browser.run("window.fetch = window.realFetch")
 
 
@@ -178,15 +283,37 @@ def a_small_net(bridge, clerk):
         bridge.next_vehicle(load)
         clerk.keys(ESCAPE + "HELD-1")
         clerk.sees(f"The net would be only {net} kg.")
-        same(f"a net of {net} kg: its answer has a key of its own", ["It is the right one F7"], clerk.answers())
-        for what, act in (("hammered", lambda: clerk.browser.hammer(TEN, 0.1)), ("held", lambda: clerk.browser.hold("Enter", 1.3))):
+        same(
+            f"a net of {net} kg: its answer has a key of its own",
+            ["It is the right one F7"],
+            clerk.answers(),
+        )
+        for what, act in (
+            ("hammered", lambda: clerk.browser.hammer(TEN, 0.1)),
+            ("held", lambda: clerk.browser.hold("Enter", 1.3)),
+        ):
             nothing_comes_of(bridge, clerk, f"a net of {net} kg: Enter {what}", act, "HELD-1")
-        nothing_comes_of(bridge, clerk, f"a net of {net} kg: the keys of another question", lambda: clerk.keys(F1 + F6 + F10), "HELD-1")
+        nothing_comes_of(
+            bridge,
+            clerk,
+            f"a net of {net} kg: the keys of another question",
+            lambda: clerk.keys(F1 + F6 + F10),
+            "HELD-1",
+        )
     before = rows(bridge)
-    nothing_comes_of(bridge, clerk, "a net of 0 kg: its key, and Enter at once", lambda: clerk.keys(F7 + ENTER), "HELD-1")
+    nothing_comes_of(
+        bridge,
+        clerk,
+        "a net of 0 kg: its key, and Enter at once",
+        lambda: clerk.keys(F7 + ENTER),
+        "HELD-1",
+    )
     clerk.sees("Ready.", what="a net of 0 kg: its key answers")
     clerk.keys(ENTER)
-    becomes("a net of 0 kg: and then Enter weighs", lambda: rows(bridge)[len(before) :] == [("second", "HELD-1")])
+    becomes(
+        "a net of 0 kg: and then Enter weighs",
+        lambda: rows(bridge)[len(before) :] == [("second", "HELD-1")],
+    )
 
 
 def off_zero(bridge, clerk):
@@ -194,8 +321,16 @@ def off_zero(bridge, clerk):
     put(80)
     clerk.sees("The bridge is empty", 8, "160 kg on the empty bridge: at first it is called empty")
     began = time.monotonic()
-    clerk.sees("The empty bridge shows 160 kg. Set zero.", 9, "160 kg on the empty bridge: the sentence asks for zero")
-    holds("160 kg on the empty bridge: after some five seconds", 2 < time.monotonic() - began < 8, f"{time.monotonic() - began:.1f} s")
+    clerk.sees(
+        "The empty bridge shows 160 kg. Set zero.",
+        9,
+        "160 kg on the empty bridge: the sentence asks for zero",
+    )
+    holds(
+        "160 kg on the empty bridge: after some five seconds",
+        2 < time.monotonic() - began < 8,
+        f"{time.monotonic() - began:.1f} s",
+    )
     same("and offers its key", "Set zero F9", clerk.browser.text("#choices button"))
     clerk.keys(F9)
     clerk.sees("The bridge is empty", 8, "F9 sets it, and the bridge is empty")
@@ -206,13 +341,29 @@ def off_zero(bridge, clerk):
     clerk.keys(F9)
     becomes("zero is set", lambda: clerk.kg() == 0)
     put(510)
-    clerk.sees("The empty bridge shows -160 kg. Set zero.", 12, "160 kg below zero: the sentence asks for zero")
+    clerk.sees(
+        "The empty bridge shows -160 kg. Set zero.",
+        12,
+        "160 kg below zero: the sentence asks for zero",
+    )
     put(690)
-    clerk.sees("The empty bridge shows 200 kg. Set zero.", 12, "200 kg, beyond 2 % of Max from the calibration's zero: it asks for zero")
+    clerk.sees(
+        "The empty bridge shows 200 kg. Set zero.",
+        12,
+        "200 kg, beyond 2 % of Max from the calibration's zero: it asks for zero",
+    )
     clerk.keys(F9)
-    clerk.sees("The empty bridge shows 200 kg. Call the operator.", 8, "and sends for the operator once the service refuses it")
+    clerk.sees(
+        "The empty bridge shows 200 kg. Call the operator.",
+        8,
+        "and sends for the operator once the service refuses it",
+    )
     put(610)
-    clerk.sees("The empty bridge shows 40 kg. Set zero.", 12, "less than was refused: it asks for zero again")
+    clerk.sees(
+        "The empty bridge shows 40 kg. Set zero.",
+        12,
+        "less than was refused: it asks for zero again",
+    )
     put(0)
     becomes("far below zero", lambda: "below zero" in clerk.words())
     time.sleep(1.5)
@@ -229,11 +380,32 @@ def a_single_off_zero(bridge, clerk):
     clerk.sees("Ready.", what="80 kg before the vehicle: a Single asks nothing")
     bridge.put(80)
     bridge.put(9170)
-    clerk.sees("The bridge showed 160 kg before this vehicle.", what="160 kg before the vehicle: a Single asks first")
+    clerk.sees(
+        "The bridge showed 160 kg before this vehicle.",
+        what="160 kg before the vehicle: a Single asks first",
+    )
     same("its answer has a key of its own", ["Weigh it all the same F10"], clerk.answers())
-    nothing_comes_of(bridge, clerk, "a Single off zero: Enter hammered", lambda: clerk.browser.hammer(TEN, 0.1), "SINGLE-1")
-    nothing_comes_of(bridge, clerk, "a Single off zero: Enter held", lambda: clerk.browser.hold("Enter", 1.3), "SINGLE-1")
-    nothing_comes_of(bridge, clerk, "a Single off zero: the keys of other questions", lambda: clerk.keys(F1 + F6 + F7), "SINGLE-1")
+    nothing_comes_of(
+        bridge,
+        clerk,
+        "a Single off zero: Enter hammered",
+        lambda: clerk.browser.hammer(TEN, 0.1),
+        "SINGLE-1",
+    )
+    nothing_comes_of(
+        bridge,
+        clerk,
+        "a Single off zero: Enter held",
+        lambda: clerk.browser.hold("Enter", 1.3),
+        "SINGLE-1",
+    )
+    nothing_comes_of(
+        bridge,
+        clerk,
+        "a Single off zero: the keys of other questions",
+        lambda: clerk.keys(F1 + F6 + F7),
+        "SINGLE-1",
+    )
     clerk.keys(ESCAPE + "FIRST-1")
     clerk.sees("Ready.", what="a First asks nothing: its second weighing shows the same")
     clerk.keys(ESCAPE + "SINGLE-1" + F10)
@@ -243,17 +415,24 @@ def a_single_off_zero(bridge, clerk):
     clerk.sees("Ready.", what="a Single after zero: it asks nothing")
     bridge.put(80)
     bridge.put(9170)
-    clerk.sees("The bridge showed 160 kg before this vehicle.", what="an answer is for one vehicle: the page asks again at the next one")
+    clerk.sees(
+        "The bridge showed 160 kg before this vehicle.",
+        what="an answer is for one vehicle: the page asks again at the next one",
+    )
     bridge.kill_counter()
     bridge.start_counter()
     clerk.sees(
-        "It isn't known what the bridge showed before this vehicle.", what="a counter that was started under a vehicle knows nothing of before"
+        "It isn't known what the bridge showed before this vehicle.",
+        what="a counter that was started under a vehicle knows nothing of before",
     )
     before = rows(bridge)
     clerk.keys(F10)
     clerk.sees("Ready.")
     clerk.keys(ENTER)
-    becomes("a Single off zero: and then Enter weighs", lambda: rows(bridge)[len(before) :] == [("single", "SINGLE-1")])
+    becomes(
+        "a Single off zero: and then Enter weighs",
+        lambda: rows(bridge)[len(before) :] == [("single", "SINGLE-1")],
+    )
 
 
 def letters_before_the_answer(bridge, clerk):
@@ -265,9 +444,14 @@ def letters_before_the_answer(bridge, clerk):
         clerk.keys(ESCAPE + own)
         clerk.sees("Ready.")
         clerk.browser.hammer(ENTER + typed, pause)
-        becomes(f"a key each {pause} s before the answer: this vehicle is weighed", lambda: rows(bridge)[len(before) :] == [("first", own)])
+        becomes(
+            f"a key each {pause} s before the answer: this vehicle is weighed",
+            lambda: rows(bridge)[len(before) :] == [("first", own)],
+        )
         time.sleep(0.5)
-        same(f"a key each {pause} s before the answer: the next plate is whole", typed, clerk.plate())
+        same(
+            f"a key each {pause} s before the answer: the next plate is whole", typed, clerk.plate()
+        )
     bridge.next_vehicle(6000)
     clerk.keys(ESCAPE + "HELD-1")
     clerk.sees("Ready.")
@@ -277,7 +461,10 @@ def letters_before_the_answer(bridge, clerk):
     clerk.keys("HB-KW-77")
     same("while there is no answer, the next plate can be typed", "HB-KW-77", clerk.plate())
     bridge.service.send_signal(signal.SIGCONT)
-    becomes("once the service continues, the held weighing is stored", lambda: rows(bridge)[len(before) :] == [("first", "HELD-1")])
+    becomes(
+        "once the service continues, the held weighing is stored",
+        lambda: rows(bridge)[len(before) :] == [("first", "HELD-1")],
+    )
     time.sleep(0.5)
     same("and the next plate is still whole", "HB-KW-77", clerk.plate())
 
@@ -288,7 +475,10 @@ def withdraws_only_what_it_shows(bridge, clerk):
     click = "[...document.querySelectorAll('#today button')].find(it => it.textContent.includes('WD-1'))?.click()"
     buttons = "return [...document.querySelectorAll('#entry-tools .danger')].map(it => [it.textContent, it.disabled])"
     clerk.keys(ESCAPE)
-    becomes("the dialog of a first weighing offers to withdraw it", lambda: (clerk.browser.run(click), clerk.browser.run(buttons))[1])
+    becomes(
+        "the dialog of a first weighing offers to withdraw it",
+        lambda: (clerk.browser.run(click), clerk.browser.run(buttons))[1],
+    )
     bridge.next_vehicle(4000)
     bridge.weigh("old-2", "second", "WD-1")
     bridge.next_vehicle(9100)
@@ -297,7 +487,9 @@ def withdraws_only_what_it_shows(bridge, clerk):
     press = "document.querySelector('#entry-tools .danger').click()"
     becomes(
         "once the plate was weighed out and in again, it refuses",
-        lambda: (clerk.browser.run(press), time.sleep(0.8), clerk.browser.run(buttons))[2][0][0].endswith("is not open any more"),
+        lambda: (clerk.browser.run(press), time.sleep(0.8), clerk.browser.run(buttons))[2][0][
+            0
+        ].endswith("is not open any more"),
     )
     clerk.browser.run(press)
     time.sleep(0.5)
@@ -313,7 +505,11 @@ def show(program):
         bridge.put(0)
         weighed_before(bridge)
         clerk = Clerk(at_of(bridge.http))
-        becomes("the page has the list", lambda: ON_SITE in clerk.browser.run("return document.getElementById('site').textContent"))
+        becomes(
+            "the page has the list",
+            lambda: ON_SITE
+            in clerk.browser.run("return document.getElementById('site').textContent"),
+        )
         a_question_at_each_plate_that_may_be_another(bridge, clerk)
         enter_answers_no_question(bridge, clerk)
         deaf_after_an_answer(bridge, clerk)

@@ -16,21 +16,57 @@ def one_text(bridge):
     bridge.next_vehicle(9170)
     status, text = bridge.weigh("text-1", "first", "HERE")
     same("a First passes", 201, status)
-    same("sent again it is the office's text, byte for byte", (201, text), bridge.weigh("text-1", "first", "HERE", port=bridge.office))
+    same(
+        "sent again it is the office's text, byte for byte",
+        (201, text),
+        bridge.weigh("text-1", "first", "HERE", port=bridge.office),
+    )
     same("and once more through the counter", (201, text), bridge.weigh("text-1", "first", "HERE"))
     same("and it is stored once", 1, sum(it[1] == "text-1" for it in bridge.entries()))
     body = "kind=first&more=%41+b&plate=%48ERE&key=text-1"
-    same("a form passes as it was written", (201, text), bridge.ask("POST", "/weighings", body=body)[:2])
+    same(
+        "a form passes as it was written",
+        (201, text),
+        bridge.ask("POST", "/weighings", body=body)[:2],
+    )
     for target, form in (
         ("/weighings", {"key": "x", "kind": "fourth", "plate": "A"}),
         ("/weighings", {"key": "x", "kind": "first", "plate": "a b"}),
         ("/voids", {"key": "x", "plate": "NONE"}),
     ):
-        same(f"a refusal passes: {form}", bridge.ask("POST", target, form, port=bridge.office)[:2], bridge.ask("POST", target, form)[:2])
-    for target in ("/indication", "/tickets/1", "/tickets/x", "/tickets/4294967296", "/tickets/%C3%A9"):
-        same(f"{target} passes", bridge.ask("GET", target, port=bridge.office)[:2], bridge.ask("GET", target)[:2])
+        same(
+            f"a refusal passes: {form}",
+            bridge.ask("POST", target, form, port=bridge.office)[:2],
+            bridge.ask("POST", target, form)[:2],
+        )
+    for target in (
+        "/indication",
+        "/tickets/1",
+        "/tickets/x",
+        "/tickets/4294967296",
+        "/tickets/%C3%A9",
+    ):
+        same(
+            f"{target} passes",
+            bridge.ask("GET", target, port=bridge.office)[:2],
+            bridge.ask("GET", target)[:2],
+        )
     row = next(it for it in bridge.entries() if it[1] == "text-1")
-    alike = ("text-2", "text", "TEXT-1", row[0], row[2], row[3], row[5], row[7], row[8], row[9], row[10][:32], "0" * 32, "key")
+    alike = (
+        "text-2",
+        "text",
+        "TEXT-1",
+        row[0],
+        row[2],
+        row[3],
+        row[5],
+        row[7],
+        row[8],
+        row[9],
+        row[10][:32],
+        "0" * 32,
+        "key",
+    )
     same(
         "a key is found of an entry that has it, and by no other text of the export",
         {"text-1": True} | {it: False for it in alike},
@@ -43,8 +79,18 @@ def clients_through_it(bridge):
     for name, plate in (("weigh.py", "PY-1"), ("weigh.sh", "SH-1")):
         bridge.next_vehicle(9170)
         words = [os.path.join(TOP, "clients", name), "first", plate, f"client-{plate}"]
-        it = subprocess.run(words, env={**os.environ, "WEIGHBRIDGE": f"http://127.0.0.1:{bridge.http}"}, capture_output=True, text=True, timeout=60)
-        same(f"{name} through the counter", (0, bridge.weigh(f"client-{plate}", "first", plate, port=bridge.office)[1]), (it.returncode, it.stdout))
+        it = subprocess.run(
+            words,
+            env={**os.environ, "WEIGHBRIDGE": f"http://127.0.0.1:{bridge.http}"},
+            capture_output=True,
+            text=True,
+            timeout=60,
+        )
+        same(
+            f"{name} through the counter",
+            (0, bridge.weigh(f"client-{plate}", "first", plate, port=bridge.office)[1]),
+            (it.returncode, it.stdout),
+        )
 
 
 def on_lists(bridge, plate):
@@ -59,25 +105,47 @@ def what_did_not_pass(bridge):
     bridge.weigh("past-2", "first", "NEXT")
     same("an entry between is missed", False, bridge.health()["state"]["lists_whole"])
     bridge.put(0)
-    becomes("once the bridge was empty for some seconds it is on the lists", lambda: on_lists(bridge, "PAST"))
+    becomes(
+        "once the bridge was empty for some seconds it is on the lists",
+        lambda: on_lists(bridge, "PAST"),
+    )
     number = on_lists(bridge, "PAST")[0]["number"]
-    same("its slip again is made of the export, letter for letter", {"text": slip, "from": "export"}, bridge.json("GET", f"/entries/{number}"))
+    same(
+        "its slip again is made of the export, letter for letter",
+        {"text": slip, "from": "export"},
+        bridge.json("GET", f"/entries/{number}"),
+    )
     again = bridge.json("GET", f"/entries/{number + 1}")
-    same("that of the next is the one that passed", ("passed", bridge.weigh("past-2", "first", "NEXT")[1]), (again["from"], again["text"]))
+    same(
+        "that of the next is the one that passed",
+        ("passed", bridge.weigh("past-2", "first", "NEXT")[1]),
+        (again["from"], again["text"]),
+    )
     bridge.next_vehicle(4070)
     bridge.weigh("past-3", "second", "PAST", port=bridge.office)
     same("its Second, made at the office, isn't known yet", 1, len(on_lists(bridge, "PAST")))
-    same("weighed out again it is refused by the office", (409, "refused 13 no_open\n"), weighed_out_again(bridge))
+    same(
+        "weighed out again it is refused by the office",
+        (409, "refused 13 no_open\n"),
+        weighed_out_again(bridge),
+    )
     bridge.put(0)
     becomes("and the lists are read anew", lambda: len(on_lists(bridge, "PAST")) == 2)
     ticket = on_lists(bridge, "PAST")[0]
     same(
         "a ticket again is the office's",
-        {"text": bridge.ask("GET", f"/tickets/{ticket['number']}", port=bridge.office)[1], "from": "office"},
+        {
+            "text": bridge.ask("GET", f"/tickets/{ticket['number']}", port=bridge.office)[1],
+            "from": "office",
+        },
         bridge.json("GET", f"/entries/{ticket['number']}"),
     )
     same("its net", 10200, ticket["net"])
-    same("there is none of a number that nobody has", 404, bridge.ask("GET", "/entries/4000000000")[0])
+    same(
+        "there is none of a number that nobody has",
+        404,
+        bridge.ask("GET", "/entries/4000000000")[0],
+    )
 
 
 def weighed_out_again(bridge):
@@ -99,7 +167,11 @@ def a_changed_row(bridge):
     bridge.start_counter()
     becomes("the lists are there after a start", lambda: on_lists(bridge, "CHANGED"))
     number = on_lists(bridge, "CHANGED")[0]["number"]
-    same("a changed row gives no slip", (409, '{"why": "refused 17 damaged"}'), bridge.ask("GET", f"/entries/{number}")[:2])
+    same(
+        "a changed row gives no slip",
+        (409, '{"why": "refused 17 damaged"}'),
+        bridge.ask("GET", f"/entries/{number}")[:2],
+    )
 
 
 def who_may_ask(bridge):
@@ -115,16 +187,27 @@ def who_may_ask(bridge):
         ({"Host": ""}, 421),
     ):
         same(f"asked with {fields}", status, bridge.ask("GET", "/time", **fields)[0])
-    same("a weighing from elsewhere", 403, bridge.ask("POST", "/weighings", {"key": "x"}, Sec_Fetch_Site="cross-site")[0])
+    same(
+        "a weighing from elsewhere",
+        403,
+        bridge.ask("POST", "/weighings", {"key": "x"}, Sec_Fetch_Site="cross-site")[0],
+    )
     same(
         "what is no route, a wrong method, too long a body",
         [404, 405, 413],
-        [bridge.ask("GET", "/none")[0], bridge.ask("GET", "/zero")[0], bridge.ask("POST", "/weighings", body="x" * 3000)[0]],
+        [
+            bridge.ask("GET", "/none")[0],
+            bridge.ask("GET", "/zero")[0],
+            bridge.ask("POST", "/weighings", body="x" * 3000)[0],
+        ],
     )
     same(
         "no file of the folder above",
         [404, 404],
-        [bridge.ask("GET", "/web/../openapi.json")[0], bridge.ask("GET", "/web/lang/../../openapi.json")[0]],
+        [
+            bridge.ask("GET", "/web/../openapi.json")[0],
+            bridge.ask("GET", "/web/lang/../../openapi.json")[0],
+        ],
     )
     policy = bridge.ask("GET", "/")[2]["content-security-policy"]
     holds(
@@ -135,7 +218,11 @@ def who_may_ask(bridge):
 
 
 def kept_tares(bridge):
-    same("a tare is kept", (200, "{}"), bridge.ask("PUT", "/tares/AB-12", body='{"kg": 5000}', X_Remote_User="anna")[:2])
+    same(
+        "a tare is kept",
+        (200, "{}"),
+        bridge.ask("PUT", "/tares/AB-12", body='{"kg": 5000}', X_Remote_User="anna")[:2],
+    )
     for target, body in (
         ("/tares/ab", '{"kg": 5000}'),
         ("/tares/AB-12", '{"kg": 0}'),
@@ -143,11 +230,19 @@ def kept_tares(bridge):
         ("/tares/AB-12", "5"),
         ("/tares/AB-12", ""),
     ):
-        same(f"what is none is refused: {target} {body}", 422, bridge.ask("PUT", target, body=body)[0])
+        same(
+            f"what is none is refused: {target} {body}",
+            422,
+            bridge.ask("PUT", target, body=body)[0],
+        )
     bridge.kill_counter()
     bridge.start_counter()
     kept = next(it for name, it in bridge.events(1.0) if name == "lists")["tares"]
-    same("it is there after a start, with who kept it", (5000, "anna", False), (kept["AB-12"]["kg"], kept["AB-12"]["by"], kept["AB-12"]["is_over"]))
+    same(
+        "it is there after a start, with who kept it",
+        (5000, "anna", False),
+        (kept["AB-12"]["kg"], kept["AB-12"]["by"], kept["AB-12"]["is_over"]),
+    )
     same("and gone once it is dropped", (200, "{}"), bridge.ask("DELETE", "/tares/AB-12")[:2])
 
 
@@ -158,7 +253,9 @@ def resolved(schema, document):
     if not isinstance(schema, dict):
         return schema
     if "$ref" in schema:
-        return resolved(document["components"]["schemas"][schema["$ref"].rsplit("/", 1)[1]], document)
+        return resolved(
+            document["components"]["schemas"][schema["$ref"].rsplit("/", 1)[1]], document
+        )
     made = {name: resolved(it, document) for name, it in schema.items() if name != "nullable"}
     return {"anyOf": [made, {"type": "null"}]} if schema.get("nullable") else made
 
@@ -174,9 +271,18 @@ def the_description(bridge):
         document = json.load(file)
     if os.path.exists(OPENAPI_SCHEMA):
         with open(OPENAPI_SCHEMA) as file:
-            same("openapi.json is valid", [], [it.message for it in jsonschema.Draft4Validator(json.load(file)).iter_errors(document)][:3])
+            same(
+                "openapi.json is valid",
+                [],
+                [
+                    it.message
+                    for it in jsonschema.Draft4Validator(json.load(file)).iter_errors(document)
+                ][:3],
+            )
     else:
-        print(f"whether openapi.json is valid: left out, since {OPENAPI_SCHEMA} is not there (openapi-specification)")
+        print(
+            f"whether openapi.json is valid: left out, since {OPENAPI_SCHEMA} is not there (openapi-specification)"
+        )
     wrong = []
 
     def answered(target, method, port, path=None, **how):
@@ -191,12 +297,22 @@ def the_description(bridge):
             wrong.append((target, status, kind))
         elif schema is not None:
             what = json.loads(text) if kind == "application/json" else text
-            wrong.extend((target, status, it.message[:200]) for it in jsonschema.Draft202012Validator(resolved(schema, document)).iter_errors(what))
+            wrong.extend(
+                (target, status, it.message[:200])
+                for it in jsonschema.Draft202012Validator(resolved(schema, document)).iter_errors(
+                    what
+                )
+            )
 
     bridge.next_vehicle(9170)
     form = {"key": "describe-1", "kind": "first", "plate": "ROUTES"}
     for port in (bridge.office, bridge.http):
-        for given in (form, form | {"key": "describe-2"}, form | {"plate": "no plate"}, form | {"kind": "second"}):
+        for given in (
+            form,
+            form | {"key": "describe-2"},
+            form | {"plate": "no plate"},
+            form | {"kind": "second"},
+        ):
             answered("/weighings", "POST", port, form=given)
         answered("/voids", "POST", port, form={"key": "describe-3", "plate": "ROUTES"})
         answered("/voids", "POST", port, form={"key": "describe-4", "plate": "NOBODY"})
@@ -214,7 +330,9 @@ def the_description(bridge):
     answered("/papers", "GET", bridge.http)
     for number in ("1", "999999"):
         answered("/papers/{number}", "POST", bridge.http, f"/papers/{number}", body="")
-        answered("/papers/{number}/browser", "POST", bridge.http, f"/papers/{number}/browser", body="")
+        answered(
+            "/papers/{number}/browser", "POST", bridge.http, f"/papers/{number}/browser", body=""
+        )
     answered("/jobs/{job}/again", "POST", bridge.http, "/jobs/999/again", body="")
     answered("/jobs/{job}", "DELETE", bridge.http, "/jobs/999")
     answered("/search", "GET", bridge.http, "/search?q=A")
@@ -229,12 +347,20 @@ def the_description(bridge):
     bridge.put(0)
     for name, what in bridge.events(1.0):
         schema = document["components"]["schemas"][name]
-        wrong.extend((name, it.message[:200]) for it in jsonschema.Draft202012Validator(resolved(schema, document)).iter_errors(what))
+        wrong.extend(
+            (name, it.message[:200])
+            for it in jsonschema.Draft202012Validator(resolved(schema, document)).iter_errors(what)
+        )
     same("each answer of both, and each event, is as openapi.json says", [], wrong[:5])
     same(
         "each route of the counter's program is there, and no other",
         routes_of_the_program(),
-        {it for it, what in document["paths"].items() if what.get("servers", [{}])[0].get("description") != "the office"} - {"/web/{name}"},
+        {
+            it
+            for it, what in document["paths"].items()
+            if what.get("servers", [{}])[0].get("description") != "the office"
+        }
+        - {"/web/{name}"},
     )
 
 
@@ -255,19 +381,48 @@ def the_languages():
             words[name] = json.load(file)
     first = words["en.json"]
     for name, them in words.items():
-        same(f"{name} has the words of en.json", (set(), set()), (set(first) - set(them), set(them) - set(first)))
-        values = [key for key in first if set(re.findall(r"\{\w+\}", first[key])) != set(re.findall(r"\{\w+\}", them.get(key, "")))]
-        same(f"{name} has their values, and no empty one", ([], []), (values, [key for key in them if not them[key].strip()]))
-    text = "".join(open(f"{folder}/{name}", encoding="utf-8").read() for name in sorted(os.listdir(folder)) if name.endswith((".js", ".html")))
-    asked = set(re.findall(r"\bt\('(\w+)'", text)) | set(re.findall(r'data-(?:word|label)="(\w+)"', text)) | set(re.findall(r"word: '(\w+)'", text))
+        same(
+            f"{name} has the words of en.json",
+            (set(), set()),
+            (set(first) - set(them), set(them) - set(first)),
+        )
+        values = [
+            key
+            for key in first
+            if set(re.findall(r"\{\w+\}", first[key]))
+            != set(re.findall(r"\{\w+\}", them.get(key, "")))
+        ]
+        same(
+            f"{name} has their values, and no empty one",
+            ([], []),
+            (values, [key for key in them if not them[key].strip()]),
+        )
+    text = "".join(
+        open(f"{folder}/{name}", encoding="utf-8").read()
+        for name in sorted(os.listdir(folder))
+        if name.endswith((".js", ".html"))
+    )
+    asked = (
+        set(re.findall(r"\bt\('(\w+)'", text))
+        | set(re.findall(r'data-(?:word|label)="(\w+)"', text))
+        | set(re.findall(r"word: '(\w+)'", text))
+    )
     same("the page asks for no other word", set(), asked - set(first))
     with open(os.path.join(TOP, "clients", "refusals.txt")) as file:
-        refusals = {int(it.split()[0]) for it in file if it[0].isdigit() and int(it.split()[0]) < 400}
-    same("there are words for each refusal", set(), {f"refused_{it}" for it in refusals} - set(first))
+        refusals = {
+            int(it.split()[0]) for it in file if it[0].isdigit() and int(it.split()[0]) < 400
+        }
+    same(
+        "there are words for each refusal", set(), {f"refused_{it}" for it in refusals} - set(first)
+    )
     with open(os.path.join(TOP, "counter", "weighbridge_counter", "acts.py")) as file:
         names = set(re.findall(r'not_sent\(\d+, f?"(\w+)', file.read()))
     same("and for each of the counter's own", set(), {f"counter_{it}" for it in names} - set(first))
-    same("nothing of the page is fetched from elsewhere", [], re.findall(r"https?://(?!www\.w3\.org)\S+", text + open(f"{folder}/style.css").read()))
+    same(
+        "nothing of the page is fetched from elsewhere",
+        [],
+        re.findall(r"https?://(?!www\.w3\.org)\S+", text + open(f"{folder}/style.css").read()),
+    )
 
 
 def show(program):

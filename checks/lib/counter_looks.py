@@ -52,10 +52,16 @@ def looks(bridge):
 
             def look(state):
                 time.sleep(0.35)
-                found.extend(f"{state}: {it}" for it in clerk.browser.run(WIDE) + clerk.browser.run(FAINT))
+                found.extend(
+                    f"{state}: {it}" for it in clerk.browser.run(WIDE) + clerk.browser.run(FAINT)
+                )
                 text = clerk.browser.run("return document.body.innerText")
                 found.extend(
-                    f"{state}: no word {it}" for it in re.findall(r"\b(?:link|refused|counter|kind|done|weigh)_\w+|undefined|NaN|\{\w+\}", text)
+                    f"{state}: no word {it}"
+                    for it in re.findall(
+                        r"\b(?:link|refused|counter|kind|done|weigh)_\w+|undefined|NaN|\{\w+\}",
+                        text,
+                    )
                 )
 
             time.sleep(max(0, since + 5.5 - time.monotonic()))
@@ -109,6 +115,10 @@ def looks(bridge):
             bridge.start_service()
             bridge.wait_until_up()
             look("a start")
-            same(f"{name}: in fifteen states nothing sideways, nothing below a contrast of 4.5, nothing without a word", [], found[:6])
+            same(
+                f"{name}: in fifteen states nothing sideways, nothing below a contrast of 4.5, nothing without a word",
+                [],
+                found[:6],
+            )
         finally:
             clerk.close()

@@ -20,7 +20,9 @@ class Nginx:
         os.makedirs(f"{self.folder}/etc/nginx/conf.d")
         with open(f"{TOP}/docs/counter.md", encoding="utf-8") as page:
             section = page.read().split("### Behind nginx")[1].split("\n### ")[0]
-        commands = "set -e\n" + "".join(it for it in re.findall(r"(?:^    .*\n)+", section, re.M) if "systemctl" not in it)
+        commands = "set -e\n" + "".join(
+            it for it in re.findall(r"(?:^    .*\n)+", section, re.M) if "systemctl" not in it
+        )
         for old, new in (
             ("/etc/nginx", f"{self.folder}/etc/nginx"),
             ("/usr/share/doc/weighbridge-counter/examples", f"{TOP}/packaging/counter"),
@@ -44,9 +46,14 @@ class Nginx:
             text = replaced("nginx.conf", text, old, new)
         with open(path, "w") as file:
             file.write(text)
-        paths = "".join(f"    {name}_temp_path {name};\n" for name in ("client_body", "proxy", "fastcgi", "uwsgi", "scgi"))
+        paths = "".join(
+            f"    {name}_temp_path {name};\n"
+            for name in ("client_body", "proxy", "fastcgi", "uwsgi", "scgi")
+        )
         with open(f"{self.folder}/nginx.conf", "w") as file:
-            file.write("user www-data;\ndaemon off;\nworker_processes 1;\npid nginx.pid;\nevents {}\nhttp {\n    access_log access.log;\n")
+            file.write(
+                "user www-data;\ndaemon off;\nworker_processes 1;\npid nginx.pid;\nevents {}\nhttp {\n    access_log access.log;\n"
+            )
             file.write(f"{paths}    include etc/nginx/conf.d/*.conf;\n}}\n")
         words = ["nginx", "-p", self.folder, "-e", "error.log", "-c", "nginx.conf"]
         tried = subprocess.run([*words, "-t"], capture_output=True, text=True)
@@ -62,7 +69,18 @@ class Nginx:
 
     def ask(self, target, *words):
         it = subprocess.run(
-            ["curl", "-sk", "-m", "5", "-o", "/dev/null", "-w", "%{http_code} %{http_version}", *words, f"https://{HOST}:{self.port}{target}"],
+            [
+                "curl",
+                "-sk",
+                "-m",
+                "5",
+                "-o",
+                "/dev/null",
+                "-w",
+                "%{http_code} %{http_version}",
+                *words,
+                f"https://{HOST}:{self.port}{target}",
+            ],
             capture_output=True,
             text=True,
         )

@@ -35,21 +35,36 @@ def a_pair_by_keyboard(bridge, clerk):
     clerk.keys(F8 + F8)
     text = bridge.weigh(bridge.entries()[0][1], "first", "HB-KW-77", port=bridge.office)[1]
     becomes("it prints twice", lambda: len(clerk.papers()) == 2)
-    same("on paper stands the text letter for letter, once as the original and then as a copy", [["", text], ["COPY", text]], clerk.papers())
-    becomes("then it says to let it drive off", lambda: "Slip 1" in clerk.words() or "drive off" in clerk.words())
+    same(
+        "on paper stands the text letter for letter, once as the original and then as a copy",
+        [["", text], ["COPY", text]],
+        clerk.papers(),
+    )
+    becomes(
+        "then it says to let it drive off",
+        lambda: "Slip 1" in clerk.words() or "drive off" in clerk.words(),
+    )
     bridge.next_vehicle(4070)
     clerk.sees("Type the plate.")
     clerk.keys("HBKW87")
     clerk.sees("HB-KW-77 is on site. Is it this one?")
     clerk.keys(ENTER + ENTER)
-    same("Enter does nothing, and weighs nothing in", ("plate", "HBKW87", 1), (clerk.focus(), clerk.plate(), len(bridge.entries())))
+    same(
+        "Enter does nothing, and weighs nothing in",
+        ("plate", "HBKW87", 1),
+        (clerk.focus(), clerk.plate(), len(bridge.entries())),
+    )
     clerk.keys(F1)
     same("its key takes the one on site", "HB-KW-77", clerk.plate())
     clerk.sees("Ready.")
     same("the net to come", "Net will be 10,200 kg", clerk.browser.text("#go-more"))
     clerk.keys(ENTER)
     clerk.sees("Ticket 2: net 10,200 kg")
-    same("the lists have it", ("", "2"), (clerk.browser.text("#site-count"), clerk.browser.text("#today-count")))
+    same(
+        "the lists have it",
+        ("", "2"),
+        (clerk.browser.text("#site-count"), clerk.browser.text("#today-count")),
+    )
     bridge.put(0)
     clerk.sees("The bridge is empty", what="and then: the bridge is empty")
 
@@ -74,7 +89,10 @@ def a_tare_by_keyboard(bridge, clerk):
     same("no tare is left", "TA A          0 kg", bridge.tare())
     bridge.next_vehicle(9170)
     clerk.keys("OL-T-1")
-    becomes("it was kept, and is used the next time", lambda: clerk.browser.text("#go-words") == "Weigh with tare 5,000 kg · OL-T-1")
+    becomes(
+        "it was kept, and is used the next time",
+        lambda: clerk.browser.text("#go-words") == "Weigh with tare 5,000 kg · OL-T-1",
+    )
     clerk.keys(ESCAPE)
     same("Escape clears the plate", "", clerk.plate())
     bridge.terminal_says("till", "TA 3000 kg")
@@ -100,9 +118,17 @@ def search_and_withdraw_by_keyboard(bridge, clerk):
     clerk.keys(ENTER)
     clerk.sees("Slip 4")
     clerk.keys(F4 + "wrong")
-    becomes("the search finds it", lambda: "WRONG-1" in clerk.browser.run("return document.getElementById('hits').textContent"))
+    becomes(
+        "the search finds it",
+        lambda: "WRONG-1"
+        in clerk.browser.run("return document.getElementById('hits').textContent"),
+    )
     clerk.keys(TAB + ENTER)
-    becomes("its slip is there", lambda: "FIRST NO 4" in clerk.browser.run("return document.getElementById('entry-text').textContent"))
+    becomes(
+        "its slip is there",
+        lambda: "FIRST NO 4"
+        in clerk.browser.run("return document.getElementById('entry-text').textContent"),
+    )
     for _ in range(6):
         if clerk.focus() == "Withdraw this weighing":
             break
@@ -123,7 +149,9 @@ def which_program_weighs(bridge, clerk):
     newest = bridge.entries()[-1]
     clerk.browser.click("#serial")
     becomes("the version is there", lambda: "weighbridge " in facts())
-    said = subprocess.run([bridge.program, "--version"], capture_output=True, text=True).stdout.splitlines()
+    said = subprocess.run(
+        [bridge.program, "--version"], capture_output=True, text=True
+    ).stdout.splitlines()
     same("all three lines of it", [], [line for line in said if line not in facts().splitlines()])
     setup = f"--terminal 127.0.0.1:{bridge.terminal}"
     same(
@@ -141,9 +169,13 @@ def another_language(bridge, clerk):
     same(
         "the languages are offered by their names",
         ["Deutsch", "English", "Español", "Français"],
-        clerk.browser.run("return [...document.getElementById('language').options].map(it => it.text)"),
+        clerk.browser.run(
+            "return [...document.getElementById('language').options].map(it => it.text)"
+        ),
     )
-    clerk.browser.run("const it = document.getElementById('language'); it.value = 'fr'; it.dispatchEvent(new Event('change'));")
+    clerk.browser.run(
+        "const it = document.getElementById('language'); it.value = 'fr'; it.dispatchEvent(new Event('change'));"
+    )
     clerk.sees("Le pont est vide.")
     clerk.browser.go(clerk.at)
     clerk.sees("Le pont est vide.", what="and it stays over a load")
@@ -158,11 +190,18 @@ def refusals(bridge, clerk):
     bridge.weigh("ref-past", "first", "REF-1", port=bridge.office)
     clerk.keys(ENTER)
     clerk.sees("The bridge was not empty since the last weighing.")
-    same("the office's name stands below", "Nothing was stored. (refused 11 not_cleared)", clerk.more())
+    same(
+        "the office's name stands below",
+        "Nothing was stored. (refused 11 not_cleared)",
+        clerk.more(),
+    )
     same("and the request is over", None, clerk.kept())
     clerk.keys(ESCAPE)
     bridge.put(0)
-    becomes("what didn't pass is on the page's list", lambda: "REF-1" in clerk.browser.run("return document.getElementById('site').textContent"))
+    becomes(
+        "what didn't pass is on the page's list",
+        lambda: "REF-1" in clerk.browser.run("return document.getElementById('site').textContent"),
+    )
 
 
 def no_request_twice(bridge, clerk):
@@ -173,7 +212,9 @@ def no_request_twice(bridge, clerk):
         if (step === 'lost') throw new TypeError('lost'); if (step === 'page') return new Response('<html>', { status: 502 });
         if (step === 'store') return new Response('refused 15 store\\n', { status: 503 });
         if (step === 'not_sent') return new Response('counter busy\\n', { status: 503, headers: { 'X-Counter': 'not_sent' } }); return real(target, how); };"""
-    for number, plan in enumerate((["cut"], ["lost", "lost"], ["page"], ["store"], ["lost", "not_sent"], ["cut", "not_sent"])):
+    for number, plan in enumerate(
+        (["cut"], ["lost", "lost"], ["page"], ["store"], ["lost", "not_sent"], ["cut", "not_sent"])
+    ):
         bridge.next_vehicle(9170)
         before = len(bridge.entries())
         clerk.browser.run(hook, plan)
@@ -193,7 +234,10 @@ def no_request_twice(bridge, clerk):
     clerk.keys("BUSY-1")
     clerk.sees("Ready.")
     clerk.keys(ENTER)
-    clerk.sees("Not sent: another weighing is under way.", what="what was never sent, and nothing before it, ends the request")
+    clerk.sees(
+        "Not sent: another weighing is under way.",
+        what="what was never sent, and nothing before it, ends the request",
+    )
     same("and it isn't kept", None, clerk.kept())
     clerk.keys(ESCAPE)
     clerk.browser.run("window.fetch = window.realFetch")
@@ -216,7 +260,9 @@ def kept_over_a_load(bridge, clerk):
         "localStorage.setItem('weighbridge.request', JSON.stringify({ target: '/weighings', form: { key: 'page-old', kind: 'first', plate: 'OLD-1' }, made: Date.now() - 60000 }))"
     )
     clerk.load()
-    clerk.sees("No answer came to: First weighing, OLD-1", what="one of long ago isn't sent by itself")
+    clerk.sees(
+        "No answer came to: First weighing, OLD-1", what="one of long ago isn't sent by itself"
+    )
     same("nothing was stored of it", False, bridge.has_key("page-old"))
     clerk.browser.click("#choices button:last-child")
     clerk.sees("It was not stored.", what="looked up, it wasn't stored")
@@ -251,10 +297,17 @@ def killed_within_a_press(bridge, clerk):
         becomes(f"{what}: the press comes to its end", lambda: clerk.kept() is None, 40)
         stored = sum(it[3] == plate for it in bridge.entries())
         said = clerk.words()
-        holds(f"{what}: what the clerk was told is what is stored", (stored == 1) == ("Slip" in said) or "drive" in said, f"{stored} stored, {said}")
+        holds(
+            f"{what}: what the clerk was told is what is stored",
+            (stored == 1) == ("Slip" in said) or "drive" in said,
+            f"{stored} stored, {said}",
+        )
         clerk.keys(ESCAPE)
         if what == "service":
-            becomes("service: the bar about zero is back", lambda: "Its zero may be lost" in clerk.alarms())
+            becomes(
+                "service: the bar about zero is back",
+                lambda: "Its zero may be lost" in clerk.alarms(),
+            )
             bridge.put(0)
             clerk.keys(F9)
             becomes("service: and gone once zero is set", lambda: clerk.alarms() == "")
@@ -283,7 +336,11 @@ def a_page_of_another_site(bridge, clerk, nginx):
         browser.go(f"http://localhost:{site.server_port}/")
         time.sleep(1)
         browser.call("POST", "/frame", {"id": 0})
-        same("a page of another site shows the counter in no frame", True, browser.run("return document.getElementById('plate') === null"))
+        same(
+            "a page of another site shows the counter in no frame",
+            True,
+            browser.run("return document.getElementById('plate') === null"),
+        )
         browser.call("POST", "/frame", {"id": None})
         ask = f"return fetch('{counter}/indication', {{ mode: 'no-cors', credentials: 'include' }}).then(() => 'taken', () => 'blocked')"
         same("takes no answer", "blocked", browser.run(ask))
@@ -301,11 +358,21 @@ def behind_nginx(bridge):
     nginx = Nginx(bridge.http)
     clerk = None
     try:
-        same("without a password, or with a wrong one", ["401 2", "401 2"], [nginx.ask("/"), nginx.ask("/", "-u", "clerk:guess")])
+        same(
+            "without a password, or with a wrong one",
+            ["401 2", "401 2"],
+            [nginx.ask("/"), nginx.ask("/", "-u", "clerk:guess")],
+        )
         known = ["-u", "clerk:weigh-in"]
         same("with it", "200 2", nginx.ask("/", *known))
         same("what monitoring asks is not handed on", "404 2", nginx.ask("/metrics", *known))
-        same("a page of another site is refused", "403 2", nginx.ask("/weighings", *known, "-d", "key=x", "-H", "Origin: https://elsewhere.example"))
+        same(
+            "a page of another site is refused",
+            "403 2",
+            nginx.ask(
+                "/weighings", *known, "-d", "key=x", "-H", "Origin: https://elsewhere.example"
+            ),
+        )
         clerk = Clerk(f"https://clerk:weigh-in@{HOST}:{nginx.port}")
         bridge.next_vehicle(9170)
         becomes("the weight is shown behind nginx", lambda: clerk.kg() == 18340)
@@ -322,7 +389,9 @@ def behind_nginx(bridge):
         a_page_of_another_site(bridge, clerk, nginx)
         clerk.load()
         bridge.put(9170)
-        windows = [clerk.browser.call("POST", "/window/new", {"type": "tab"})["handle"] for _ in range(8)]
+        windows = [
+            clerk.browser.call("POST", "/window/new", {"type": "tab"})["handle"] for _ in range(8)
+        ]
         for it in windows:
             clerk.browser.call("POST", "/window", {"handle": it})
             clerk.browser.go(f"https://clerk:weigh-in@{HOST}:{nginx.port}/?lang=en")
@@ -358,13 +427,28 @@ def bars_of_the_files_and_the_journal(program):
         bridge.start_service()
         bridge.wait_until_up()
         words = "The journal has no entry; it ended at number 1."
-        becomes("after a new file a bar says so on each page", lambda: words in clerk.alarms() and words in other.alarms(), 30)
-        same("with what to do, and no vehicle on site", (True, ""), ("call the operator" in clerk.alarms(), clerk.browser.text("#site-count")))
-        clerk.browser.run("[...document.querySelectorAll('#alarms button')].find(it => it.textContent === 'I have read this').click()")
-        becomes("a press closes it on each page", lambda: words not in clerk.alarms() + other.alarms())
+        becomes(
+            "after a new file a bar says so on each page",
+            lambda: words in clerk.alarms() and words in other.alarms(),
+            30,
+        )
+        same(
+            "with what to do, and no vehicle on site",
+            (True, ""),
+            ("call the operator" in clerk.alarms(), clerk.browser.text("#site-count")),
+        )
+        clerk.browser.run(
+            "[...document.querySelectorAll('#alarms button')].find(it => it.textContent === 'I have read this').click()"
+        )
+        becomes(
+            "a press closes it on each page", lambda: words not in clerk.alarms() + other.alarms()
+        )
         os.rename(f"{bridge.folder}/state", f"{bridge.folder}/away")
         bridge.ask("POST", "/zero")
-        becomes("a bar says that the counter can't write its files", lambda: "The counter can't write its files." in clerk.alarms())
+        becomes(
+            "a bar says that the counter can't write its files",
+            lambda: "The counter can't write its files." in clerk.alarms(),
+        )
         os.rename(f"{bridge.folder}/away", f"{bridge.folder}/state")
         becomes("until it can", lambda: "write its files" not in clerk.alarms())
     finally:

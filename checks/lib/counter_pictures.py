@@ -11,7 +11,13 @@ SETTINGS = 'address = ["Hafenstraße 12", "28217 Bremen"]\n'
 def write(program, folder):
     bridge = Bridge(program, 10, settings=SETTINGS).start_counter()
     clerk = Clerk(at_of(bridge.http), None, 1000, 640)
-    clerk.browser.tool("Emulation.setDeviceMetricsOverride", width=1000, height=640, deviceScaleFactor=0.7, mobile=False)
+    clerk.browser.tool(
+        "Emulation.setDeviceMetricsOverride",
+        width=1000,
+        height=640,
+        deviceScaleFactor=0.7,
+        mobile=False,
+    )
 
     def weigh(plate, load):
         bridge.next_vehicle(load)
@@ -32,7 +38,12 @@ def write(program, folder):
         clerk.sees("The bridge is empty")
         clerk.keys(F9)
         clerk.sees("Zero is set.")
-        for plate, load in (("BRA-LM-2210", 12040), ("VER-X-901", 17330), ("HB-KW-77", 9170), ("BRA-LM-2210", 5010)):
+        for plate, load in (
+            ("BRA-LM-2210", 12040),
+            ("VER-X-901", 17330),
+            ("HB-KW-77", 9170),
+            ("BRA-LM-2210", 5010),
+        ):
             weigh(plate, load)
         picture("done")
         bridge.next_vehicle(4070)

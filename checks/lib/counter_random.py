@@ -39,7 +39,9 @@ def till(played, name, tares, seed):
     while not played.is_over:
         try:
             client = client or Client(played.bridge.ports[name], 8)
-            line = rng.choice(["SI", "S", "TA", "TA", "TAC", "preset", "preset", "I4", "Z", "@", "WEIGH"])
+            line = rng.choice(
+                ["SI", "S", "TA", "TA", "TAC", "preset", "preset", "I4", "Z", "@", "WEIGH"]
+            )
             kg = next(tares) if line == "preset" else None
             line = f"TA {kg} kg" if kg else line
             played.refused.pop(kg, None)  # numbers come again after 1,400
@@ -107,7 +109,9 @@ def watch(played):
     while not played.is_over:
         try:
             with socket.create_connection(("127.0.0.1", played.bridge.http), 3) as stream:
-                stream.sendall(f"GET /events HTTP/1.1\r\nHost: 127.0.0.1:{played.bridge.http}\r\n\r\n".encode())
+                stream.sendall(
+                    f"GET /events HTTP/1.1\r\nHost: 127.0.0.1:{played.bridge.http}\r\n\r\n".encode()
+                )
                 rest = b""
                 while not played.is_over:
                     data = stream.recv(1 << 16)
@@ -126,7 +130,11 @@ def judge_value(played, it):
     if it["net"] is None or it["tare"] is None:
         return
     now, gross = time.monotonic(), it["net"] + it["tare"]
-    recent = {kg_of(load) for moment, load in list(played.bridge.converter.sent)[-400:] if moment > now - OLD}
+    recent = {
+        kg_of(load)
+        for moment, load in list(played.bridge.converter.sent)[-400:]
+        if moment > now - OLD
+    }
     if gross not in recent:
         played.fails(f"a page was told {it}, and the last second had {sorted(recent)[:6]}")
 
@@ -159,7 +167,16 @@ def disturb(played, seconds):
     bridge, rng, until = played.bridge, random.Random(5), time.monotonic() + seconds
     while time.monotonic() < until:
         time.sleep(rng.uniform(0.5, 4.0))
-        what = rng.choice(["kill_counter", "kill_service", "hold_service", "hold_service", "hold_counter", "silence"])
+        what = rng.choice(
+            [
+                "kill_counter",
+                "kill_service",
+                "hold_service",
+                "hold_service",
+                "hold_counter",
+                "silence",
+            ]
+        )
         played.counts[what] += 1
         if what == "kill_counter":
             bridge.kill_counter()
@@ -192,14 +209,22 @@ def hold_against_the_journal(played):
         if row[2] != kind or row[3] != plate or (row[6] or None) != (str(tare) if tare else None):
             wrong.append((row, played.asked[key]))
     same("each entry is what was asked for, each Single with its own tare", [], wrong[:3])
-    same("what was refused isn't stored", [], [key for key, status in played.told.items() if status != 201 and key in by_key])
+    same(
+        "what was refused isn't stored",
+        [],
+        [key for key, status in played.told.items() if status != 201 and key in by_key],
+    )
     texts = []
     for key, text in played.texts.items():
         status, again = bridge.weigh(key, *played.asked[key][:2], port=bridge.office)
         if again != text:
             texts.append((key, status))
     same("each text is the office's, byte for byte", [], texts[:3])
-    holds("the journal is sound", bridge.ask("GET", "/check", port=bridge.office)[1].startswith("SOUND"), f"{len(rows)} entries")
+    holds(
+        "the journal is sound",
+        bridge.ask("GET", "/check", port=bridge.office)[1].startswith("SOUND"),
+        f"{len(rows)} entries",
+    )
     open_firsts = {}
     for row in rows:
         if row[2] == "first":
@@ -209,13 +234,20 @@ def hold_against_the_journal(played):
 
     def are_right():
         figures = bridge.ask("GET", "/metrics")[1]
-        return f"_entries {len(rows)}\n" in figures and f"_on_site {len(open_firsts)}\n" in figures and bridge.health()["state"]["lists_whole"]
+        return (
+            f"_entries {len(rows)}\n" in figures
+            and f"_on_site {len(open_firsts)}\n" in figures
+            and bridge.health()["state"]["lists_whole"]
+        )
 
     becomes("the lists have every entry, and who is on site", are_right, 30)
 
 
 def show(program, pace, seconds):
-    print(f"---- clients and moments at random, at {pace} readings a second for {seconds} s", flush=True)
+    print(
+        f"---- clients and moments at random, at {pace} readings a second for {seconds} s",
+        flush=True,
+    )
     bridge = Bridge(program, pace).start_counter()
     played = Played(bridge, pace)
     presets = iter(range(40, 10**9, 40))
@@ -243,9 +275,20 @@ def show(program, pace, seconds):
         bridge.converter.load = 0
         bridge.wait_until_up()
         counts = dict(sorted(played.counts.items()))
-        same("each reply and each value is right, and nothing acted after it was refused", [], played.wrong[:5])
-        holds("enough was asked", played.counts["till"] > 2 * seconds and len(played.texts) > seconds / 12, f"{counts}, {len(played.texts)} stored")
-        holds("no tare of a weighing is left", bridge.json("GET", "/health")["state"]["tare"] % 40 == 0)
+        same(
+            "each reply and each value is right, and nothing acted after it was refused",
+            [],
+            played.wrong[:5],
+        )
+        holds(
+            "enough was asked",
+            played.counts["till"] > 2 * seconds and len(played.texts) > seconds / 12,
+            f"{counts}, {len(played.texts)} stored",
+        )
+        holds(
+            "no tare of a weighing is left",
+            bridge.json("GET", "/health")["state"]["tare"] % 40 == 0,
+        )
         hold_against_the_journal(played)
     finally:
         played.is_over = True

@@ -80,7 +80,15 @@ class Converter(threading.Thread):
 class Bridge:
     """A service and a counter over a converter. `patch` is called with the folder of a copy of the counter, whose program is run then."""
 
-    def __init__(self, program, pace=10, ports=("till", "other", "display"), settings="", options=(), patch=None):
+    def __init__(
+        self,
+        program,
+        pace=10,
+        ports=("till", "other", "display"),
+        settings="",
+        options=(),
+        patch=None,
+    ):
         self.program, self.pace, self.options = program, pace, options
         self.folder = tempfile.mkdtemp(prefix="counter-")
         self.converter = Converter(pace)
@@ -95,7 +103,9 @@ class Bridge:
             )
             file.write('zone = "Europe/Berlin"\ncompany = "Kieswerk Wellum"\n' + settings)
             for name, port in self.ports.items():
-                file.write(f'[[port]]\nname = "{name}"\nlisten = "{HOST}:{port}"\nmay = "{"read" if name == "display" else "change"}"\n')
+                file.write(
+                    f'[[port]]\nname = "{name}"\nlisten = "{HOST}:{port}"\nmay = "{"read" if name == "display" else "change"}"\n'
+                )
         self.start_service()
 
     # ---- the service
@@ -134,7 +144,9 @@ class Bridge:
                 return
             except OSError:
                 if process.poll() is not None:
-                    raise SystemExit(f"counter: {process.args[0]} ended: see {self.folder}") from None
+                    raise SystemExit(
+                        f"counter: {process.args[0]} ended: see {self.folder}"
+                    ) from None
                 time.sleep(0.01)
         raise SystemExit(f"counter: nobody listens on {port}")
 
@@ -146,7 +158,9 @@ class Bridge:
 
     def start_counter(self, is_waited_for=True):
         with open(f"{self.folder}/counter.log", "ab") as log:
-            self.counter = subprocess.Popen([self.executable, self.setup], stdin=subprocess.DEVNULL, stdout=log, stderr=log)
+            self.counter = subprocess.Popen(
+                [self.executable, self.setup], stdin=subprocess.DEVNULL, stdout=log, stderr=log
+            )
         self._wait_for(self.http, self.counter)
         if is_waited_for:
             self.wait_until_up()
@@ -186,11 +200,22 @@ class Bridge:
         """The status, the body and the fields of an answer; a status of 0 where there was none."""
         if body is None and form is not None:
             body = urllib.parse.urlencode(form)
-        length = f"Content-Length: {len(body.encode())}\r\n" if body is not None else "Content-Length: 0\r\n" if method == "POST" else ""
-        head = "".join(f"{name.replace('_', '-')}: {value}\r\n" for name, value in {"Host": f"{HOST}:{self.http}", **fields}.items())
+        length = (
+            f"Content-Length: {len(body.encode())}\r\n"
+            if body is not None
+            else "Content-Length: 0\r\n"
+            if method == "POST"
+            else ""
+        )
+        head = "".join(
+            f"{name.replace('_', '-')}: {value}\r\n"
+            for name, value in {"Host": f"{HOST}:{self.http}", **fields}.items()
+        )
         try:
             data = bridge.exchange_bytes(
-                port or self.http, f"{method} {target} HTTP/1.1\r\n{head}Connection: close\r\n{length}\r\n{body or ''}".encode(), within
+                port or self.http,
+                f"{method} {target} HTTP/1.1\r\n{head}Connection: close\r\n{length}\r\n{body or ''}".encode(),
+                within,
             )
         except OSError:
             return 0, "", {}
@@ -217,7 +242,10 @@ class Bridge:
                     found += stream.recv(65536)
                 except TimeoutError:
                     pass
-        return [(name, json.loads(text)) for name, text in re.findall(r"event: (\w+)\ndata: (.*)\n\n", found.decode())]
+        return [
+            (name, json.loads(text))
+            for name, text in re.findall(r"event: (\w+)\ndata: (.*)\n\n", found.decode())
+        ]
 
     def health(self):
         return self.json("GET", "/health")
@@ -316,11 +344,18 @@ class Meanwhile(threading.Thread):
 
 def without_reset(folder):
     """A copy of the counter that ends its connections by an ordinary close, in place of a reset: what comes of it has to be seen by the tests."""
-    shutil.copytree(os.path.join(TOP, "counter"), os.path.join(folder, "copy"), ignore=shutil.ignore_patterns("__pycache__", "tests"))
+    shutil.copytree(
+        os.path.join(TOP, "counter"),
+        os.path.join(folder, "copy"),
+        ignore=shutil.ignore_patterns("__pycache__", "tests"),
+    )
     path = os.path.join(folder, "copy", "weighbridge_counter", "terminal.py")
     with open(path) as file:
         text = file.read()
-    for old, new in (('struct.pack("ii", 1, 0)', 'struct.pack("ii", 0, 0)'), ("self.transport.abort()", "self.transport.close()")):
+    for old, new in (
+        ('struct.pack("ii", 1, 0)', 'struct.pack("ii", 0, 0)'),
+        ("self.transport.abort()", "self.transport.close()"),
+    ):
         if text.count(old) != 1:
             sys.exit(f"counter: terminal.py has no longer: {old}")
         text = text.replace(old, new)

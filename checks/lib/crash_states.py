@@ -22,9 +22,16 @@ class Recording:
     and with which bytes."""
 
     def __init__(self, folder, program):
-        self.folder, self.program, self.calls, self.read = folder, os.path.join(folder, "recorded"), [], {}
+        self.folder, self.program, self.calls, self.read = (
+            folder,
+            os.path.join(folder, "recorded"),
+            [],
+            {},
+        )
         with open(self.program, "w") as it:
-            it.write(f'#!/bin/sh\nexec strace -D -qq -y -xx -s 50000000 -o "{folder}/trace.$(date +%s%N)" -e trace={CALLS} "{program}" "$@"\n')
+            it.write(
+                f'#!/bin/sh\nexec strace -D -qq -y -xx -s 50000000 -o "{folder}/trace.$(date +%s%N)" -e trace={CALLS} "{program}" "$@"\n'
+            )
         os.chmod(self.program, 0o755)
 
     def count(self):
@@ -36,7 +43,9 @@ class Recording:
                     if not line.endswith(b"\n"):
                         break
                     self.read[name] += len(line)
-                    if (found := LINE.search(line.decode(errors="replace"))) and (call := call_of(*found.groups())):
+                    if (found := LINE.search(line.decode(errors="replace"))) and (
+                        call := call_of(*found.groups())
+                    ):
                         self.calls.append(call)
         return len(self.calls)
 
@@ -60,7 +69,7 @@ def call_of(what, path, words, result):
 
 def put(data, at, new):
     data.extend(bytes(max(0, at + len(new) - len(data))))
-    data[at:at + len(new)] = new
+    data[at : at + len(new)] = new
 
 
 def cut(data, length):
@@ -120,7 +129,7 @@ def tear(data, at, new, chance):
         return
     run, lost = chance.choice(RUNS), chance.randrange(256)
     end = chance.randrange(len(new) + 1) if chance.random() < 0.3 else len(new)
-    old = bytes(data[at:at + end]).ljust(end, b"\0")
+    old = bytes(data[at : at + end]).ljust(end, b"\0")
     # for each run a byte by chance, which becomes 255 where the run is written
     kept = chance.randbytes(-(-end // run)).translate(bytes(lost) + bytes([255]) * (256 - lost))
     mask = b"".join(bytes([it]) * run for it in kept)[:end] if run > 1 else kept

@@ -36,7 +36,11 @@ def whole_request(stream):
     while b"\r\n\r\n" not in data:
         data += stream.recv(4096)
     head, _, body = data.partition(b"\r\n\r\n")
-    length = next(int(line.split(b":")[1]) for line in head.split(b"\r\n") if line.lower().startswith(b"content-length:"))
+    length = next(
+        int(line.split(b":")[1])
+        for line in head.split(b"\r\n")
+        if line.lower().startswith(b"content-length:")
+    )
     while len(body) < length:
         body += stream.recv(4096)
     return head + b"\r\n\r\n" + body
@@ -58,4 +62,6 @@ def cut(at):
 
 def unavailable(status):
     """The gateway itself answers, since it has lost the office."""
-    return lambda gateway, request: f"HTTP/1.1 {status} Nothing\r\nContent-Length: 0\r\nConnection: close\r\n\r\n".encode()
+    return (
+        lambda gateway, request: f"HTTP/1.1 {status} Nothing\r\nContent-Length: 0\r\nConnection: close\r\n\r\n".encode()
+    )

@@ -66,7 +66,9 @@ class Modbus:
         wait_for("the Modbus server", self.listens)
 
     def start(self, kind, place):
-        self.server = begun(["/usr/bin/python3", SERVER, kind, place, self.folder], stderr=subprocess.DEVNULL)
+        self.server = begun(
+            ["/usr/bin/python3", SERVER, kind, place, self.folder], stderr=subprocess.DEVNULL
+        )
 
     def listens(self):
         try:
@@ -91,9 +93,17 @@ class Modbus:
     def faults(self):
         return [
             ("no answer in time", lambda: self.say("does", "1"), lambda: self.say("does", "")),
-            ("an exception's answer", lambda: self.say("does", "exception"), lambda: self.say("does", "")),
+            (
+                "an exception's answer",
+                lambda: self.say("does", "exception"),
+                lambda: self.say("does", ""),
+            ),
             ("a value outside its bits", lambda: self.put(0x01000000), lambda: None),
-            ("a status that says faulty", lambda: self.say("status", "0010"), lambda: self.say("status", "0f0f")),
+            (
+                "a status that says faulty",
+                lambda: self.say("status", "0010"),
+                lambda: self.say("status", "0f0f"),
+            ),
             ("a device that went away", self.end, self.begin),
         ]
 
@@ -107,10 +117,20 @@ class ModbusLine(Modbus):
         os.makedirs(folder + ".lines")
         for pair in "12":
             names = [os.path.join(folder + ".lines", end + pair) for end in "ab"]
-            self.pairs.append(begun(["socat", *(f"pty,rawer,link={name}" for name in names)], stderr=subprocess.DEVNULL))
-            wait_for("a pair of pseudo terminals", lambda names=names: all(os.path.exists(name) for name in names))
+            self.pairs.append(
+                begun(
+                    ["socat", *(f"pty,rawer,link={name}" for name in names)],
+                    stderr=subprocess.DEVNULL,
+                )
+            )
+            wait_for(
+                "a pair of pseudo terminals",
+                lambda names=names: all(os.path.exists(name) for name in names),
+            )
             self.names.append(names)
-        ends = [os.open(name, os.O_RDWR | os.O_NOCTTY) for name in (self.names[0][1], self.names[1][0])]
+        ends = [
+            os.open(name, os.O_RDWR | os.O_NOCTTY) for name in (self.names[0][1], self.names[1][0])
+        ]
         for one, other, back in ((ends[0], ends[1], True), (ends[1], ends[0], False)):
             tty.setraw(one)
             threading.Thread(target=self.hand_on, args=(one, other, back), daemon=True).start()
@@ -135,7 +155,16 @@ class ModbusLine(Modbus):
             pair.wait()
 
     def words(self):
-        return ["modbus", "--serial", self.names[1][1], "--baud", "19200", "--parity", "N", *self.registers()]
+        return [
+            "modbus",
+            "--serial",
+            self.names[1][1],
+            "--baud",
+            "19200",
+            "--parity",
+            "N",
+            *self.registers(),
+        ]
 
     def spoil(self, cut):
         self.cut = cut
@@ -143,8 +172,16 @@ class ModbusLine(Modbus):
     def faults(self):
         return [
             *super().faults(),
-            ("a wrong checksum", lambda: self.spoil(lambda data: data[:-1] + bytes([data[-1] ^ 1])), lambda: self.spoil(lambda data: data)),
-            ("an answer that is cut", lambda: self.spoil(lambda data: data[:-1]), lambda: self.spoil(lambda data: data)),
+            (
+                "a wrong checksum",
+                lambda: self.spoil(lambda data: data[:-1] + bytes([data[-1] ^ 1])),
+                lambda: self.spoil(lambda data: data),
+            ),
+            (
+                "an answer that is cut",
+                lambda: self.spoil(lambda data: data[:-1]),
+                lambda: self.spoil(lambda data: data),
+            ),
         ]
 
 
@@ -161,8 +198,13 @@ class Text(threading.Thread):
 
     def begin(self):
         own = self.name + ".own"
-        self.pair = begun(["socat", f"pty,rawer,link={own}", f"pty,rawer,link={self.name}"], stderr=subprocess.DEVNULL)
-        wait_for("a pair of pseudo terminals", lambda: os.path.exists(own) and os.path.exists(self.name))
+        self.pair = begun(
+            ["socat", f"pty,rawer,link={own}", f"pty,rawer,link={self.name}"],
+            stderr=subprocess.DEVNULL,
+        )
+        wait_for(
+            "a pair of pseudo terminals", lambda: os.path.exists(own) and os.path.exists(self.name)
+        )
         self.line = os.open(own, os.O_RDWR | os.O_NOCTTY | os.O_NONBLOCK)
 
     def put(self, counts):
@@ -211,7 +253,11 @@ class Text(threading.Thread):
             ("lines whose ends are gone", begins(lambda frame: frame[:-1]), ends),
             ("lines that are doubled", begins(lambda frame: frame[:-1] * 2 + b"\r"), ends),
             ("lines that are garbled", begins(lambda frame: frame[:6] + b"\xff" + frame[7:]), ends),
-            ("a status that says out of range", begins(lambda frame: frame[:2] + b"4" + frame[3:]), ends),
+            (
+                "a status that says out of range",
+                begins(lambda frame: frame[:2] + b"4" + frame[3:]),
+                ends,
+            ),
             ("a device that went away", self.end, self.begin),
         ]
 
@@ -233,7 +279,13 @@ class TextByTcp(Text):
         self.listener.close()
 
     def words(self):
-        return ["text", "--tcp", f"{bridge.HOST}:{self.listener.getsockname()[1]}", "--preset", "continuous"]
+        return [
+            "text",
+            "--tcp",
+            f"{bridge.HOST}:{self.listener.getsockname()[1]}",
+            "--preset",
+            "continuous",
+        ]
 
 
 class Iio:

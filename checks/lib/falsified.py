@@ -9,7 +9,10 @@ import time
 
 # The name of each, the tests of checks/trial that it has to fail, and what it does.
 ALL = {
-    "none": (("performance", "discrimination", "limits", "zero_accuracy", "ticket", "power_cut"), "nothing is falsified"),
+    "none": (
+        ("performance", "discrimination", "limits", "zero_accuracy", "ticket", "power_cut"),
+        "nothing is falsified",
+    ),
     "half_down": (("rounding",), "rounds an exact half down"),
     "one_more": (("limits",), "indicates an interval above Max + 9 e"),
     "zero_farther": (("zero_range",), "sets the zero a tenth of e beyond its range"),
@@ -103,16 +106,26 @@ def main(program, name, words):
             run = subprocess.Popen([program, *words])
             return run.wait()
         os.execv(program, [program, *words])
-    for option, value, at in (("--window", "4", "slow_swing"), ("--band", "2", "wide_band"), ("--pace", "2", "fast_tracking")):
+    for option, value, at in (
+        ("--window", "4", "slow_swing"),
+        ("--band", "2", "wide_band"),
+        ("--pace", "2", "fast_tracking"),
+    ):
         if at == name:
             words[words.index(option) + 1] = value
     text = "".join(f"{line}\n" for line in edited(name, words, sys.stdin.read().splitlines()))
     run = subprocess.run([program, *words], input=text, capture_output=True, text=True)
-    out = re.sub(r"(?m)^\| PT +\d+", "| PT       5020", run.stdout) if name == "other_tare" else run.stdout
+    out = (
+        re.sub(r"(?m)^\| PT +\d+", "| PT       5020", run.stdout)
+        if name == "other_tare"
+        else run.stdout
+    )
     sys.stdout.write(out)
     sys.stderr.write(run.stderr)
     return run.returncode
 
 
 if __name__ == "__main__":
-    sys.exit(main(os.environ["WEIGHBRIDGE_PROGRAM"], os.environ["WEIGHBRIDGE_FALSIFIED"], sys.argv[1:]))
+    sys.exit(
+        main(os.environ["WEIGHBRIDGE_PROGRAM"], os.environ["WEIGHBRIDGE_FALSIFIED"], sys.argv[1:])
+    )

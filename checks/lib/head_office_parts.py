@@ -42,14 +42,22 @@ def findings(office, name, columns="what, first, last"):
 
 
 def refusals(office, name):
-    return [it for it in office.reads(f"SELECT reason, by FROM head_office.refusal WHERE bridge = '{name}' ORDER BY refusal").split("\n") if it]
+    return [
+        it
+        for it in office.reads(
+            f"SELECT reason, by FROM head_office.refusal WHERE bridge = '{name}' ORDER BY refusal"
+        ).split("\n")
+        if it
+    ]
 
 
 def passing(office, name):
     """The findings of a bridge that the next load makes up for: open or made up, in their order; none of the latter is an open finding."""
     asked = f"SELECT CASE WHEN is_made_up THEN 'made up' ELSE 'open' END FROM head_office.finding_beside_stored WHERE bridge = '{name}' AND what = 'not loaded' ORDER BY finding"
     found = [it for it in office.reads(asked).split("\n") if it]
-    shown = office.reads(f"SELECT count(*) FROM head_office.open_finding WHERE bridge = '{name}' AND what = 'not loaded'")
+    shown = office.reads(
+        f"SELECT count(*) FROM head_office.open_finding WHERE bridge = '{name}' AND what = 'not loaded'"
+    )
     return found if found.count("open") == int(shown) else (found, shown)
 
 
@@ -102,17 +110,31 @@ def show_growth(office, folder):
         once, twice = seconds(f"A{turn}", 8_000), seconds(f"B{turn}", 16_000)
         if twice <= 2.5 * once:
             break
-    case("a first load of twice the entries takes at most 2.5 times as long, after ANALYZE", twice <= 2.5 * once, (once, twice))
+    case(
+        "a first load of twice the entries takes at most 2.5 times as long, after ANALYZE",
+        twice <= 2.5 * once,
+        (once, twice),
+    )
     case("and a load of the newest few reads few of what is stored", *newest_reads_few(it, folder))
     # plates that stand one behind the other, with others before them
-    it.told("INSERT INTO head_office.haulier SELECT 'five', 'P-' || g FROM generate_series(105, 109) g")
+    it.told(
+        "INSERT INTO head_office.haulier SELECT 'five', 'P-' || g FROM generate_series(105, 109) g"
+    )
     it.told("ANALYZE", user=clusters.OWNER)
     read = "SELECT sum(idx_tup_read) FROM pg_stat_user_indexes JOIN pg_inherits ON inhrelid = indexrelid WHERE inhparent = 'head_office.entry_by_plate'::regclass"
     before = int(it.told(read, user=clusters.OWNER))
-    tickets = int(it.told("SELECT count(*) FROM head_office.haulier_ticket WHERE haulier = 'five'", user=READER))
+    tickets = int(
+        it.told(
+            "SELECT count(*) FROM head_office.haulier_ticket WHERE haulier = 'five'", user=READER
+        )
+    )
     until(lambda: int(it.told(read, user=clusters.OWNER)) > before, 5)
     after = int(it.told(read, user=clusters.OWNER))
-    case("and a haulier's tickets the entries of his plates alone", tickets > 100 and 0 < after - before < 3 * tickets, (tickets, after - before))
+    case(
+        "and a haulier's tickets the entries of his plates alone",
+        tickets > 100 and 0 < after - before < 3 * tickets,
+        (tickets, after - before),
+    )
 
 
 def newest_reads_few(it, folder):
@@ -126,10 +148,15 @@ def newest_reads_few(it, folder):
     read = "SELECT sum(seq_tup_read + idx_tup_fetch) FROM pg_stat_user_tables WHERE relname IN ('finding', 'load', 'refusal') OR relname LIKE 'entry\_%'"
     time.sleep(1)
     before = it.told(read, user=clusters.OWNER)
-    status, said = it.cluster.run([f"{PARTS}/load", "--newest", "N1", f"{folder}/growth.csv"], user=LOADER, database=it.name)
+    status, said = it.cluster.run(
+        [f"{PARTS}/load", "--newest", "N1", f"{folder}/growth.csv"], user=LOADER, database=it.name
+    )
     time.sleep(1)
     after = it.told(read, user=clusters.OWNER)
-    return status == 0 and "added 10," in said and int(after) - int(before) < 5_000, (said, int(after) - int(before))
+    return status == 0 and "added 10," in said and int(after) - int(before) < 5_000, (
+        said,
+        int(after) - int(before),
+    )
 
 
 def show_stopped(office, folder, held):
@@ -140,9 +167,26 @@ def show_stopped(office, folder, held):
         text = it.read()
     process = held(office, folder, "STOP", text)
     with open(export, "rb") as given:
-        words = ["psql", "-X", "-v", "ON_ERROR_STOP=1", "-v", "bridge=STOP", "-f", f"{PARTS}/load.sql"]
-        waiting = subprocess.Popen(words, stdin=given, env=office.cluster.environment(LOADER), stdout=subprocess.DEVNULL, stderr=subprocess.DEVNULL)
-    waits = "SELECT count(*) FROM pg_stat_activity WHERE usename = 'loads' AND wait_event_type = 'Lock'"
+        words = [
+            "psql",
+            "-X",
+            "-v",
+            "ON_ERROR_STOP=1",
+            "-v",
+            "bridge=STOP",
+            "-f",
+            f"{PARTS}/load.sql",
+        ]
+        waiting = subprocess.Popen(
+            words,
+            stdin=given,
+            env=office.cluster.environment(LOADER),
+            stdout=subprocess.DEVNULL,
+            stderr=subprocess.DEVNULL,
+        )
+    waits = (
+        "SELECT count(*) FROM pg_stat_activity WHERE usename = 'loads' AND wait_event_type = 'Lock'"
+    )
     case("a second load of the bridge waits", until(lambda: office.cluster.told(waits) == "1"))
     waiting.kill()
     waiting.wait()
@@ -150,7 +194,9 @@ def show_stopped(office, folder, held):
         "killed, its statement ends within seconds, while it still would wait",
         until(lambda: office.cluster.told(waits) == "0", 10) and process.poll() is None,
     )
-    office.cluster.told("ALTER FUNCTION head_office.take_in(text, boolean, timestamptz) SET lock_timeout = '300ms'")
+    office.cluster.told(
+        "ALTER FUNCTION head_office.take_in(text, boolean, timestamptz) SET lock_timeout = '300ms'"
+    )
     office.shows(
         "a load that waits longer than its lock_timeout is refused",
         2,
@@ -164,7 +210,9 @@ def show_stopped(office, folder, held):
     office.cluster.run([f"{PARTS}/upgrade"])
     limit = "SELECT array_to_string(proconfig, ' ') ~ 'lock_timeout=60s' FROM pg_proc WHERE proname = 'take_in'"
     same("which is a minute", "t", office.cluster.told(limit))
-    office.shows("and then it is taken", 0, "^STOP: records 30, added 0, findings 0", "STOP", export)
+    office.shows(
+        "and then it is taken", 0, "^STOP: records 30, added 0, findings 0", "STOP", export
+    )
     same("  which makes up for the one that waited", ["made up"], passing(office, "STOP"))
 
 
@@ -184,26 +232,48 @@ def show_one_stops_all(office, folder):
         stdout=subprocess.DEVNULL,
         stderr=subprocess.DEVNULL,
     )
-    until(lambda: cluster.told("SELECT count(*) > 0 FROM pg_locks WHERE locktype = 'advisory'") == "t")
+    until(
+        lambda: cluster.told("SELECT count(*) > 0 FROM pg_locks WHERE locktype = 'advisory'") == "t"
+    )
     began = time.monotonic()
-    office.shows("a login that holds advisory locks of another bridge doesn't hold up its load", 0, "^QUIET: records 30, added 30", "QUIET", export)
+    office.shows(
+        "a login that holds advisory locks of another bridge doesn't hold up its load",
+        0,
+        "^QUIET: records 30, added 30",
+        "QUIET",
+        export,
+    )
     case("  which takes as long as ever", time.monotonic() - began < 20)
     second = subprocess.Popen(
-        ["psql", "-X", "-q", "-c", "SELECT pg_sleep(60)"], env=cluster.environment("crowd"), stdout=subprocess.DEVNULL, stderr=subprocess.DEVNULL
+        ["psql", "-X", "-q", "-c", "SELECT pg_sleep(60)"],
+        env=cluster.environment("crowd"),
+        stdout=subprocess.DEVNULL,
+        stderr=subprocess.DEVNULL,
     )
-    until(lambda: cluster.told("SELECT count(*) FROM pg_stat_activity WHERE usename = 'crowd'") == "2")
+    until(
+        lambda: cluster.told("SELECT count(*) FROM pg_stat_activity WHERE usename = 'crowd'") == "2"
+    )
     status, said = cluster.ask("SELECT 1", user="crowd")
-    case("a login opens as many connections as its limit", status and "too many connections for role" in said, said)
+    case(
+        "a login opens as many connections as its limit",
+        status and "too many connections for role" in said,
+        said,
+    )
     office.shows("  and another one still loads", 0, "^QUIET: records 30, added 0", "QUIET", export)
     for it in (sleeper, second):
         it.kill()
         it.wait()
     cluster.told("SELECT pg_terminate_backend(pid) FROM pg_stat_activity WHERE usename = 'crowd'")
-    until(lambda: cluster.told("SELECT count(*) FROM pg_stat_activity WHERE usename = 'crowd'") == "0")
+    until(
+        lambda: cluster.told("SELECT count(*) FROM pg_stat_activity WHERE usename = 'crowd'") == "0"
+    )
 
     cluster.told("CREATE ROLE boundless LOGIN IN ROLE head_office_loader")
     for login, words in (
-        ("boundless", "login boundless may open all connections: ALTER ROLE boundless CONNECTION LIMIT 3"),
+        (
+            "boundless",
+            "login boundless may open all connections: ALTER ROLE boundless CONNECTION LIMIT 3",
+        ),
         ("nobodys", "there is no login nobodys: CREATE ROLE nobodys LOGIN CONNECTION LIMIT 3"),
     ):
         case(
@@ -230,7 +300,11 @@ def show_one_stops_all(office, folder):
         "SELECT pg_read_file('PG_VERSION')",
     ):
         status, said = cluster.ask(statement, user="crowd")
-        case(f"a loader may not: {statement}", status and re.search("permission denied|must be superuser", said), said)
+        case(
+            f"a loader may not: {statement}",
+            status and re.search("permission denied|must be superuser", said),
+            said,
+        )
     rights = "SELECT string_agg(relname, ' ' ORDER BY relname) FROM pg_class WHERE relnamespace = 'head_office'::regnamespace AND relkind IN ('r', 'v', 'S') AND "
     same(
         "a loader writes into the one table",
@@ -240,7 +314,13 @@ def show_one_stops_all(office, folder):
             + "(has_any_column_privilege('crowd', oid, 'INSERT') OR has_any_column_privilege('crowd', oid, 'UPDATE') OR has_table_privilege('crowd', oid, 'DELETE'))"
         ),
     )
-    same("  reads none", "", cluster.told(rights + "relkind <> 'S' AND has_any_column_privilege('crowd', oid, 'SELECT')"))
+    same(
+        "  reads none",
+        "",
+        cluster.told(
+            rights + "relkind <> 'S' AND has_any_column_privilege('crowd', oid, 'SELECT')"
+        ),
+    )
     same(
         "  and calls three functions",
         "note_refusal take_in wants_whole",
@@ -258,7 +338,11 @@ def show_one_stops_all(office, folder):
         cluster.told("SELECT count(*) FROM head_office.handed WHERE login = 'crowd'"),
     )
     status, said = cluster.ask(record.format(100_001), user="crowd")
-    case("more records than a journal has places aren't handed in", status and "more records than a journal has places" in said, said)
+    case(
+        "more records than a journal has places aren't handed in",
+        status and "more records than a journal has places" in said,
+        said,
+    )
 
     book = Book("CROWD1", age=DAY * 10, step=1).fill(20_000)
     for row in book.rows:
@@ -268,7 +352,9 @@ def show_one_stops_all(office, folder):
     status, said = office.load("CROWD", path, user="crowd")
     case(
         "20,000 false records are a hundred findings and how many more",
-        status == 1 and "findings 20000, new 101\n" in said and len(findings(office, "CROWD")) == 101,
+        status == 1
+        and "findings 20000, new 101\n" in said
+        and len(findings(office, "CROWD")) == 101,
         said[:200],
     )
     same(
@@ -281,8 +367,14 @@ def show_one_stops_all(office, folder):
     case("  the page stays below 200 kB", pages[1] < 200_000, pages)
     book = Book("CROWD1", age=DAY * 10, step=1).fill(2)
     book.rows[0]["digest"] = os.urandom(10_000).hex()
-    status, said = office.load("CROWD", book.write(f"{folder}/crowd.csv", fetched=time.time()), user="crowd")
-    case("a record of 20 kB is a finding as others are", status == 1 and "unsound 1: " in said, said[:200])
+    status, said = office.load(
+        "CROWD", book.write(f"{folder}/crowd.csv", fetched=time.time()), user="crowd"
+    )
+    case(
+        "a record of 20 kB is a finding as others are",
+        status == 1 and "unsound 1: " in said,
+        said[:200],
+    )
     office.told(
         "INSERT INTO head_office.acknowledgement (finding, note) SELECT finding, 'false records of a test' FROM head_office.open_finding WHERE bridge = 'CROWD'"
     )
@@ -297,10 +389,26 @@ def show_listener(office, folder):
     with socket.socket() as it:
         it.bind(("127.0.0.1", 0))
         port = it.getsockname()[1]
-    words = [sys.executable, "-m", "http.server", "--bind", "127.0.0.1", "--directory", f"{folder}/served", str(port)]
+    words = [
+        sys.executable,
+        "-m",
+        "http.server",
+        "--bind",
+        "127.0.0.1",
+        "--directory",
+        f"{folder}/served",
+        str(port),
+    ]
     stranger = "nobody" if os.getuid() == 0 else getpass.getuser()
     if os.getuid() == 0:
-        words = ["setpriv", "--reuid=nobody", "--regid=nogroup", "--clear-groups", "/usr/bin/python3", *words[1:]]
+        words = [
+            "setpriv",
+            "--reuid=nobody",
+            "--regid=nogroup",
+            "--clear-groups",
+            "/usr/bin/python3",
+            *words[1:],
+        ]
     server = subprocess.Popen(words, stdout=subprocess.DEVNULL, stderr=subprocess.DEVNULL, cwd="/")
     address = f"http://127.0.0.1:{port}/journal.csv"
     try:
@@ -317,13 +425,38 @@ def show_listener(office, folder):
         same(
             "  and nothing of it is stored",
             "0",
-            office.reads("SELECT count(*) FROM head_office.entry JOIN head_office.journal USING (journal) WHERE bridge = 'PORT'"),
+            office.reads(
+                "SELECT count(*) FROM head_office.entry JOIN head_office.journal USING (journal) WHERE bridge = 'PORT'"
+            ),
         )
-        same("  but the refusal and a finding", (["listener|loads"], ["refused"]), (refusals(office, "PORT"), findings(office, "PORT", "what")))
-        office.shows("a user that there isn't is told", 2, "this machine has no user nowhere", "PORT", address, HEAD_OFFICE_LISTENER="nowhere")
-        office.shows("another machine is no service of this one", 2, "192.0.2.1 is another machine", "PORT", "http://192.0.2.1:880/journal.csv")
+        same(
+            "  but the refusal and a finding",
+            (["listener|loads"], ["refused"]),
+            (refusals(office, "PORT"), findings(office, "PORT", "what")),
+        )
+        office.shows(
+            "a user that there isn't is told",
+            2,
+            "this machine has no user nowhere",
+            "PORT",
+            address,
+            HEAD_OFFICE_LISTENER="nowhere",
+        )
+        office.shows(
+            "another machine is no service of this one",
+            2,
+            "192.0.2.1 is another machine",
+            "PORT",
+            "http://192.0.2.1:880/journal.csv",
+        )
         for _ in range(3):
-            office.shows("a port on which nobody listens", 2, "nobody listens there", "PORT", "http://127.0.0.1:1/journal.csv")
+            office.shows(
+                "a port on which nobody listens",
+                2,
+                "nobody listens there",
+                "PORT",
+                "http://127.0.0.1:1/journal.csv",
+            )
         same("  three times are one open finding", ["open"], passing(office, "PORT"))
         office.shows(
             "the user that is named: the load says whom it asked",
@@ -333,11 +466,25 @@ def show_listener(office, folder):
             address,
             HEAD_OFFICE_LISTENER=stranger,
         )
-        same("  which makes up for the export that didn't come", ["made up"], passing(office, "PORT"))
-        office.shows("and the next one that doesn't come", 2, "nobody listens there", "PORT", "http://127.0.0.1:1/journal.csv")
+        same(
+            "  which makes up for the export that didn't come", ["made up"], passing(office, "PORT")
+        )
+        office.shows(
+            "and the next one that doesn't come",
+            2,
+            "nobody listens there",
+            "PORT",
+            "http://127.0.0.1:1/journal.csv",
+        )
         same("  is a finding again", ["made up", "open"], passing(office, "PORT"))
-        page = office.cluster.run([f"{PARTS}/report"], user=READER)[1].split("<h3>Loads that were refused")[0]
-        same("  which the page shows, and none that was made up for", 1, len(re.findall('<td>PORT</td><td title="[^"]*">not loaded</td>', page)))
+        page = office.cluster.run([f"{PARTS}/report"], user=READER)[1].split(
+            "<h3>Loads that were refused"
+        )[0]
+        same(
+            "  which the page shows, and none that was made up for",
+            1,
+            len(re.findall('<td>PORT</td><td title="[^"]*">not loaded</td>', page)),
+        )
     finally:
         server.kill()
         server.wait()
@@ -352,7 +499,16 @@ def show_newest_by_itself(office, folder):
         port = it.getsockname()[1]
     os.makedirs(f"{folder}/self", exist_ok=True)
     server = subprocess.Popen(
-        [sys.executable, "-m", "http.server", "--bind", "127.0.0.1", "--directory", f"{folder}/self", str(port)],
+        [
+            sys.executable,
+            "-m",
+            "http.server",
+            "--bind",
+            "127.0.0.1",
+            "--directory",
+            f"{folder}/self",
+            str(port),
+        ],
         stdout=subprocess.DEVNULL,
         stderr=subprocess.DEVNULL,
     )
@@ -361,17 +517,31 @@ def show_newest_by_itself(office, folder):
     def shows(name, status, pattern, last):
         book.moment, book.step = int(time.time()), 0
         book.fill(last - len(book.rows)).write(f"{folder}/self/journal.csv")
-        office.shows(name, status, pattern, "SELF", address, is_newest=True, HEAD_OFFICE_NEWEST="20")
+        office.shows(
+            name, status, pattern, "SELF", address, is_newest=True, HEAD_OFFICE_NEWEST="20"
+        )
 
     try:
         book.write(f"{folder}/self/journal.csv", 40)
         until(lambda: subprocess.run(["curl", "-sf", "-o", "/dev/null", address]).returncode == 0)
-        shows("the first load of a journal is a whole one by itself", 0, "^SELF: records 40, added 40", 40)
+        shows(
+            "the first load of a journal is a whole one by itself",
+            0,
+            "^SELF: records 40, added 40",
+            40,
+        )
         shows("the next one has the newest entries alone", 0, "^SELF: records 20, added 10", 50)
         shows(
-            "the whole export follows where they don't reach", 0, "^SELF: refused: the newest entries begin at 71.*\nSELF: records 90, added 40", 90
+            "the whole export follows where they don't reach",
+            0,
+            "^SELF: refused: the newest entries begin at 71.*\nSELF: records 90, added 40",
+            90,
         )
-        same("  which is a refusal, and a finding that the whole export made up for", (["newest|loads"], ["made up"]), (refusals(office, "SELF"), passing(office, "SELF")))
+        same(
+            "  which is a refusal, and a finding that the whole export made up for",
+            (["newest|loads"], ["made up"]),
+            (refusals(office, "SELF"), passing(office, "SELF")),
+        )
         office.cluster.told(
             "UPDATE head_office.standing SET whole_at = whole_at - interval '8 days' WHERE journal = (SELECT journal FROM head_office.journal WHERE bridge = 'SELF')"
         )
@@ -396,23 +566,49 @@ def show_refusals(office, folder):
     book = Book("REFUSED1").fill(30)
     office.load("REFUSED", book.write(f"{folder}/r.csv"))
     other = Book("REFUSED2").fill(9).write(f"{folder}/other.csv", fetched=time.time())
-    office.shows("an export that is refused", 2, "^REFUSED: refused: serial REFUSED2 is not registered$", "REFUSED", other)
+    office.shows(
+        "an export that is refused",
+        2,
+        "^REFUSED: refused: serial REFUSED2 is not registered$",
+        "REFUSED",
+        other,
+    )
     row = office.reads(
         "SELECT by, bridge, reason, why, fetched_at IS NOT NULL, at > now() - interval '1 minute', address IS NULL FROM head_office.refusal WHERE bridge = 'REFUSED'"
     )
-    same("  is a row: when, from whom, why", "loads|REFUSED|serial|serial REFUSED2 is not registered|t|t|t", row)
-    same("  and a finding", ["refused|serial REFUSED2 is not registered"], findings(office, "REFUSED", "what, record"))
+    same(
+        "  is a row: when, from whom, why",
+        "loads|REFUSED|serial|serial REFUSED2 is not registered|t|t|t",
+        row,
+    )
+    same(
+        "  and a finding",
+        ["refused|serial REFUSED2 is not registered"],
+        findings(office, "REFUSED", "what, record"),
+    )
     office.load("REFUSED", other)
-    same("again: a row, and no new finding", (2, 1), (len(refusals(office, "REFUSED")), len(findings(office, "REFUSED"))))
+    same(
+        "again: a row, and no new finding",
+        (2, 1),
+        (len(refusals(office, "REFUSED")), len(findings(office, "REFUSED"))),
+    )
     office.told(
         "INSERT INTO head_office.acknowledgement (finding, note) SELECT finding, 'an instrument on trial' FROM head_office.open_finding WHERE bridge = 'REFUSED'"
     )
     office.load("REFUSED", other)
-    same("once that was acknowledged, the next one is a finding again", 2, len(findings(office, "REFUSED")))
+    same(
+        "once that was acknowledged, the next one is a finding again",
+        2,
+        len(findings(office, "REFUSED")),
+    )
     with open(f"{folder}/t.csv", "w") as it:
         it.write(book.line(1))
     office.load("REFUSED", f"{folder}/t.csv")
-    same("an export that is cut off, which the bridge's own script refuses", "cut|loads", refusals(office, "REFUSED")[-1])
+    same(
+        "an export that is cut off, which the bridge's own script refuses",
+        "cut|loads",
+        refusals(office, "REFUSED")[-1],
+    )
     with open(book.write(f"{folder}/t.csv"), "a") as it:
         it.write("1,2,3\n")
     office.load("REFUSED", f"{folder}/t.csv")
@@ -433,13 +629,20 @@ def show_refusals(office, folder):
     same(
         "all of it is on the day's page",
         True,
-        all(it in office.cluster.run([f"{PARTS}/report"], user=READER)[1] for it in (">replaced</td>", "serial REFUSED2 is not registered")),
+        all(
+            it in office.cluster.run([f"{PARTS}/report"], user=READER)[1]
+            for it in (">replaced</td>", "serial REFUSED2 is not registered")
+        ),
     )
     asked = "SELECT head_office.note_refusal('REFUSED', 'cut', 'again ' || g) FROM generate_series(1, 150) g"
     office.cluster.told("CREATE ROLE chatty LOGIN CONNECTION LIMIT 2 IN ROLE head_office_loader")
     office.told("INSERT INTO head_office.loader VALUES ('chatty', 'REFUSED')")
     office.cluster.told(asked, user="chatty")
-    same("a login has a hundred of them in a day", 100, len([it for it in refusals(office, "REFUSED") if it.endswith("|chatty")]))
+    same(
+        "a login has a hundred of them in a day",
+        100,
+        len([it for it in refusals(office, "REFUSED") if it.endswith("|chatty")]),
+    )
     office.told(
         "INSERT INTO head_office.acknowledgement (finding, note) SELECT finding, 'of a test' FROM head_office.open_finding WHERE bridge = 'REFUSED'"
     )
@@ -453,9 +656,16 @@ def show_floods(office, folder):
     office.load("FLOOD", Book("FLOOD1").fill(30).write(f"{folder}/t.csv"))
     older = "INSERT INTO head_office.handed (number, key, kind, plate, moment, interval_kg, max_kg, serial, digest) VALUES (31, 'K', 'void', 'X', now(), 20, 60000, 'FLOOD1', ''); SELECT head_office.take_in('FLOOD', false, '2020-01-01Z')"
     office.cluster.told(*[older] * 101, user=LOADER)
-    same("of 101 older exports a hundred are written down", ["older|loads"] * 100, refusals(office, "FLOOD"))
+    same(
+        "of 101 older exports a hundred are written down",
+        ["older|loads"] * 100,
+        refusals(office, "FLOOD"),
+    )
     same("  and are one finding", ["open"], passing(office, "FLOOD"))
-    office.load("FLOOD", Book("FLOOD1", age=DAY + 300).fill(30).write(f"{folder}/t.csv", fetched=time.time()))
+    office.load(
+        "FLOOD",
+        Book("FLOOD1", age=DAY + 300).fill(30).write(f"{folder}/t.csv", fetched=time.time()),
+    )
     page = office.cluster.run([f"{PARTS}/report"], user=READER)[1]
     case(
         "  and a journal that is replaced whole then is on the page",
@@ -465,7 +675,11 @@ def show_floods(office, folder):
     at = office.reads(
         "SELECT to_char(max(at) AT TIME ZONE 'Europe/Berlin', 'YYYY-MM-DD HH24:MI') FROM head_office.refusal WHERE bridge = 'FLOOD' AND reason = 'older'"
     )
-    case("  beside the refused loads, of the bridge's own zone", f'<tr><td>FLOOD</td><td>loads</td><td>{at}</td><td class="n">100</td>' in page, at)
+    case(
+        "  beside the refused loads, of the bridge's own zone",
+        f'<tr><td>FLOOD</td><td>loads</td><td>{at}</td><td class="n">100</td>' in page,
+        at,
+    )
     same("  which made up for none", ["open"], passing(office, "FLOOD"))
     for name in ("LOUD", "STILL"):
         office.register(name, f"{name}1")
@@ -474,15 +688,34 @@ def show_floods(office, folder):
         "INSERT INTO head_office.refusal (at, by, bridge, reason, why) SELECT now() - interval '2 minutes', 'login', 'NOBODYS' || g, 'bridge', 'no bridge' FROM generate_series(1, 60) g",
         "INSERT INTO head_office.refusal (at, by, bridge, reason, why) VALUES (now() - interval '6 days', 'login1', 'STILL', 'serial', 'of another bridge')",
     )
-    page = office.cluster.run([f"{PARTS}/report"], user=READER)[1].split("<h3>Loads that were refused")[1].split("<h3>")[0]
+    page = (
+        office.cluster.run([f"{PARTS}/report"], user=READER)[1]
+        .split("<h3>Loads that were refused")[1]
+        .split("<h3>")[0]
+    )
     case(
         "sixty logins whose loads of a bridge are refused don't take another bridge's refusal off the page",
-        page.count("<td>LOUD</td>") == 10 and 0 < page.count("<td>NOBODYS") <= 10 and page.count("<td>STILL</td>") == 1,
+        page.count("<td>LOUD</td>") == 10
+        and 0 < page.count("<td>NOBODYS") <= 10
+        and page.count("<td>STILL</td>") == 1,
         page,
     )
-    case("  and how many more is said of each", re.search("and more, in the table refusal: (.*, )?50 of LOUD, .*[0-9]+ of bridges that nobody registered</p>", page), page[-500:])
-    office.cluster.told("SELECT head_office.note_refusal('REFUSED', 'listener', 'who took the port')", user="chatty")
-    same("a login that had its hundred of one reason is heard with another", ["who took the port"], findings(office, "REFUSED", "record")[-1:])
+    case(
+        "  and how many more is said of each",
+        re.search(
+            "and more, in the table refusal: (.*, )?50 of LOUD, .*[0-9]+ of bridges that nobody registered</p>",
+            page,
+        ),
+        page[-500:],
+    )
+    office.cluster.told(
+        "SELECT head_office.note_refusal('REFUSED', 'listener', 'who took the port')", user="chatty"
+    )
+    same(
+        "a login that had its hundred of one reason is heard with another",
+        ["who took the port"],
+        findings(office, "REFUSED", "record")[-1:],
+    )
     for name in ("MANY", "LOST"):
         office.register(name, f"{name}1")
     book = Book("LOST1", age=7_200).fill(30)
@@ -493,13 +726,30 @@ def show_floods(office, folder):
         for row in book.rows:
             row["digest"] = digit * 64
         office.load("MANY", book.write(f"{folder}/t.csv", fetched=time.time()))
-    found = office.cluster.run([f"{PARTS}/report"], user=READER)[1].split("<h3>Loads that were refused")[0]
-    case("140 unsound records of a bridge don't take another's finding off the page", '">missing</td><td>20-22</td>' in found, found[2000:])
+    found = office.cluster.run([f"{PARTS}/report"], user=READER)[1].split(
+        "<h3>Loads that were refused"
+    )[0]
+    case(
+        "140 unsound records of a bridge don't take another's finding off the page",
+        '">missing</td><td>20-22</td>' in found,
+        found[2000:],
+    )
     many = int(office.reads("SELECT count(*) FROM head_office.open_finding WHERE bridge = 'MANY'"))
-    case("  ten are shown of it, and how many more", many > 200 and found.count("<td>MANY</td>") == 10 and f" {many - 10} of MANY" in found, many)
-    case("  and whose times are which is said", "<th>record, in UTC</th><th>stored here, in UTC</th>" in found)
+    case(
+        "  ten are shown of it, and how many more",
+        many > 200 and found.count("<td>MANY</td>") == 10 and f" {many - 10} of MANY" in found,
+        many,
+    )
+    case(
+        "  and whose times are which is said",
+        "<th>record, in UTC</th><th>stored here, in UTC</th>" in found,
+    )
     said = office.cluster.run([f"{PARTS}/watch", f"{folder}/flooded"], user=READER)[1]
-    case("  nor does the watch keep it to itself", re.search("^LOST: finding [0-9]+, missing 20-22: ", said, re.M), said[:500])
+    case(
+        "  nor does the watch keep it to itself",
+        re.search("^LOST: finding [0-9]+, missing 20-22: ", said, re.M),
+        said[:500],
+    )
     office.told(
         "INSERT INTO head_office.acknowledgement (finding, note) SELECT finding, 'of a test' FROM head_office.open_finding WHERE bridge IN ('MANY', 'REFUSED')"
     )
@@ -516,16 +766,41 @@ def show_overdue(office, folder):
     office.told("UPDATE head_office.bridge SET whole_within = '1 second' WHERE bridge = 'PART'")
     with open(book.add("single", "F-1").write(f"{folder}/t.csv", 0), "a") as it:
         it.writelines(book.line(number) + "\n" for number in range(25, 32))
-    office.shows("the newest entries alone are loaded", 0, "^PART: records 7, added 1, findings 0", "PART", f"{folder}/t.csv", is_newest=True)
+    office.shows(
+        "the newest entries alone are loaded",
+        0,
+        "^PART: records 7, added 1, findings 0",
+        "PART",
+        f"{folder}/t.csv",
+        is_newest=True,
+    )
     same("  and the whole export is overdue", "t|t|f|t", office.reads(heard.format(whole)))
-    shown = office.cluster.run([f"{PARTS}/report"], user=READER)[1].split("<h3>Bridges that fell silent")[1].split("<h3>")[0]
-    at = office.reads(f"SELECT to_char(to_timestamp({whole}) AT TIME ZONE 'Europe/Berlin', 'YYYY-MM-DD HH24:MI')")
-    case("  on the page too", re.search(f"<td>PART</td><td>whole export overdue</td><td>[^<]*</td><td>{at}</td>", shown), (at, shown))
+    shown = (
+        office.cluster.run([f"{PARTS}/report"], user=READER)[1]
+        .split("<h3>Bridges that fell silent")[1]
+        .split("<h3>")[0]
+    )
+    at = office.reads(
+        f"SELECT to_char(to_timestamp({whole}) AT TIME ZONE 'Europe/Berlin', 'YYYY-MM-DD HH24:MI')"
+    )
+    case(
+        "  on the page too",
+        re.search(f"<td>PART</td><td>whole export overdue</td><td>[^<]*</td><td>{at}</td>", shown),
+        (at, shown),
+    )
     said = office.cluster.run([f"{PARTS}/watch", f"{folder}/overdue"], user=READER)[1]
-    case("  and the watch says it", "PART: the whole export is overdue, last loaded 20" in said, said[:500])
+    case(
+        "  and the watch says it",
+        "PART: the whole export is overdue, last loaded 20" in said,
+        said[:500],
+    )
     office.told("UPDATE head_office.bridge SET whole_within = '1 day' WHERE bridge = 'PART'")
     office.load("PART", book.write(f"{folder}/t.csv", fetched=time.time()))
-    same("  until it is loaded", "f", office.reads("SELECT is_overdue FROM head_office.heard WHERE bridge = 'PART'"))
+    same(
+        "  until it is loaded",
+        "f",
+        office.reads("SELECT is_overdue FROM head_office.heard WHERE bridge = 'PART'"),
+    )
 
 
 def show_runs(office, folder):
@@ -543,19 +818,39 @@ def show_runs(office, folder):
         book.write(f"{folder}/run.csv", fetched=time.time()),
     )
     book.change(3_000, plate="OTHER").chain(3_000)
-    office.shows("and two that really differ are two", 1, "findings 2, new 2$", "RUN", book.write(f"{folder}/run.csv", fetched=time.time()))
-    same("  each with those behind it", ["differs|2|5000", "differs|2|2999", "differs|3000|5000"], findings(office, "RUN"))
+    office.shows(
+        "and two that really differ are two",
+        1,
+        "findings 2, new 2$",
+        "RUN",
+        book.write(f"{folder}/run.csv", fetched=time.time()),
+    )
+    same(
+        "  each with those behind it",
+        ["differs|2|5000", "differs|2|2999", "differs|3000|5000"],
+        findings(office, "RUN"),
+    )
 
 
 def show_acknowledged(office, folder):
     asked = "SELECT count(*) FROM head_office.open_finding WHERE bridge = 'RUN'"
     page = office.cluster.run([f"{PARTS}/report"], user=READER)[1]
-    case("a finding stands on the page until somebody acknowledges it", "<td>3000-5000</td>" in page and office.reads(asked) == "3")
+    case(
+        "a finding stands on the page until somebody acknowledges it",
+        "<td>3000-5000</td>" in page and office.reads(asked) == "3",
+    )
     one = "INSERT INTO head_office.acknowledgement (finding, note) SELECT max(finding), '{}' FROM head_office.open_finding WHERE bridge = 'RUN'"
-    for user, note, words in ((REGISTRAR, "  ", "note_says_something"), (READER, "seen", "permission denied"), (LOADER, "seen", "permission denied")):
+    for user, note, words in (
+        (REGISTRAR, "  ", "note_says_something"),
+        (READER, "seen", "permission denied"),
+        (LOADER, "seen", "permission denied"),
+    ):
         status, said = office.cluster.ask(one.format(note), user=user)
         case(f"{user} acknowledges none with the note {note!r}", status and words in said, said)
-    status, said = office.cluster.ask("INSERT INTO head_office.acknowledgement (finding, note, by) VALUES (1, 'seen', 'somebody')", user=REGISTRAR)
+    status, said = office.cluster.ask(
+        "INSERT INTO head_office.acknowledgement (finding, note, by) VALUES (1, 'seen', 'somebody')",
+        user=REGISTRAR,
+    )
     case("nobody acknowledges for somebody else", status and "permission denied" in said, said)
     office.told(one.format("the slip of 3000 was seen"))
     same(
@@ -568,10 +863,16 @@ def show_acknowledged(office, folder):
     page = office.cluster.run([f"{PARTS}/report"], user=READER)[1]
     case(
         "  is gone from the page, and not found again",
-        "<td>3000-5000</td>" not in page and office.load("RUN", f"{folder}/run.csv")[0] == 0 and office.reads(asked) == "2",
+        "<td>3000-5000</td>" not in page
+        and office.load("RUN", f"{folder}/run.csv")[0] == 0
+        and office.reads(asked) == "2",
     )
     status, said = office.cluster.ask("UPDATE head_office.acknowledgement SET note = 'x'")
-    case("  and its note is never changed", status and "acknowledgement is never changed" in said, said)
+    case(
+        "  and its note is never changed",
+        status and "acknowledgement is never changed" in said,
+        said,
+    )
 
 
 def show_ages(office, folder, held):
@@ -582,29 +883,61 @@ def show_ages(office, folder, held):
     office.load("AGE", newer)
     before = office.state()
     office.shows(
-        "an older honest export is refused as such", 2, "^AGE: refused: this export was fetched at .*, and one of .* was loaded before$", "AGE", older
+        "an older honest export is refused as such",
+        2,
+        "^AGE: refused: this export was fetched at .*, and one of .* was loaded before$",
+        "AGE",
+        older,
     )
-    same("  and is an open finding", (["older|loads"], ["open"]), (refusals(office, "AGE"), passing(office, "AGE")))
+    same(
+        "  and is an open finding",
+        (["older|loads"], ["open"]),
+        (refusals(office, "AGE"), passing(office, "AGE")),
+    )
     same("  and changes nothing", before, office.state())
-    office.shows("the same export again is none", 0, "^AGE: records 40, added 0, findings 0", "AGE", newer)
+    office.shows(
+        "the same export again is none", 0, "^AGE: records 40, added 0, findings 0", "AGE", newer
+    )
     same("  and makes up for it", ["made up"], passing(office, "AGE"))
-    status, said = office.cluster.run([f"{PARTS}/load", "--fetched", "2020-01-01T00:00:00Z", "AGE", newer], user=LOADER)
-    case("the moment may be said", status == 2 and "refused: this export was fetched at 2020-01-01" in said, said)
+    status, said = office.cluster.run(
+        [f"{PARTS}/load", "--fetched", "2020-01-01T00:00:00Z", "AGE", newer], user=LOADER
+    )
+    case(
+        "the moment may be said",
+        status == 2 and "refused: this export was fetched at 2020-01-01" in said,
+        said,
+    )
     # one that overtakes: the older one waits for the newer one
     office.register("RACE", "RACE1")
     book = Book("RACE1", age=3_600).fill(40)
     older, newer = book.write(f"{folder}/older.csv", 30), book.write(f"{folder}/newer.csv", 40)
     with open(newer, "rb") as it:
-        process = held(office, folder, "RACE", it.read(), fetched=time.strftime("%Y-%m-%dT%H:%M:%SZ", time.gmtime(os.stat(newer).st_mtime)))
+        process = held(
+            office,
+            folder,
+            "RACE",
+            it.read(),
+            fetched=time.strftime("%Y-%m-%dT%H:%M:%SZ", time.gmtime(os.stat(newer).st_mtime)),
+        )
     second = subprocess.Popen(
-        [f"{PARTS}/load", "RACE", older], env=office.cluster.environment(LOADER), stdout=subprocess.PIPE, stderr=subprocess.STDOUT, text=True
+        [f"{PARTS}/load", "RACE", older],
+        env=office.cluster.environment(LOADER),
+        stdout=subprocess.PIPE,
+        stderr=subprocess.STDOUT,
+        text=True,
     )
     time.sleep(0.7)
     case("an export that was overtaken waits", second.poll() is None)
     open(f"{folder}/goes_on", "w").close()
     process.wait(60)
     said = second.communicate(timeout=60)[0]
-    case("  and is refused as older", second.returncode == 2 and "was loaded before" in said and findings(office, "RACE", "what") == ["not loaded"], said)
+    case(
+        "  and is refused as older",
+        second.returncode == 2
+        and "was loaded before" in said
+        and findings(office, "RACE", "what") == ["not loaded"],
+        said,
+    )
     # a bridge whose clock is ahead
     office.shows(
         "an export of the future",
@@ -619,15 +952,26 @@ def show_ages(office, folder, held):
     office.load("CUT", book.write(f"{folder}/t.csv", 40))
     with open(book.write(f"{folder}/t.csv", 45)) as it:
         text = it.read()
-    for name, cut in (("in its last column", text[:-20] + "\n"), ("at the end of its last column but one", text[: text.rindex(",") + 1] + "\n")):
+    for name, cut in (
+        ("in its last column", text[:-20] + "\n"),
+        ("at the end of its last column but one", text[: text.rindex(",") + 1] + "\n"),
+    ):
         with open(f"{folder}/t.csv", "w") as it:
             it.write(cut)
         office.shows(
-            f"an export that is cut {name} is told as such", 2, "^CUT: refused: the export is cut off in its last line$", "CUT", f"{folder}/t.csv"
+            f"an export that is cut {name} is told as such",
+            2,
+            "^CUT: refused: the export is cut off in its last line$",
+            "CUT",
+            f"{folder}/t.csv",
         )
     same("  and the entry is no finding", ["refused"], findings(office, "CUT", "what"))
     office.shows(
-        "whole again, it is taken", 0, "^CUT: records 45, added 5, findings 0", "CUT", book.write(f"{folder}/t.csv", 45, fetched=time.time())
+        "whole again, it is taken",
+        0,
+        "^CUT: records 45, added 5, findings 0",
+        "CUT",
+        book.write(f"{folder}/t.csv", 45, fetched=time.time()),
     )
     office.shows(
         "an empty export is told as such",
@@ -638,7 +982,11 @@ def show_ages(office, folder, held):
     )
     same("  and nothing is early", ["refused", "refused"], findings(office, "CUT", "what"))
     office.shows(
-        "and the next whole one is as ever", 0, "^CUT: records 45, added 0, findings 0", "CUT", book.write(f"{folder}/t.csv", 45, fetched=time.time())
+        "and the next whole one is as ever",
+        0,
+        "^CUT: records 45, added 0, findings 0",
+        "CUT",
+        book.write(f"{folder}/t.csv", 45, fetched=time.time()),
     )
     # what was purged whole may be empty
     office.register("PURGE", "PURGE1")
@@ -662,17 +1010,29 @@ def show_named(office, folder):
         office.load(name, book.write(f"{folder}/t.csv"))
         change(book)
         office.load(name, book.write(f"{folder}/t.csv", fetched=time.time()))
-        same(f"{wanted}", [wanted], findings(office, name, "what || ' ' || first || coalesce('-' || nullif(last, first), '')"))
+        same(
+            f"{wanted}",
+            [wanted],
+            findings(
+                office, name, "what || ' ' || first || coalesce('-' || nullif(last, first), '')"
+            ),
+        )
 
     now = int(time.time())
-    shows("AHEAD", "ahead 31-32", lambda it: it.add("single", "F-1", moment=now + 3_600).add("single", "F-2"))
+    shows(
+        "AHEAD",
+        "ahead 31-32",
+        lambda it: it.add("single", "F-1", moment=now + 3_600).add("single", "F-2"),
+    )
     shows("OVER", "out of range 31", lambda it: it.add("single", "F-1", 60_200))
     shows("OFF", "out of range 31", lambda it: it.add("single", "F-1", 20_010))
     shows("TARE", "out of range 31", lambda it: it.add("single", "F-1", 20_000, preset=26_000))
     same(
         "  a preset tare above the gross, whose net is below zero",
         "31,preset,F-1,,20000,26000,-6000",
-        office.reads("SELECT regexp_replace(line, ',20[^,]*:[^,]*', '') FROM head_office.ticket_line WHERE bridge = 'TARE' AND ticket = 31"),
+        office.reads(
+            "SELECT regexp_replace(line, ',20[^,]*:[^,]*', '') FROM head_office.ticket_line WHERE bridge = 'TARE' AND ticket = 31"
+        ),
     )
     shows("EVEN", "out of range 31", lambda it: it.add("single", "F-1", 20_000, preset=20_000))
     shows("OPEN", "open twice 32", lambda it: it.add("first", "F-1").add("first", "F-1"))
@@ -691,14 +1051,26 @@ def show_named(office, folder):
     same("  once, where it changed", ["setup|31|31"], findings(office, "SETUP"))
     # Max + 9 e is in range
     office.register("EDGE", "EDGE1")
-    office.shows("Max + 9 e is in range", 0, "added 1, findings 0", "EDGE", Book("EDGE1").add("single", "F-1", 60_180).write(f"{folder}/t.csv"))
+    office.shows(
+        "Max + 9 e is in range",
+        0,
+        "added 1, findings 0",
+        "EDGE",
+        Book("EDGE1").add("single", "F-1", 60_180).write(f"{folder}/t.csv"),
+    )
     # dated before the last load, which lacked it
     office.register("BACK", "BACK1")
     book = Book("BACK1", age=7_200).fill(30)
     office.load("BACK", book.write(f"{folder}/t.csv", fetched=book.moment + 3_600))
-    book.add("single", "F-1").add("single", "F-2").add("single", "F-3", moment=int(time.time()) - 10)
+    book.add("single", "F-1").add("single", "F-2").add(
+        "single", "F-3", moment=int(time.time()) - 10
+    )
     office.shows(
-        "entries dated before the last load, which lacked them", 1, "^dated back 31-32: ", "BACK", book.write(f"{folder}/t.csv", fetched=time.time())
+        "entries dated before the last load, which lacked them",
+        1,
+        "^dated back 31-32: ",
+        "BACK",
+        book.write(f"{folder}/t.csv", fetched=time.time()),
     )
     same("  as one", ["dated back|31|32"], findings(office, "BACK"))
     # the same journal under two names
@@ -706,8 +1078,17 @@ def show_named(office, folder):
         office.register(name, f"{name}1")
     book = Book("NAME1").fill(12)
     office.load("NAME", book.write(f"{folder}/t.csv"))
-    office.cluster.told("DELETE FROM head_office.instrument WHERE serial = 'NAME1'", "INSERT INTO head_office.instrument VALUES ('NAME1', 'ALIAS')")
-    office.shows("a journal that stands under two names", 1, "^two names 1: journal [0-9]+ of NAME has this entry$", "ALIAS", f"{folder}/t.csv")
+    office.cluster.told(
+        "DELETE FROM head_office.instrument WHERE serial = 'NAME1'",
+        "INSERT INTO head_office.instrument VALUES ('NAME1', 'ALIAS')",
+    )
+    office.shows(
+        "a journal that stands under two names",
+        1,
+        "^two names 1: journal [0-9]+ of NAME has this entry$",
+        "ALIAS",
+        f"{folder}/t.csv",
+    )
     same("  once", ["two names|1|1"], findings(office, "ALIAS"))
     # brought over, and not registered as a follower
     office.register("ALONE", "ALONE1")
@@ -719,7 +1100,12 @@ def show_named(office, folder):
     status, said = office.load("ALONE", book.write(f"{folder}/t.csv", fetched=time.time()))
     case(
         "a journal that was brought over without a follower",
-        status == 1 and re.search("^no follower 1: journal [0-9]+ of ALONE has this entry with another digest$", said, re.M),
+        status == 1
+        and re.search(
+            "^no follower 1: journal [0-9]+ of ALONE has this entry with another digest$",
+            said,
+            re.M,
+        ),
         said,
     )
     # retention that was lowered
@@ -728,14 +1114,26 @@ def show_named(office, folder):
         "UPDATE head_office.bridge SET retention_days = 200 WHERE bridge = 'LOWER'",
         "UPDATE head_office.bridge SET retention_days = 30 WHERE bridge = 'LOWER'",
     )
-    same("a retention that was lowered, and by whom", ["lowered|from 200 to 30 days, by registers"], findings(office, "LOWER", "what, record"))
+    same(
+        "a retention that was lowered, and by whom",
+        ["lowered|from 200 to 30 days, by registers"],
+        findings(office, "LOWER", "what, record"),
+    )
     # places
     office.register("FULL", "FULL1")
     office.told("UPDATE head_office.bridge SET places = 30 WHERE bridge = 'FULL'")
     book = Book("FULL1").fill(24)
-    office.shows("24 of 30 places", 0, "added 24, findings 0", "FULL", book.write(f"{folder}/t.csv"))
+    office.shows(
+        "24 of 30 places", 0, "added 24, findings 0", "FULL", book.write(f"{folder}/t.csv")
+    )
     book.add("first", "F-1").add("first", "F-2")
-    office.shows("and 28, with two open Firsts", 1, "^nearly full: 28 of 30 places are taken$", "FULL", book.write(f"{folder}/t.csv"))
+    office.shows(
+        "and 28, with two open Firsts",
+        1,
+        "^nearly full: 28 of 30 places are taken$",
+        "FULL",
+        book.write(f"{folder}/t.csv"),
+    )
     book.add("void", "F-1")
     office.shows("  are said once", 0, "new 0$", "FULL", book.write(f"{folder}/t.csv"))
     same(
@@ -756,7 +1154,11 @@ def differences(office):
 
 def show_sums(office, folder):
     """Sums and open vehicles beside what the entries say, after each kind of change."""
-    same("after all that was loaded until now the sums are what the entries say", "", differences(office))
+    same(
+        "after all that was loaded until now the sums are what the entries say",
+        "",
+        differences(office),
+    )
     office.register("SUM", "SUM1")
     book = Book("SUM1", age=40 * DAY, step=40_000)
     for plate, kind in (
@@ -779,23 +1181,44 @@ def show_sums(office, folder):
         ("A", "second"),
     ):
         book.add(kind, plate, 10_000 + 20 * len(book.rows) ** 2)
-    totals = "SELECT count(*), sum(tickets), sum(net_kg) FROM head_office.day_total WHERE bridge = 'SUM'"
+    totals = (
+        "SELECT count(*), sum(tickets), sum(net_kg) FROM head_office.day_total WHERE bridge = 'SUM'"
+    )
     office.load("SUM", book.write(f"{folder}/t.csv", 16, without=(1, 4, 5, 6, 9, 13, 14)))
     before = office.reads(totals)
     same("with gaps", "", differences(office))
     open_now = "SELECT string_agg(plate || number, ' ' ORDER BY plate) FROM head_office.on_site WHERE bridge = 'SUM'"
-    for without in ((1, 4, 5, 6, 13, 14), (1, 4, 5, 13, 14), (1, 4, 13, 14), (1, 4, 13), (1, 4), (1,)):
+    for without in (
+        (1, 4, 5, 6, 13, 14),
+        (1, 4, 5, 13, 14),
+        (1, 4, 13, 14),
+        (1, 4, 13),
+        (1, 4),
+        (1,),
+    ):
         office.load("SUM", book.write(f"{folder}/t.csv", 16, without=without, fetched=time.time()))
-        same(f"a missing entry that comes late, before {len(without)} others", "", differences(office))
+        same(
+            f"a missing entry that comes late, before {len(without)} others",
+            "",
+            differences(office),
+        )
     office.load("SUM", book.write(f"{folder}/t.csv", 17, fetched=time.time()))
     same("and the last one, with a new Second of the same plate", "", differences(office))
-    same("  and they have changed", (before != office.reads(totals), "D9"), (True, office.reads(open_now)))
+    same(
+        "  and they have changed",
+        (before != office.reads(totals), "D9"),
+        (True, office.reads(open_now)),
+    )
     bad = Book("SUM1", age=40 * DAY, step=40_000)
     bad.rows = [dict(row) for row in book.rows]
     bad.add("second", "D", 8_000)
     bad.change(18, gross=9_000)
     office.load("SUM", bad.write(f"{folder}/t.csv", fetched=time.time()))
-    same("an entry that is unsound isn't counted", ("", "D9"), (differences(office), office.reads(open_now)))
+    same(
+        "an entry that is unsound isn't counted",
+        ("", "D9"),
+        (differences(office), office.reads(open_now)),
+    )
     bad.change(18, gross=8_000)
     office.load("SUM", bad.write(f"{folder}/t.csv", fetched=time.time()))
     same("and is, once a sound one comes", ("", ""), (differences(office), office.reads(open_now)))
@@ -809,20 +1232,37 @@ def show_sums(office, folder):
     book.rows[0]["own_previous"] = "0" * 63 + "1"
     book.chain().fill(6)
     office.load("LATER", book.write(f"{folder}/t.csv", fetched=time.time()))
-    same("a journal that was brought over, and isn't registered as such yet", "", differences(office))
-    office.told("INSERT INTO head_office.follower SELECT 'LATER', max(journal), min(journal) FROM head_office.journal WHERE bridge = 'LATER'")
-    same("and is now", ("", "24"), (differences(office), office.reads("SELECT sum(tickets) FROM head_office.day_total WHERE bridge = 'LATER'")))
+    same(
+        "a journal that was brought over, and isn't registered as such yet", "", differences(office)
+    )
+    office.told(
+        "INSERT INTO head_office.follower SELECT 'LATER', max(journal), min(journal) FROM head_office.journal WHERE bridge = 'LATER'"
+    )
+    same(
+        "and is now",
+        ("", "24"),
+        (
+            differences(office),
+            office.reads("SELECT sum(tickets) FROM head_office.day_total WHERE bridge = 'LATER'"),
+        ),
+    )
     office.cluster.told(
         "UPDATE head_office.day_sum SET net_kg = net_kg + 20 WHERE bridge = 'SUM' AND day = (SELECT min(day) FROM head_office.day_sum WHERE bridge = 'SUM')",
         "INSERT INTO head_office.open_entry SELECT journal, 'X', 1, now(), 20 FROM head_office.journal WHERE bridge = 'SUM'",
     )
-    case("a sum and an open vehicle that were changed by hand are seen", len(differences(office).split("\n")) == 2, differences(office))
+    case(
+        "a sum and an open vehicle that were changed by hand are seen",
+        len(differences(office).split("\n")) == 2,
+        differences(office),
+    )
     office.cluster.told("SELECT head_office.rebuild_sums('SUM')")
     same("  and made anew", "", differences(office))
 
 
 def show_changes(office, folder):
-    rows = office.reads("SELECT of_table, count(*) > 0, min(by) FROM head_office.change WHERE by = 'registers' GROUP BY of_table ORDER BY of_table")
+    rows = office.reads(
+        "SELECT of_table, count(*) > 0, min(by) FROM head_office.change WHERE by = 'registers' GROUP BY of_table ORDER BY of_table"
+    )
     same(
         "who registered what is written down",
         "bridge|t|registers\nfollower|t|registers\ninstrument|t|registers\njournal|t|registers\nloader|t|registers",
@@ -839,9 +1279,14 @@ def show_changes(office, folder):
     same(
         "  and what was taken away",
         "nobodys|t",
-        office.reads("SELECT was ->> 'login', is_now IS NULL FROM head_office.change WHERE of_table = 'loader' ORDER BY change DESC LIMIT 1"),
+        office.reads(
+            "SELECT was ->> 'login', is_now IS NULL FROM head_office.change WHERE of_table = 'loader' ORDER BY change DESC LIMIT 1"
+        ),
     )
-    for user, words in ((REGISTRAR, "permission denied"), (clusters.OWNER, "change is never changed")):
+    for user, words in (
+        (REGISTRAR, "permission denied"),
+        (clusters.OWNER, "change is never changed"),
+    ):
         status, said = office.cluster.ask("DELETE FROM head_office.change", user=user)
         case(f"{user} takes none of it away", status and words in said, said)
 
@@ -851,7 +1296,19 @@ def show_upgrade(office, folder, loaded_by_1):
     cluster = office.cluster
     cluster.told("CREATE DATABASE four", database="postgres")
     for number in range(1, 5):
-        cluster.run(["psql", "-X", "-q", "-v", "ON_ERROR_STOP=1", "--single-transaction", "-f", f"{PARTS}/schema/{number}.sql"], database="four")
+        cluster.run(
+            [
+                "psql",
+                "-X",
+                "-q",
+                "-v",
+                "ON_ERROR_STOP=1",
+                "--single-transaction",
+                "-f",
+                f"{PARTS}/schema/{number}.sql",
+            ],
+            database="four",
+        )
     books = {}
     for name in ("ONE", "TWO", "TARE", "GAP"):
         cluster.told(
@@ -865,9 +1322,17 @@ def show_upgrade(office, folder, loaded_by_1):
         books[name] = Book(f"{name}1", age=20 * DAY, step=5_000).fill(301)
         loaded_by_1(office, name, books[name].write(f"{folder}/four.csv"), "four", ", previous")
     # version 4 showed a net below zero without its sign
-    loaded_by_1(office, "TARE", Book("TARE1").add("single", "T-1", 20_000, preset=26_000).write(f"{folder}/four.csv"), "four", ", previous")
+    loaded_by_1(
+        office,
+        "TARE",
+        Book("TARE1").add("single", "T-1", 20_000, preset=26_000).write(f"{folder}/four.csv"),
+        "four",
+        ", previous",
+    )
     gap = Book("GAP1", age=20 * DAY, step=5_000).fill(60)
-    loaded_by_1(office, "GAP", gap.write(f"{folder}/four.csv", without=(29, 30)), "four", ", previous")
+    loaded_by_1(
+        office, "GAP", gap.write(f"{folder}/four.csv", without=(29, 30)), "four", ", previous"
+    )
     stored = "SELECT pg_relation_filenode('head_office.{0}'), pg_relation_filenode('head_office.{0}_pkey'), (SELECT count(*) FROM head_office.{0})"
     stands = cluster.told(stored.format("entry"), database="four")
     book = books["TWO"]
@@ -875,72 +1340,157 @@ def show_upgrade(office, folder, loaded_by_1):
     loaded_by_1(office, "TWO", book.write(f"{folder}/four.csv"), "four", ", previous")
     totals = "SELECT bridge, day, tickets, gross_kg, net_kg, brought_kg, taken_kg, preset_kg FROM head_office.day_total WHERE bridge <> 'TARE' ORDER BY 1, 2"
     site = "SELECT bridge, plate, number, gross_kg FROM head_office.on_site ORDER BY 1, 2"
-    before = [cluster.told(it, database="four") for it in (totals, site, "SELECT what, first FROM head_office.finding")]
+    before = [
+        cluster.told(it, database="four")
+        for it in (totals, site, "SELECT what, first FROM head_office.finding")
+    ]
     environment = cluster.environment(database="four")
-    both = [subprocess.Popen([f"{PARTS}/upgrade"], env=environment, stdout=subprocess.PIPE, stderr=subprocess.STDOUT, text=True) for _ in range(2)]
+    both = [
+        subprocess.Popen(
+            [f"{PARTS}/upgrade"],
+            env=environment,
+            stdout=subprocess.PIPE,
+            stderr=subprocess.STDOUT,
+            text=True,
+        )
+        for _ in range(2)
+    ]
     said = sorted(it.communicate(timeout=120)[0] for it in both)
     same(
         "two upgrades of version 4 at once: one makes it, the other waits",
-        (["the schema is of version 8\n", "version 5\nversion 6\nversion 7\nversion 8\nthe schema is of version 8\n"], [0, 0]),
+        (
+            [
+                "the schema is of version 8\n",
+                "version 5\nversion 6\nversion 7\nversion 8\nthe schema is of version 8\n",
+            ],
+            [0, 0],
+        ),
         (said, [it.returncode for it in both]),
     )
     same(
         "  totals, vehicles on site and findings are what they were",
         before,
-        [cluster.told(it, database="four") for it in (totals, site, "SELECT what, first FROM head_office.finding")],
+        [
+            cluster.told(it, database="four")
+            for it in (totals, site, "SELECT what, first FROM head_office.finding")
+        ],
     )
-    same("  and what the entries say", "", cluster.told("SELECT * FROM head_office.sum_difference", database="four"))
+    same(
+        "  and what the entries say",
+        "",
+        cluster.told("SELECT * FROM head_office.sum_difference", database="four"),
+    )
     same(
         "  and each constraint was held against all entries",
         "0",
         cluster.told("SELECT count(*) FROM pg_constraint WHERE NOT convalidated", database="four"),
     )
-    same("  the table of the entries wasn't written anew", stands, cluster.told(stored.format("entry_before"), database="four"))
+    same(
+        "  the table of the entries wasn't written anew",
+        stands,
+        cluster.told(stored.format("entry_before"), database="four"),
+    )
     indexes = "SELECT count(*) FROM pg_index WHERE indrelid = 'head_office.entry_before'::regclass"
     same("  nor has it an index twice", "4", cluster.told(indexes, database="four"))
     for added in (2, 0):
-        status, said = cluster.run([f"{PARTS}/load", "GAP", gap.write(f"{folder}/four.csv", fetched=time.time())], user=LOADER, database="four")
-        case(f"  of a Second and a Single that come late among them {added} are stored", status == 0 and f"records 60, added {added}, findings 0" in said, said)
-    same("  in the table of its year, and nowhere else", stands, cluster.told(stored.format("entry_before"), database="four"))
+        status, said = cluster.run(
+            [f"{PARTS}/load", "GAP", gap.write(f"{folder}/four.csv", fetched=time.time())],
+            user=LOADER,
+            database="four",
+        )
+        case(
+            f"  of a Second and a Single that come late among them {added} are stored",
+            status == 0 and f"records 60, added {added}, findings 0" in said,
+            said,
+        )
+    same(
+        "  in the table of its year, and nowhere else",
+        stands,
+        cluster.told(stored.format("entry_before"), database="four"),
+    )
     books["ONE"].fill(6)
     for name, path, status, pattern in (
-        ("ONE", books["ONE"].write(f"{folder}/four.csv", fetched=time.time()), 0, "added 6, findings 0"),
-        ("TWO", book.write(f"{folder}/five.csv", fetched=time.time()), 0, "added 0, findings 1, new 0"),
+        (
+            "ONE",
+            books["ONE"].write(f"{folder}/four.csv", fetched=time.time()),
+            0,
+            "added 6, findings 0",
+        ),
+        (
+            "TWO",
+            book.write(f"{folder}/five.csv", fetched=time.time()),
+            0,
+            "added 0, findings 1, new 0",
+        ),
     ):
         status_, said = cluster.run([f"{PARTS}/load", name, path], user=LOADER, database="four")
-        case(f"  {name} is loaded on, and nothing is found twice", status_ == status and pattern in said, said)
+        case(
+            f"  {name} is loaded on, and nothing is found twice",
+            status_ == status and pattern in said,
+            said,
+        )
     case(
         "  also by a bridge that wasn't brought to this version yet",
-        "records 307, added 0, findings 0" in loaded_by_1(office, "ONE", f"{folder}/four.csv", "four", ", previous"),
+        "records 307, added 0, findings 0"
+        in loaded_by_1(office, "ONE", f"{folder}/four.csv", "four", ", previous"),
     )
-    same("  what is kept of them is what the entries say", "", cluster.told("SELECT * FROM head_office.sum_difference", database="four"))
+    same(
+        "  what is kept of them is what the entries say",
+        "",
+        cluster.told("SELECT * FROM head_office.sum_difference", database="four"),
+    )
     show_copy_of_before(cluster, folder)
     same(
         "  each file is recorded by its checksum",
-        sorted(os.path.basename(it) for it in glob.glob(f"{PARTS}/schema/*.sql")) + ["functions.sql"],
-        cluster.told('SELECT name FROM head_office.applied_file ORDER BY name COLLATE "C"', database="four").split("\n"),
+        sorted(os.path.basename(it) for it in glob.glob(f"{PARTS}/schema/*.sql"))
+        + ["functions.sql"],
+        cluster.told(
+            'SELECT name FROM head_office.applied_file ORDER BY name COLLATE "C"', database="four"
+        ).split("\n"),
     )
     copy = f"{folder}/changed"
     shutil.copytree(PARTS, copy)
     with open(f"{copy}/functions.sql", "a") as it:
         it.write("-- one more line\n")
-    same("functions that changed are run again, and recorded", (0, "the schema is of version 8\n"), cluster.run([f"{copy}/upgrade"], database="four"))
+    same(
+        "functions that changed are run again, and recorded",
+        (0, "the schema is of version 8\n"),
+        cluster.run([f"{copy}/upgrade"], database="four"),
+    )
     with open(f"{copy}/functions.sql", "rb") as it:
         same(
             "  by their checksum",
             hashlib.sha256(it.read()).hexdigest(),
-            cluster.told("SELECT sha256 FROM head_office.applied_file WHERE name = 'functions.sql'", database="four"),
+            cluster.told(
+                "SELECT sha256 FROM head_office.applied_file WHERE name = 'functions.sql'",
+                database="four",
+            ),
         )
     with open(f"{copy}/schema/3.sql", "a") as it:
         it.write("-- one more line\n")
     status, said = cluster.run([f"{copy}/upgrade"], database="four")
-    case("a numbered file that isn't the one that was run is refused", status and "3.sql is not the file that was run here" in said, said)
+    case(
+        "a numbered file that isn't the one that was run is refused",
+        status and "3.sql is not the file that was run here" in said,
+        said,
+    )
     holder = subprocess.Popen(
-        ["psql", "-X", "-q", "-c", "SELECT pg_advisory_lock(hashtext('head_office upgrade')); SELECT pg_sleep(60)"],
+        [
+            "psql",
+            "-X",
+            "-q",
+            "-c",
+            "SELECT pg_advisory_lock(hashtext('head_office upgrade')); SELECT pg_sleep(60)",
+        ],
         env=environment,
         stdout=subprocess.DEVNULL,
     )
-    until(lambda: cluster.told("SELECT count(*) > 0 FROM pg_locks WHERE locktype = 'advisory'", database="four") == "t")
+    until(
+        lambda: cluster.told(
+            "SELECT count(*) > 0 FROM pg_locks WHERE locktype = 'advisory'", database="four"
+        )
+        == "t"
+    )
     status, said = cluster.run([f"{PARTS}/upgrade"], database="four")
     case(
         "an upgrade that waits for too long names who holds it up",
@@ -949,14 +1499,18 @@ def show_upgrade(office, folder, loaded_by_1):
     )
     holder.kill()
     holder.wait()
-    cluster.told("SELECT pg_terminate_backend(pid) FROM pg_stat_activity WHERE query LIKE '%head_office upgrade%' AND pid <> pg_backend_pid()")
+    cluster.told(
+        "SELECT pg_terminate_backend(pid) FROM pg_stat_activity WHERE query LIKE '%head_office upgrade%' AND pid <> pg_backend_pid()"
+    )
     # who is no superuser
     cluster.told("CREATE ROLE dba LOGIN CREATEROLE", database="postgres")
     cluster.told("CREATE DATABASE managed OWNER dba", database="postgres")
     status, said = cluster.run([f"{PARTS}/upgrade"], user="dba", database="managed")
     case(
         "the owner of a database who is no superuser makes the schema, and is told what a superuser has to do",
-        status == 0 and "the schema is of version 8" in said and "REVOKE EXECUTE ON FUNCTION lo_creat" in said,
+        status == 0
+        and "the schema is of version 8" in said
+        and "REVOKE EXECUTE ON FUNCTION lo_creat" in said,
         said,
     )
     same("  and again", 0, cluster.run([f"{PARTS}/upgrade"], user="dba", database="managed")[0])
@@ -968,8 +1522,16 @@ def show_upgrade(office, folder, loaded_by_1):
         user="dba",
         database="managed",
     )
-    status, said = cluster.run([f"{PARTS}/load", "M", Book("M1").fill(6).write(f"{folder}/m.csv")], user=LOADER, database="managed")
-    case("  and it is loaded", (status, said) == (0, "M: records 6, added 6, findings 0, new 0\n"), said)
+    status, said = cluster.run(
+        [f"{PARTS}/load", "M", Book("M1").fill(6).write(f"{folder}/m.csv")],
+        user=LOADER,
+        database="managed",
+    )
+    case(
+        "  and it is loaded",
+        (status, said) == (0, "M: records 6, added 6, findings 0, new 0\n"),
+        said,
+    )
 
 
 def show_copy_of_before(cluster, folder):
@@ -983,12 +1545,19 @@ def show_copy_of_before(cluster, folder):
         before = glob.glob(f"{kept}/entries-before-*.csv.gz")
         files.append([(it, os.stat(it).st_mtime_ns) for it in before])
         time.sleep(1.1)
-    case("  what stood before there were tables of years is copied once", status == 0 and len(files[0]) == 1 and files[0] == files[1], (said, files))
+    case(
+        "  what stood before there were tables of years is copied once",
+        status == 0 and len(files[0]) == 1 and files[0] == files[1],
+        (said, files),
+    )
     cluster.told("CREATE DATABASE four_again", database="postgres")
     status, said = cluster.run([f"{PARTS}/restore", lists[-1], "four_again"])
     case("  and restored", status == 0 and " 0 of them unsound; 0 sums that differ" in said, said)
     query = "SELECT md5(string_agg(e::text, '|' ORDER BY journal, number)), count(DISTINCT tableoid) FROM head_office.entry e"
-    same("  with the same entries in the same tables", *(cluster.told(query, database=it) for it in ("four", "four_again")))
+    same(
+        "  with the same entries in the same tables",
+        *(cluster.told(query, database=it) for it in ("four", "four_again")),
+    )
     status, said = cluster.ask("DELETE FROM head_office.entry_before", database="four_again")
     case("  which is read-only there too", status and "entry_before is never changed" in said, said)
 
@@ -1015,38 +1584,88 @@ def show_years(office, folder, held):
     def years(*those):
         return " ".join(str(one) for one in those)
 
-    same("a new head office has the tables of this year and the next one", years(now, now + 1, "before"), tables())
-    same("  and no query is held against the constraints of each", "off", told("SHOW constraint_exclusion"))
+    same(
+        "a new head office has the tables of this year and the next one",
+        years(now, now + 1, "before"),
+        tables(),
+    )
+    same(
+        "  and no query is held against the constraints of each",
+        "off",
+        told("SHOW constraint_exclusion"),
+    )
     it.register("OLD", "OLD1", 3650)
     book = Book("OLD1", step=3_600)
     for moment in (moment_of(now - 6), moment_of(now - 3)):
         book.moment = moment
         book.fill(6)
-    book.add("first", "N-1", 9_000, moment=moment_of(now - 3, "12-31") + DAY - 1).add("second", "N-1", 20_000, moment=moment_of(now - 2, "01-01"))
+    book.add("first", "N-1", 9_000, moment=moment_of(now - 3, "12-31") + DAY - 1).add(
+        "second", "N-1", 20_000, moment=moment_of(now - 2, "01-01")
+    )
     book.moment = int(time.time()) - DAY
     book.fill(4)
     status, said = it.load("OLD", book.write(path, without=(4, 5)))
     made = years(now - 6, now - 3, now - 2, now, now + 1, "before")
-    case("a load makes the tables of the years that it brings entries of", (status, tables()) == (1, made), (said, tables()))
-    same("a First of one year and its Second of the next are a pair", "14|13", told("SELECT ticket, first FROM head_office.ticket WHERE plate = 'N-1'", READER))
+    case(
+        "a load makes the tables of the years that it brings entries of",
+        (status, tables()) == (1, made),
+        (said, tables()),
+    )
+    same(
+        "a First of one year and its Second of the next are a pair",
+        "14|13",
+        told("SELECT ticket, first FROM head_office.ticket WHERE plate = 'N-1'", READER),
+    )
     status, said = it.load("OLD", book.write(path, fetched=time.time()))
-    case("entries of a year that is over are taken in late", (status, said) == (0, "OLD: records 18, added 2, findings 0, new 0\n"), said)
-    same("  into the table of their year", "6", told(f"SELECT count(*) FROM head_office.entry_{now - 6}"))
+    case(
+        "entries of a year that is over are taken in late",
+        (status, said) == (0, "OLD: records 18, added 2, findings 0, new 0\n"),
+        said,
+    )
+    same(
+        "  into the table of their year",
+        "6",
+        told(f"SELECT count(*) FROM head_office.entry_{now - 6}"),
+    )
     differ = "SELECT bridge, what FROM head_office.sum_difference"
     same("  and what is kept of sums and years is what the entries say", "", told(differ))
 
     state = "SELECT md5(string_agg(e::text, '|' ORDER BY number)) FROM head_office.entry e"
     before = told(state)
     for table in (f"entry_{now - 6}", f"entry_{now}", "entry"):
-        for what in ("UPDATE {} SET gross_kg = gross_kg + 20", "DELETE FROM {}", "TRUNCATE {}", "INSERT INTO {} SELECT * FROM head_office.entry LIMIT 1", "COPY {} FROM '/dev/null'"):
+        for what in (
+            "UPDATE {} SET gross_kg = gross_kg + 20",
+            "DELETE FROM {}",
+            "TRUNCATE {}",
+            "INSERT INTO {} SELECT * FROM head_office.entry LIMIT 1",
+            "COPY {} FROM '/dev/null'",
+        ):
             statement, refused = what.format(f"head_office.{table}"), []
-            for login, role in ((LOADER, LOADER), (READER, READER), (REGISTRAR, REGISTRAR), (clusters.OWNER, clusters.OWNER), (clusters.OWNER, "head_office")):
-                status, said = it.cluster.ask(f"SET ROLE {role}", statement, user=login, database=it.name)
-                words = "permission denied|must be superuser" if login != clusters.OWNER else "must be superuser|is never changed|is stored by a load alone"
+            for login, role in (
+                (LOADER, LOADER),
+                (READER, READER),
+                (REGISTRAR, REGISTRAR),
+                (clusters.OWNER, clusters.OWNER),
+                (clusters.OWNER, "head_office"),
+            ):
+                status, said = it.cluster.ask(
+                    f"SET ROLE {role}", statement, user=login, database=it.name
+                )
+                words = (
+                    "permission denied|must be superuser"
+                    if login != clusters.OWNER
+                    else "must be superuser|is never changed|is stored by a load alone"
+                )
                 refused.append(bool(status and re.search(words, said)))
-            case(f"nobody, the owner neither, may: {statement.replace(str(now - 6), 'YEAR_THAT_IS_OVER').replace(str(now), 'THIS_YEAR')}", all(refused), (refused, said))
+            case(
+                f"nobody, the owner neither, may: {statement.replace(str(now - 6), 'YEAR_THAT_IS_OVER').replace(str(now), 'THIS_YEAR')}",
+                all(refused),
+                (refused, said),
+            )
     same("  and nothing was changed by that", before, told(state))
-    status, said = it.cluster.ask(f"DROP TABLE head_office.entry_{now - 6}", user=LOADER, database=it.name)
+    status, said = it.cluster.ask(
+        f"DROP TABLE head_office.entry_{now - 6}", user=LOADER, database=it.name
+    )
     case("  nor drop one, but the owner", status and "must be owner" in said, said)
 
     # one number, one entry, over all years
@@ -1057,7 +1676,9 @@ def show_years(office, folder, held):
     numbers = "SELECT count(*), count(DISTINCT number) FROM head_office.entry JOIN head_office.journal USING (journal) WHERE bridge = 'OLD'"
     case(
         "a stored number in another year is a finding, and no second row",
-        status == 1 and "\ndiffers 3-18: 3,K3," in said and (told(numbers), tables()) == ("18|18", made),
+        status == 1
+        and "\ndiffers 3-18: 3,K3," in said
+        and (told(numbers), tables()) == ("18|18", made),
         (said, told(numbers), tables()),
     )
     same("  nor is any other", before, told(state))
@@ -1070,12 +1691,20 @@ def show_years(office, folder, held):
     with open(twice, "a") as out:
         out.writelines(lines)
     status, said = it.load("OLD", twice)
-    case("a new number that stands in two years is refused", status == 2 and "a number stands twice in the export" in said, said)
+    case(
+        "a new number that stands in two years is refused",
+        status == 2 and "a number stands twice in the export" in said,
+        said,
+    )
     same("  and no table is made for it", (before, made), (told(state), tables()))
     book.moment, book.step = int(time.time()) - 5, 1
     book.add("single", "K-1", key="K1")
     status, said = it.load("OLD", book.write(path, fetched=time.time()))
-    case("a key of another year is found", status == 1 and "\nkey again 19: key K1 of number 1\n" in said, said)
+    case(
+        "a key of another year is found",
+        status == 1 and "\nkey again 19: key K1 of number 1\n" in said,
+        said,
+    )
 
     # moments that are of no year
     it.register("ODD", "ODD1", 3650)
@@ -1087,18 +1716,32 @@ def show_years(office, folder, held):
     status, said = it.load("ODD", book.write(path, fetched=time.time()))
     case(
         f"entries of {len(odd)} years that can't be are stored in one table, and are findings",
-        (status, tables()) == (1, f"{made} misdated") and f"added {len(odd)}," in said and "\nahead 3-42: " in said,
+        (status, tables()) == (1, f"{made} misdated")
+        and f"added {len(odd)}," in said
+        and "\nahead 3-42: " in said,
         (said[:500], tables()),
     )
     case("  an unsound one makes no table", "\nunsound 43: 43,K43," in said, said)
-    same("  loaded again they are known", (0, "ODD: records 43, added 0, findings 1, new 0\n"), it.load("ODD", book.write(path, fetched=time.time())))
+    same(
+        "  loaded again they are known",
+        (0, "ODD: records 43, added 0, findings 1, new 0\n"),
+        it.load("ODD", book.write(path, fetched=time.time())),
+    )
     same("  and what is kept is what the entries say", "", told(differ))
     most = "SELECT count(DISTINCT head_office.year_of(timestamp '0001-01-01' + n * interval '1 year', head_office.next_year())) FROM generate_series(0, 9998) n"
-    same("there are at most so many tables as years since 2000, and one more", str(now - 2000 + 2), told(most))
+    same(
+        "there are at most so many tables as years since 2000, and one more",
+        str(now - 2000 + 2),
+        told(most),
+    )
 
     # two loads that need the same table, of which one isn't ended
     exports = {}
-    for name, begin in (("TURN", moment_of(now - 2)), ("TURNS", moment_of(now - 2)), ("SAME", int(time.time()) - DAY)):
+    for name, begin in (
+        ("TURN", moment_of(now - 2)),
+        ("TURNS", moment_of(now - 2)),
+        ("SAME", int(time.time()) - DAY),
+    ):
         office.register(name, f"{name}1", 3650)
         book = Book(f"{name}1", step=60)
         book.moment = begin
@@ -1106,18 +1749,52 @@ def show_years(office, folder, held):
     with open(exports["TURN"], "rb") as given:
         process = held(office, folder, "TURN", given.read())
     words = [f"{PARTS}/load", "TURNS", exports["TURNS"]]
-    second = subprocess.Popen(words, env=office.cluster.environment(LOADER), stdout=subprocess.PIPE, stderr=subprocess.STDOUT, text=True)
+    second = subprocess.Popen(
+        words,
+        env=office.cluster.environment(LOADER),
+        stdout=subprocess.PIPE,
+        stderr=subprocess.STDOUT,
+        text=True,
+    )
     time.sleep(0.7)
     case("a load waits for the table that another one makes", second.poll() is None)
-    office.shows("  and none that needs another", 0, "^SAME: records 6, added 6, findings 0", "SAME", exports["SAME"])
-    case("  nor a reader", int(office.reads("SELECT count(*) FROM head_office.ticket WHERE at > now() - interval '2 days'")) > 0)
+    office.shows(
+        "  and none that needs another",
+        0,
+        "^SAME: records 6, added 6, findings 0",
+        "SAME",
+        exports["SAME"],
+    )
+    case(
+        "  nor a reader",
+        int(
+            office.reads(
+                "SELECT count(*) FROM head_office.ticket WHERE at > now() - interval '2 days'"
+            )
+        )
+        > 0,
+    )
     said = second.communicate(timeout=30)[0]
-    same("  and does without it, if that one doesn't end", (0, None, "TURNS: records 6, added 6, findings 0, new 0\n"), (second.returncode, process.poll(), said))
+    same(
+        "  and does without it, if that one doesn't end",
+        (0, None, "TURNS: records 6, added 6, findings 0, new 0\n"),
+        (second.returncode, process.poll(), said),
+    )
     open(f"{folder}/goes_on", "w").close()
     process.wait(60)
     stands = "SELECT bridge, e.tableoid::regclass, count(*) FROM head_office.entry e JOIN head_office.journal USING (journal) WHERE bridge ~ '^TURN' GROUP BY 1, 2 ORDER BY 1"
-    same("  each stands in one table", f"TURN|head_office.entry_{now - 2}|6\nTURNS|head_office.entry_before|6", office.reads(stands))
-    office.shows("  loaded again it is known there", 0, "^TURNS: records 6, added 0, findings 0", "TURNS", exports["TURNS"])
+    same(
+        "  each stands in one table",
+        f"TURN|head_office.entry_{now - 2}|6\nTURNS|head_office.entry_before|6",
+        office.reads(stands),
+    )
+    office.shows(
+        "  loaded again it is known there",
+        0,
+        "^TURNS: records 6, added 0, findings 0",
+        "TURNS",
+        exports["TURNS"],
+    )
 
 
 # ---- for people ------------------------------------------------------------------------------------------------------------------------
@@ -1139,31 +1816,51 @@ def show_pages(office, folder):
         status, page = it.run([f"{PARTS}/report"])
         taken = time.monotonic() - began
         names = re.findall(r"<strong>(B\d+)</strong>", page)
-        same(f"a page of {count} bridges has a small plot of each, in natural order", [f"B{n}" for n in range(1, count + 1)], names)
+        same(
+            f"a page of {count} bridges has a small plot of each, in natural order",
+            [f"B{n}" for n in range(1, count + 1)],
+            names,
+        )
         rows = re.findall(r"<tr><td>(B\d+)</td><td class=\"n\">100</td>", page)
         same("  and their totals", names, rows)
         case("  and is made in less than three seconds", status == 0 and taken < 3, taken)
-    case("thousands are apart", '<td class="n">1,234,567</td>' in page and ">246,913,400</td>" in page)
+    case(
+        "thousands are apart",
+        '<td class="n">1,234,567</td>' in page and ">246,913,400</td>" in page,
+    )
     case(
         "nothing is told as none, and what is of now stands under a heading that says so",
         page.count("<p>none</p>") == 4
-        and re.search(r"<h2>Now, \d{4}-\d\d-\d\d \d\d:\d\d \w+</h2>\n<h3>Findings that nobody has acknowledged</h3>\n<p>none</p>", page),
+        and re.search(
+            r"<h2>Now, \d{4}-\d\d-\d\d \d\d:\d\d \w+</h2>\n<h3>Findings that nobody has acknowledged</h3>\n<p>none</p>",
+            page,
+        ),
         page[2000:3000],
     )
     page = office.cluster.run([f"{PARTS}/report"], user=READER)[1]
     case(
         "a digest is shortened, with the whole in a title",
-        re.search(r'<span title="([0-9a-f]{8})([0-9a-f]{56})">\1…</span>', page) and not re.search(r">[^<]*[0-9a-f]{64}", page),
+        re.search(r'<span title="([0-9a-f]{8})([0-9a-f]{56})">\1…</span>', page)
+        and not re.search(r">[^<]*[0-9a-f]{64}", page),
     )
     found = re.findall(r"<dt>(.*?)</dt>", page)
-    case("what is to be done is told once of each kind of finding", found and len(set(found)) == len(found) and set(re.findall(r'<td title="[^"]*">([a-z ]+)</td>', page)) <= set(found), found)
+    case(
+        "what is to be done is told once of each kind of finding",
+        found
+        and len(set(found)) == len(found)
+        and set(re.findall(r'<td title="[^"]*">([a-z ]+)</td>', page)) <= set(found),
+        found,
+    )
     show_widths(folder, {"200 bridges": it.run([f"{PARTS}/report"])[1], "findings": page})
 
 
 def show_widths(folder, pages):
     """Each page in a browser, on a phone and on a screen: nothing but a table of its own scrolls sideways."""
     if not (shutil.which("chromedriver") and shutil.which("chromium")):
-        print("skip   the page in a browser: chromium and chromium-driver aren't installed", flush=True)
+        print(
+            "skip   the page in a browser: chromium and chromium-driver aren't installed",
+            flush=True,
+        )
         return
     with socket.socket() as it:
         it.bind(("127.0.0.1", 0))
@@ -1184,7 +1881,9 @@ def show_widths(folder, pages):
 
 
 def show_haulier(office, folder):
-    office.told("INSERT INTO head_office.haulier VALUES ('Sand & Kies, Ulm', 'A'), ('Sand & Kies, Ulm', 'C')")
+    office.told(
+        "INSERT INTO head_office.haulier VALUES ('Sand & Kies, Ulm', 'A'), ('Sand & Kies, Ulm', 'C')"
+    )
     month = office.reads("SELECT to_char(min(day), 'YYYY-MM') FROM head_office.haulier_ticket")
     status, said = office.cluster.run([f"{PARTS}/haulier", "Sand & Kies, Ulm", month], user=READER)
     wanted = office.reads(
@@ -1199,13 +1898,21 @@ def show_haulier(office, folder):
         and lines[1].startswith("SUM,"),
         said,
     )
-    same("  of a month without any", (0, lines[0] + "\n"), office.cluster.run([f"{PARTS}/haulier", "Sand & Kies, Ulm", "2001-01"], user=READER))
+    same(
+        "  of a month without any",
+        (0, lines[0] + "\n"),
+        office.cluster.run([f"{PARTS}/haulier", "Sand & Kies, Ulm", "2001-01"], user=READER),
+    )
     same(
         "  a haulier that nobody registered",
         (2, "Nobody: no plate is registered for such a haulier\n"),
         office.cluster.run([f"{PARTS}/haulier", "Nobody", month], user=READER),
     )
-    same("  another word than a month", 2, office.cluster.run([f"{PARTS}/haulier", "Nobody", "2026-13"], user=READER)[0])
+    same(
+        "  another word than a month",
+        2,
+        office.cluster.run([f"{PARTS}/haulier", "Nobody", "2026-13"], user=READER)[0],
+    )
 
 
 def show_timers(office, folder):
@@ -1214,36 +1921,72 @@ def show_timers(office, folder):
     status, said = office.cluster.run([f"{PARTS}/watch", state], user=READER)
     case(
         "the watch fails at what is new, and says it",
-        status == 1 and "RUN: finding " in said and "SERIAL: fallen silent, last loaded never" in said,
+        status == 1
+        and "RUN: finding " in said
+        and "SERIAL: fallen silent, last loaded never" in said,
         said[:500],
     )
     same("  and once", (0, ""), office.cluster.run([f"{PARTS}/watch", state], user=READER))
     office.load("RUN", Book("RUN9").fill(3).write(f"{folder}/t.csv", fetched=time.time()))
     status, said = office.cluster.run([f"{PARTS}/watch", state], user=READER)
-    case("  and at the next thing alone", status == 1 and len(said.strip().split("\n")) == 2 and "serial RUN9 is not registered" in said, said)
-    same("  and not where it can't ask", 2, office.cluster.run([f"{PARTS}/watch", state], user="stranger")[0])
+    case(
+        "  and at the next thing alone",
+        status == 1
+        and len(said.strip().split("\n")) == 2
+        and "serial RUN9 is not registered" in said,
+        said,
+    )
+    same(
+        "  and not where it can't ask",
+        2,
+        office.cluster.run([f"{PARTS}/watch", state], user="stranger")[0],
+    )
     sendmail = f"{folder}/sendmail"
     with open(sendmail, "w") as it:
         it.write(f'#!/bin/sh\necho "$*" >{folder}/mail\ncat >>{folder}/mail\n')
     os.chmod(sendmail, 0o755)
     status, said = office.cluster.run(
-        [f"{PARTS}/alarm", "weighbridge-head-office@NORTH.service"], SENDMAIL=sendmail, HEAD_OFFICE_MAIL="office@example.org"
+        [f"{PARTS}/alarm", "weighbridge-head-office@NORTH.service"],
+        SENDMAIL=sendmail,
+        HEAD_OFFICE_MAIL="office@example.org",
     )
     with open(f"{folder}/mail") as it:
         mail = it.read()
     case(
         "the alarm is a mail to who is named, by sendmail",
-        status == 0 and mail.startswith("-t -oi\nTo: office@example.org\nSubject: weighbridge-head-office@NORTH.service on "),
+        status == 0
+        and mail.startswith(
+            "-t -oi\nTo: office@example.org\nSubject: weighbridge-head-office@NORTH.service on "
+        ),
         (said, mail),
     )
     os.remove(f"{folder}/mail")
-    for name in ("upgrade", "load", "compare", "report", "haulier", "watch", "alarm", "backup", "restore"):
-        status, said = office.cluster.run([f"{PARTS}/{name}", "--help"], PGHOST="/nowhere", SENDMAIL=sendmail)
-        case(f"{name} --help prints its usage, and does nothing", status == 0 and said.startswith(f"Usage: {name}"), said)
+    for name in (
+        "upgrade",
+        "load",
+        "compare",
+        "report",
+        "haulier",
+        "watch",
+        "alarm",
+        "backup",
+        "restore",
+    ):
+        status, said = office.cluster.run(
+            [f"{PARTS}/{name}", "--help"], PGHOST="/nowhere", SENDMAIL=sendmail
+        )
+        case(
+            f"{name} --help prints its usage, and does nothing",
+            status == 0 and said.startswith(f"Usage: {name}"),
+            said,
+        )
     case("  and mails none", not os.path.exists(f"{folder}/mail"))
     for unit in ("@", "-report", "-watch", "-backup"):
         with open(f"{top}/packaging/head_office/weighbridge-head-office{unit}.service") as it:
-            case(f"weighbridge-head-office{unit}.service mails when it fails", "\nOnFailure=weighbridge-head-office-alarm@%n.service\n" in it.read())
+            case(
+                f"weighbridge-head-office{unit}.service mails when it fails",
+                "\nOnFailure=weighbridge-head-office-alarm@%n.service\n" in it.read(),
+            )
     with open(f"{top}/packaging/head_office/weighbridge-head-office@.service") as it:
         case("the unit of a bridge loads the newest entries", "/load --newest %i " in it.read())
     os.makedirs(f"{folder}/backups")
@@ -1254,18 +1997,37 @@ def show_timers(office, folder):
     files = sorted(os.listdir(f"{folder}/backups"))
     case(
         "a backup takes the place of old ones, and leaves what is none",
-        status == 0 and "another" in files and not [it for it in files if "2020" in it or it.endswith(".part")],
+        status == 0
+        and "another" in files
+        and not [it for it in files if "2020" in it or it.endswith(".part")],
         (files, said),
     )
     status, said = office.cluster.run([f"{PARTS}/backup", f"{folder}/backups"], PGHOST="/nowhere")
-    case("  one that fails leaves what was there", status and sorted(os.listdir(f"{folder}/backups")) == files, said)
+    case(
+        "  one that fails leaves what was there",
+        status and sorted(os.listdir(f"{folder}/backups")) == files,
+        said,
+    )
     with open(f"{folder}/log", "w") as it:
         it.write("a log")
-    archived = [subprocess.run([f"{PARTS}/archive", f"{folder}/log", f"{folder}/backups/0001"], capture_output=True).returncode for _ in range(2)]
+    archived = [
+        subprocess.run(
+            [f"{PARTS}/archive", f"{folder}/log", f"{folder}/backups/0001"], capture_output=True
+        ).returncode
+        for _ in range(2)
+    ]
     with open(f"{folder}/log", "a") as it:
         it.write(" that goes on")
-    archived.append(subprocess.run([f"{PARTS}/archive", f"{folder}/log", f"{folder}/backups/0001"], capture_output=True).returncode)
-    same("a log is archived, again is as before, and another one isn't written over it", [0, 0, 1], archived)
+    archived.append(
+        subprocess.run(
+            [f"{PARTS}/archive", f"{folder}/log", f"{folder}/backups/0001"], capture_output=True
+        ).returncode
+    )
+    same(
+        "a log is archived, again is as before, and another one isn't written over it",
+        [0, 0, 1],
+        archived,
+    )
     if shutil.which("strace"):
         traced = subprocess.run(
             [
@@ -1280,7 +2042,11 @@ def show_timers(office, folder):
             capture_output=True,
             text=True,
         ).stderr
-        case("  it is on the disk before it has its name, and its folder after", re.search(r"fsync.*rename.*fsync", traced, re.S), traced[-600:])
+        case(
+            "  it is on the disk before it has its name, and its folder after",
+            re.search(r"fsync.*rename.*fsync", traced, re.S),
+            traced[-600:],
+        )
 
 
 def show_grafana(office, folder):
@@ -1288,7 +2054,11 @@ def show_grafana(office, folder):
         board = json.load(it)
     for panel in board["panels"]:
         for target in panel["targets"]:
-            sql = re.sub(r"\$__timeFilter\(([^)]*)\)", r"\1 BETWEEN now() - interval '30 days' AND now()", target["rawSql"])
+            sql = re.sub(
+                r"\$__timeFilter\(([^)]*)\)",
+                r"\1 BETWEEN now() - interval '30 days' AND now()",
+                target["rawSql"],
+            )
             status, said = office.cluster.ask(sql, user=READER)
             case(f"Grafana's panel: {panel['title']}", status == 0 and said, said)
 
@@ -1301,56 +2071,111 @@ def show_sealed(office, folder):
     begin = int(time.mktime(time.strptime(f"{year}-12-28", "%Y-%m-%d")))
     book.moment, book.step = begin - 6 * 3_600, 6 * 3_600
     for n in range(10):
-        book.add("first", f"S-{n}", 9_000 + 20 * n).add("second", f"S-{n}", 20_000).add("single", "T-1", 15_000)
+        book.add("first", f"S-{n}", 9_000 + 20 * n).add("second", f"S-{n}", 20_000).add(
+            "single", "T-1", 15_000
+        )
     # a First of the old year whose Second is of the next one
-    last = max(row["number"] for row in book.rows if time.gmtime(row["moment"] + 3_600).tm_year == year)
+    last = max(
+        row["number"] for row in book.rows if time.gmtime(row["moment"] + 3_600).tm_year == year
+    )
     book.moment, book.step = int(time.time()) - DAY, 600
     book.fill(6)
     office.load("YEARS", book.write(f"{folder}/years.csv"))
     page = f"SELECT head_office.seal('YEARS', {year})"
     for wanted, statement in (
         ("nobody registered how long plates of YEARS are kept", None),
-        ("isn't over for 3 whole years", "UPDATE head_office.bridge SET plate_years = 3 WHERE bridge = 'YEARS'"),
+        (
+            "isn't over for 3 whole years",
+            "UPDATE head_office.bridge SET plate_years = 3 WHERE bridge = 'YEARS'",
+        ),
     ):
         if statement:
             office.told(statement)
         status, said = office.cluster.ask(page, user=REGISTRAR)
         case(f"no plate is dropped: {wanted}", status and wanted in said, said)
     office.told("UPDATE head_office.bridge SET plate_years = 2 WHERE bridge = 'YEARS'")
-    same("the year is due", str(year), office.reads("SELECT year FROM head_office.due_year WHERE bridge = 'YEARS'"))
+    same(
+        "the year is due",
+        str(year),
+        office.reads("SELECT year FROM head_office.due_year WHERE bridge = 'YEARS'"),
+    )
     status, said = office.cluster.ask(page, user=READER)
     case("a reader drops none", status and "permission denied" in said, said)
     totals = "SELECT sum(tickets), sum(net_kg) FROM head_office.day_total WHERE bridge = 'YEARS'"
-    nets = "SELECT string_agg(ticket || ' ' || net_kg, ',' ORDER BY ticket) FROM head_office.{} WHERE bridge = 'YEARS' AND ticket <= " + str(last)
+    nets = (
+        "SELECT string_agg(ticket || ' ' || net_kg, ',' ORDER BY ticket) FROM head_office.{} WHERE bridge = 'YEARS' AND ticket <= "
+        + str(last)
+    )
     before = office.reads(totals), office.reads(nets.format("ticket"))
     status, said = office.cluster.ask(page, user=REGISTRAR)
     digest = said.split(", ")[-1]
-    case("its plates are dropped", status == 0 and re.match(rf"YEARS: journal \d+, 1 to {last}, {last} entries, [0-9a-f]{{64}}$", said), said)
-    whole = office.cluster.run([f"{clusters.BIN}/pg_dump", "-t", "head_office.*", "--data-only", "head_office"])[1]
+    case(
+        "its plates are dropped",
+        status == 0
+        and re.match(rf"YEARS: journal \d+, 1 to {last}, {last} entries, [0-9a-f]{{64}}$", said),
+        said,
+    )
+    whole = office.cluster.run(
+        [f"{clusters.BIN}/pg_dump", "-t", "head_office.*", "--data-only", "head_office"]
+    )[1]
     gone = [f"S-{n}" for n in range((last - 1) // 3)]
-    case("  no dump has them any more", not [it for it in gone if re.search(rf"\b{it}\b", whole)], gone)
-    same("  the totals stay, and each ticket's net", before, (office.reads(totals), office.reads(nets.format("sealed_ticket"))))
+    case(
+        "  no dump has them any more",
+        not [it for it in gone if re.search(rf"\b{it}\b", whole)],
+        gone,
+    )
+    same(
+        "  the totals stay, and each ticket's net",
+        before,
+        (office.reads(totals), office.reads(nets.format("sealed_ticket"))),
+    )
     same("  which is what the entries say", "", differences(office))
-    command = next(line.strip() for line in open(f"{top}/docs/head_office.md") if "basenc --base16 -d" in line)
+    command = next(
+        line.strip() for line in open(f"{top}/docs/head_office.md") if "basenc --base16 -d" in line
+    )
     shown = subprocess.run(
-        ["sh", "-c", command.replace("first=1 last=412", f"first=1 last={last}").replace("journal.csv", f"{folder}/years.csv")],
+        [
+            "sh",
+            "-c",
+            command.replace("first=1 last=412", f"first=1 last={last}").replace(
+                "journal.csv", f"{folder}/years.csv"
+            ),
+        ],
         capture_output=True,
         text=True,
     ).stdout.split()[0]
-    same("  whoever has an export of the year shows by the page's line that it is the one", digest, shown)
+    same(
+        "  whoever has an export of the year shows by the page's line that it is the one",
+        digest,
+        shown,
+    )
     shown = subprocess.run(
-        ["sh", "-c", command.replace("first=1 last=412", f"first=2 last={last}").replace("journal.csv", f"{folder}/years.csv")],
+        [
+            "sh",
+            "-c",
+            command.replace("first=1 last=412", f"first=2 last={last}").replace(
+                "journal.csv", f"{folder}/years.csv"
+            ),
+        ],
         capture_output=True,
         text=True,
     ).stdout.split()[0]
     case("  and not by another", digest != shown)
-    same("  nothing of what is kept was changed", "", office.reads("SELECT * FROM head_office.unsound_year"))
+    same(
+        "  nothing of what is kept was changed",
+        "",
+        office.reads("SELECT * FROM head_office.unsound_year"),
+    )
     office.cluster.told(
         "ALTER TABLE head_office.sealed_entry DISABLE TRIGGER never_changed",
         "UPDATE head_office.sealed_entry SET gross_kg = gross_kg + 20 WHERE number = 1 AND journal = (SELECT journal FROM head_office.journal WHERE bridge = 'YEARS')",
         "ALTER TABLE head_office.sealed_entry ENABLE TRIGGER never_changed",
     )
-    same("  and if it is, that is seen", str(year), office.reads("SELECT year FROM head_office.unsound_year WHERE bridge = 'YEARS'"))
+    same(
+        "  and if it is, that is seen",
+        str(year),
+        office.reads("SELECT year FROM head_office.unsound_year WHERE bridge = 'YEARS'"),
+    )
     office.cluster.told(
         "ALTER TABLE head_office.sealed_entry DISABLE TRIGGER never_changed",
         "UPDATE head_office.sealed_entry SET gross_kg = gross_kg - 20 WHERE number = 1 AND journal = (SELECT journal FROM head_office.journal WHERE bridge = 'YEARS')",
@@ -1387,15 +2212,20 @@ def show_ten(office, folder):
     it = Database(office, "ten")
     done = {
         "a weight changed": lambda book: book.change(20, gross=9_000),
-        "a weight changed and its digest made anew": lambda book: (book.change(20, gross=9_000), book.rows[19].update(digest=one_digest(book, 20))),
-        "a weight changed and each digest made anew": lambda book: book.change(20, gross=9_000).chain(20),
+        "a weight changed and its digest made anew": lambda book: (
+            book.change(20, gross=9_000),
+            book.rows[19].update(digest=one_digest(book, 20)),
+        ),
+        "a weight changed and each digest made anew": lambda book: book.change(
+            20, gross=9_000
+        ).chain(20),
         "an entry taken out": lambda book: (20,),
         "the last ones taken out": lambda book: tuple(range(25, 31)),
         "the first ones taken out": lambda book: tuple(range(1, 7)),
         "an entry dated back": lambda book: book.add("single", "F-1", moment=book.moment + 1),
-        "a First that hides another": lambda book: book.add("first", "F-1", moment=int(time.time()) - 20).add(
-            "first", "F-1", moment=int(time.time()) - 10
-        ),
+        "a First that hides another": lambda book: book.add(
+            "first", "F-1", moment=int(time.time()) - 20
+        ).add("first", "F-1", moment=int(time.time()) - 10),
         "the whole journal made anew": lambda book: book.change(1, key="OTHER").chain(1),
         "changed and chained anew before it was loaded": lambda book: None,
     }
@@ -1411,7 +2241,9 @@ def show_ten(office, folder):
             bridge,
             book.write(
                 f"{folder}/t.csv",
-                without=without if isinstance(without, tuple) and without and isinstance(without[0], int) else (),
+                without=without
+                if isinstance(without, tuple) and without and isinstance(without[0], int)
+                else (),
                 fetched=time.time(),
             ),
         )

@@ -63,14 +63,20 @@ def definition_missing(name):
     path = f"crates/{crate}/specs/{module.replace('.', '/')}.antt"
     if not what or not os.path.exists(os.path.join(TOP, path)):
         return f"no definitions are in {path}"
-    if not re.search(rf"(?m)^ *(abbrev |unfoldable )?pub (record |data )?{re.escape(what)}[ :]", read(path)):
+    if not re.search(
+        rf"(?m)^ *(abbrev |unfoldable )?pub (record |data )?{re.escape(what)}[ :]", read(path)
+    ):
         return f"{path} has no definition {what}"
     return None
 
 
 @functools.cache
 def tests():
-    return {name for path in paths("crates/*/src/**/*.rt") for name in re.findall(r"#\[test\]\s+fn (\w+)", read(path))}
+    return {
+        name
+        for path in paths("crates/*/src/**/*.rt")
+        for name in re.findall(r"#\[test\]\s+fn (\w+)", read(path))
+    }
 
 
 def test_missing(name):
@@ -83,7 +89,9 @@ def test_missing(name):
 def wrong_body_missing(name):
     """Whether the wrong body is gone, or can't be planted any more: each line that it replaces has to stand there once."""
     path = f"crates/{name}.edit"
-    if not re.fullmatch(r"\w+/(must-fail|wrong-bodies)/\w+", name) or not os.path.exists(os.path.join(TOP, path)):
+    if not re.fullmatch(r"\w+/(must-fail|wrong-bodies)/\w+", name) or not os.path.exists(
+        os.path.join(TOP, path)
+    ):
         return f"there is no wrong body {name}"
     text, of = None, None
     for line in read(path).splitlines():
@@ -105,7 +113,13 @@ class Call:
     """A function of a crate, with the type or trait that it belongs to, and its clauses."""
 
     def __init__(self, crate, owner, name, is_public, clauses):
-        self.crate, self.owner, self.name, self.is_public, self.clauses = crate, owner, name, is_public, clauses
+        self.crate, self.owner, self.name, self.is_public, self.clauses = (
+            crate,
+            owner,
+            name,
+            is_public,
+            clauses,
+        )
 
 
 def calls_of(crate, text):
@@ -118,21 +132,38 @@ def calls_of(crate, text):
             bare = block[2]
             while "<" in bare and bare != (less := re.sub(r"<[^<>]*>", "", bare)):
                 bare = less
-            owner, is_trait = re.split(r"[\s:{]", bare.rpartition(" for ")[2].strip())[0], block[1] == "trait"
-        elif function := re.match(r' *(pub |pub\(crate\) )?(?:unsafe )?(?:extern "C" )?fn (\w+)', line):
+            owner, is_trait = (
+                re.split(r"[\s:{]", bare.rpartition(" for ")[2].strip())[0],
+                block[1] == "trait",
+            )
+        elif function := re.match(
+            r' *(pub |pub\(crate\) )?(?:unsafe )?(?:extern "C" )?fn (\w+)', line
+        ):
             head = []
             for later in lines[place:]:
                 head.append(later)
-                if re.search(r"(;|^ *\{|^\{\}|\{\})$", later) or later.endswith("{") and "ensures" not in later and "requires" not in later:
+                if (
+                    re.search(r"(;|^ *\{|^\{\}|\{\})$", later)
+                    or later.endswith("{")
+                    and "ensures" not in later
+                    and "requires" not in later
+                ):
                     break
-            clauses = [it.strip() or PLAIN for it in re.findall(r"ensures\*? (\w+ )?\{", "\n".join(head))]
-            found.append(Call(crate, owner, function[2], function[1] == "pub " or is_trait, set(clauses)))
+            clauses = [
+                it.strip() or PLAIN for it in re.findall(r"ensures\*? (\w+ )?\{", "\n".join(head))
+            ]
+            found.append(
+                Call(crate, owner, function[2], function[1] == "pub " or is_trait, set(clauses))
+            )
     return found
 
 
 def laws_of(crate, text):
     """The laws of a crate's theorems: each has one clause, what it states."""
-    return [Call(crate, None, name, True, {PLAIN}) for name in re.findall(r"(?m)^pub (law_of_\w+) :", text)]
+    return [
+        Call(crate, None, name, True, {PLAIN})
+        for name in re.findall(r"(?m)^pub (law_of_\w+) :", text)
+    ]
 
 
 @functools.cache
@@ -151,12 +182,18 @@ def calls():
 def calls_named(crate, name):
     """The public functions of this name; `Type::name` has those of one type."""
     owner, _, bare = name.rpartition("::")
-    return [it for it in calls().get(crate, []) if it.name == bare and (not owner or it.owner == owner)]
+    return [
+        it for it in calls().get(crate, []) if it.name == bare and (not owner or it.owner == owner)
+    ]
 
 
 @functools.cache
 def words_of_specs(crate):
-    return {word for path in paths(f"crates/{crate}/specs/**/*.antt") for word in re.findall(r"\w+", read(path))}
+    return {
+        word
+        for path in paths(f"crates/{crate}/specs/**/*.antt")
+        for word in re.findall(r"\w+", read(path))
+    }
 
 
 def promised_rows():
@@ -166,7 +203,11 @@ def promised_rows():
 
 
 def rows_of_promises(page):
-    crates, is_table, named = re.findall(r"wb_\w+|weighbridge\w*", page.split("\n", 1)[0]), False, ""
+    crates, is_table, named = (
+        re.findall(r"wb_\w+|weighbridge\w*", page.split("\n", 1)[0]),
+        False,
+        "",
+    )
     for line in page.partition("\n## Promises\n")[2].partition("\n## ")[0].splitlines():
         if line.startswith("|"):
             cells = [it.strip() for it in line.strip("|").split("|")]
@@ -212,14 +253,22 @@ def promised():
                     if call.clauses == {PLAIN} and re.search("`", names):
                         of_call = {PLAIN}
                     elif re.search("`", names):
-                        of_call |= {it for it in clauses - call.clauses if it in words_of_specs(crate) and is_alone(crate, names, it)}
+                        of_call |= {
+                            it
+                            for it in clauses - call.clauses
+                            if it in words_of_specs(crate) and is_alone(crate, names, it)
+                        }
                     found |= {(crate, call.owner, call.name, it) for it in of_call}
     return found
 
 
 def is_alone(crate, names, clause):
     """Whether no call of the cell has this clause, so that it is a part of a clause that a definition names."""
-    return not any(clause in call.clauses for name in owners_of(crate, names) for call in calls_named(crate, name))
+    return not any(
+        clause in call.clauses
+        for name in owners_of(crate, names)
+        for call in calls_named(crate, name)
+    )
 
 
 def shown(owner, name):
@@ -228,7 +277,9 @@ def shown(owner, name):
 
 @functools.cache
 def public_clauses_kept():
-    return frozenset((crate, shown(owner, name), clause) for crate, owner, name, clause in promised())
+    return frozenset(
+        (crate, shown(owner, name), clause) for crate, owner, name, clause in promised()
+    )
 
 
 def public_clauses():
@@ -239,9 +290,15 @@ def clause_missing(crate, name, clauses):
     """Why the call, or one of these clauses of it, isn't promised or isn't in the source; None if all are."""
     owners = {shown(it.owner, it.name) for it in calls_named(crate, name)}
     if len(owners) != 1:
-        return f"{crate} has no public call {name}" if not owners else f"of {crate} {name} is any of {', '.join(sorted(owners))}"
+        return (
+            f"{crate} has no public call {name}"
+            if not owners
+            else f"of {crate} {name} is any of {', '.join(sorted(owners))}"
+        )
     if not clauses_named(crate, name, []) and not clauses:
-        return f"{crate}: {name} has no clause without a name that its README lists: name its clauses"
+        return (
+            f"{crate}: {name} has no clause without a name that its README lists: name its clauses"
+        )
     for clause in clauses:
         if not clauses_named(crate, name, [clause]):
             return f"the README and the source have no clause {clause} of {crate}: {name}"
@@ -252,4 +309,6 @@ def clauses_named(crate, name, clauses):
     """Those of the public clauses that these are; with no name, the clause without one."""
     of = {shown(it.owner, it.name) for it in calls_named(crate, name)}
     wanted = set(clauses) or {PLAIN}
-    return {it for it in public_clauses_kept() if it[0] == crate and it[1] in of and it[2] in wanted}
+    return {
+        it for it in public_clauses_kept() if it[0] == crate and it[1] in of and it[2] in wanted
+    }

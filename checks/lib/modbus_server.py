@@ -34,8 +34,12 @@ class Registers(ModbusSequentialDataBlock):
 
 logging.disable(logging.CRITICAL)
 registers = Registers(0, [0] * 3)
-context = ModbusServerContext(ModbusSlaveContext(hr=registers, ir=registers, zero_mode=True), single=True)
+context = ModbusServerContext(
+    ModbusSlaveContext(hr=registers, ir=registers, zero_mode=True), single=True
+)
 if kind == "tcp":
     StartTcpServer(context=context, address=("127.0.0.1", int(place)), allow_reuse_address=True)
 else:
-    StartSerialServer(context=context, framer=ModbusRtuFramer, port=place, baudrate=19200, timeout=0.005)
+    StartSerialServer(
+        context=context, framer=ModbusRtuFramer, port=place, baudrate=19200, timeout=0.005
+    )

@@ -31,7 +31,12 @@ class OddModbus:
             while len(question := stream.recv(12, socket.MSG_WAITALL)) == 12:
                 number, _, _, unit, function, _, _ = struct.unpack(">HHHBBHH", question)
                 self.asked += 1
-                self.answers(self, stream, number, struct.pack(">HHBBBI", 0, 7, unit, function, 4, self.milliseconds()))
+                self.answers(
+                    self,
+                    stream,
+                    number,
+                    struct.pack(">HHBBBI", 0, 7, unit, function, 4, self.milliseconds()),
+                )
         except OSError:
             pass  # the reader opened another
 

@@ -91,7 +91,12 @@ class Shell:
 
     def __init__(self, folder, of=TOP):
         commands, self.commands = os.pipe()
-        environment = {**os.environ, "PATH": of + os.pathsep + os.environ["PATH"], "LC_ALL": "C", "TZ": "UTC"}
+        environment = {
+            **os.environ,
+            "PATH": of + os.pathsep + os.environ["PATH"],
+            "LC_ALL": "C",
+            "TZ": "UTC",
+        }
         self.process = subprocess.Popen(
             ["bash", "-c", SHELL, "bash", str(commands)],
             cwd=folder,
@@ -169,7 +174,11 @@ def shell_in(folder, program=None):
 def ports_of(ports):
     """The addresses of these ports as a page writes them, with those of free ports."""
     free = [(port, bridge.free_port()) for port in ports]
-    return {f"127.0.0.1{parted}{port}": f"127.0.0.1{parted}{it}" for port, it in free for parted in (":", " ")}
+    return {
+        f"127.0.0.1{parted}{port}": f"127.0.0.1{parted}{it}"
+        for port, it in free
+        for parted in (":", " ")
+    }
 
 
 def check_step(name, page, step, shell, names, is_told=True, is_exact=False):
@@ -184,6 +193,8 @@ def check_step(name, page, step, shell, names, is_told=True, is_exact=False):
     if not is_exact:
         wanted, found = formed(wanted, names), formed(found, names)
     if wanted != found:
-        raise SystemExit(f"{name}: {page}:{step.line}: {step.command}\nwanted:\n{wanted}\nfound:\n{found}")
+        raise SystemExit(
+            f"{name}: {page}:{step.line}: {step.command}\nwanted:\n{wanted}\nfound:\n{found}"
+        )
     if is_told:
         print(f"{page}:{step.line}: ok", flush=True)

@@ -29,10 +29,16 @@ def marks(data):
 
 def bridge_with(program, played, **more):
     """A bridge whose counter has a printer."""
-    bridge = Bridge(program, 10, settings="".join(f"{name} = {value}\n" for name, value in more.items()))
+    bridge = Bridge(
+        program, 10, settings="".join(f"{name} = {value}\n" for name, value in more.items())
+    )
     with open(f"{bridge.folder}/paper.toml", "w") as file:
-        file.write(f'spool = "{bridge.folder}/spool"\nzone = "Europe/Berlin"\nheader = ["Kieswerk Wellum", "Hafenstraße 12"]\n')
-        file.write(f'[[printer]]\nname = "yard"\nto = "tcp:{HOST}:{played.port}"\ncode_pages = ["cp858", "cp852"]\n')
+        file.write(
+            f'spool = "{bridge.folder}/spool"\nzone = "Europe/Berlin"\nheader = ["Kieswerk Wellum", "Hafenstraße 12"]\n'
+        )
+        file.write(
+            f'[[printer]]\nname = "yard"\nto = "tcp:{HOST}:{played.port}"\ncode_pages = ["cp858", "cp852"]\n'
+        )
     with open(bridge.setup) as file:
         setup = file.read()
     with open(bridge.setup, "w") as file:
@@ -67,21 +73,49 @@ def by_itself(bridge, played):
     becomes("a First prints by itself", lambda: len(played.printed) == 1)
     it = Printed(played.printed[0], 576)
     same("with the office's text, letter for letter", (201, slip), (status, it.legal()))
-    same("and what the clerk gave", [True] * 3, [any(line.endswith(value) for line in it.lines) for value in LINES.values()])
-    same("of which the journal has nothing", [], [row for row in bridge.entries() if any(value in ",".join(row) for value in LINES.values())])
-    same("its request again is the same text", (201, slip), bridge.ask("POST", "/weighings", form)[:2])
+    same(
+        "and what the clerk gave",
+        [True] * 3,
+        [any(line.endswith(value) for line in it.lines) for value in LINES.values()],
+    )
+    same(
+        "of which the journal has nothing",
+        [],
+        [
+            row
+            for row in bridge.entries()
+            if any(value in ",".join(row) for value in LINES.values())
+        ],
+    )
+    same(
+        "its request again is the same text",
+        (201, slip),
+        bridge.ask("POST", "/weighings", form)[:2],
+    )
     bridge.next_vehicle(4070)
-    status, ticket, _ = bridge.ask("POST", "/weighings", {"key": "paper-2", "kind": "second", "plate": "AB-12"})
+    status, ticket, _ = bridge.ask(
+        "POST", "/weighings", {"key": "paper-2", "kind": "second", "plate": "AB-12"}
+    )
     becomes("a Second too", lambda: len(played.printed) == 2)
     same("a request again prints nothing", [0, 0], [marks(it) for it in played.printed])
     same("its text", (201, ticket), (status, Printed(played.printed[1], 576).legal()))
     same("a press prints it again", 202, bridge.ask("POST", "/papers/2", body="")[0])
     same("and a First's slip", 202, bridge.ask("POST", "/papers/1", {"printer": "yard"})[0])
-    becomes("as a duplicate and a copy", lambda: [marks(it) for it in played.printed] == [0, 0, 2, 2])
+    becomes(
+        "as a duplicate and a copy", lambda: [marks(it) for it in played.printed] == [0, 0, 2, 2]
+    )
     holds("with what the clerk gave", b"Kies 0/16\n" in played.printed[3])
-    same("a printer that isn't there", (422, '{"why": "no_printer"}'), bridge.ask("POST", "/papers/2", {"printer": "none"})[:2])
+    same(
+        "a printer that isn't there",
+        (422, '{"why": "no_printer"}'),
+        bridge.ask("POST", "/papers/2", {"printer": "none"})[:2],
+    )
     same("a number that nobody has", 404, bridge.ask("POST", "/papers/4000000000", body="")[0])
-    same("by the browser it is a further print too", False, bridge.json("POST", "/papers/2/browser", body="")["is_original"])
+    same(
+        "by the browser it is a further print too",
+        False,
+        bridge.json("POST", "/papers/2/browser", body="")["is_original"],
+    )
     same("nothing waits", [], jobs(bridge))
 
 
@@ -90,9 +124,17 @@ def told_in_words(bridge, played):
         played.state = name
         bridge.next_vehicle(9170)
         bridge.weigh(f"paper-{number}", "single", f"S-{number}", 5000)
-        becomes(f"{name} is told", lambda name=name, number=number: [(it["number"], it["why"]) for it in jobs(bridge)] == [(number, name)])
+        becomes(
+            f"{name} is told",
+            lambda name=name, number=number: [(it["number"], it["why"]) for it in jobs(bridge)]
+            == [(number, name)],
+        )
         told = [what for event, what in bridge.events(0.5) if event == "papers"]
-        same("to each page, and to monitoring", (name, True), (told[0]["jobs"][0]["why"], "papers" in bridge.health()["faults"]))
+        same(
+            "to each page, and to monitoring",
+            (name, True),
+            (told[0]["jobs"][0]["why"], "papers" in bridge.health()["faults"]),
+        )
         holds("a vehicle can be weighed all the same", bridge.health()["can_weigh"])
         count = len(played.printed)
         played.state = ""
@@ -103,9 +145,17 @@ def told_in_words(bridge, played):
     bridge.next_vehicle(9170)
     bridge.weigh("paper-6", "single", "S-6", 5000)
     becomes("gone is told", lambda: [it["why"] for it in jobs(bridge)] == ["gone"])
-    same("one that waits can be dropped", 200, bridge.ask("DELETE", f"/jobs/{jobs(bridge)[0]['job']}")[0])
+    same(
+        "one that waits can be dropped",
+        200,
+        bridge.ask("DELETE", f"/jobs/{jobs(bridge)[0]['job']}")[0],
+    )
     same("then nothing waits", [], jobs(bridge))
-    same("and the browser gets the original", True, bridge.json("POST", "/papers/6/browser", body="")["is_original"])
+    same(
+        "and the browser gets the original",
+        True,
+        bridge.json("POST", "/papers/6/browser", body="")["is_original"],
+    )
     played.there()
 
 
@@ -116,10 +166,23 @@ def by_a_pipe(bridge):
     line = f"{TOP}/clients/weigh.sh first PIPE-1 | {' '.join(desk.words('--printer', 'box', '--driver', 'Nom'))}"
     where = {**os.environ, "WEIGHBRIDGE": f"http://{HOST}:{bridge.http}"}
     it = subprocess.run(["sh", "-c", line], env=where, capture_output=True, text=True)
-    slip = [slip for row in bridge.entries() if row[3] == "PIPE-1" for slip in [bridge.weigh(row[1], "first", "PIPE-1")[1]]]
-    same("weigh.sh | weighbridge-paper prints the slip", (0, slip), (it.returncode, [legal_in_pdf(made, "roll80") for made in desk.made()]))
+    slip = [
+        slip
+        for row in bridge.entries()
+        if row[3] == "PIPE-1"
+        for slip in [bridge.weigh(row[1], "first", "PIPE-1")[1]]
+    ]
+    same(
+        "weigh.sh | weighbridge-paper prints the slip",
+        (0, slip),
+        (it.returncode, [legal_in_pdf(made, "roll80") for made in desk.made()]),
+    )
     it = subprocess.run(["sh", "-c", line], env=where, capture_output=True, text=True)
-    same("what the office refuses is no paper", (3, 1, True), (it.returncode, len(desk.made()), "nothing came on standard input" in it.stderr))
+    same(
+        "what the office refuses is no paper",
+        (3, 1, True),
+        (it.returncode, len(desk.made()), "nothing came on standard input" in it.stderr),
+    )
 
 
 def killed(bridge, played):
@@ -136,25 +199,49 @@ def killed(bridge, played):
     played.rate = None
     becomes(
         "after each kill what waits is printed",
-        lambda: all(any(b"PLATE " + it.encode() in paper for paper in played.printed[count:]) for it in plates),
+        lambda: all(
+            any(b"PLATE " + it.encode() in paper for paper in played.printed[count:])
+            for it in plates
+        ),
         60,
     )
     papers = [*played.printed[count:], *played.begun]
-    originals = {plate: sum(marks(it) == 0 and b"\x1bE\x01" + plate.encode() + b"\n" in it for it in papers) for plate in plates}
-    same(f"killed {KILLS} times, none has two originals", [], [plate for plate, them in originals.items() if them > 1])
+    originals = {
+        plate: sum(marks(it) == 0 and b"\x1bE\x01" + plate.encode() + b"\n" in it for it in papers)
+        for plate in plates
+    }
+    same(
+        f"killed {KILLS} times, none has two originals",
+        [],
+        [plate for plate, them in originals.items() if them > 1],
+    )
 
 
 def taken_by_verify(bridge, played):
-    """clients/verify.py takes what the QR codes say, of this journal, and refuses it of another one."""
+    """inspect/verify.py takes what the QR codes say, of this journal, and refuses it of another one."""
     words = [code_of(Printed(it, 576).image).split() for it in played.printed[:2]]
     bridge.kill_counter()
     bridge.kill_service()
-    verify = [sys.executable, os.path.join(TOP, "clients", "verify.py"), f"{bridge.folder}/journal.db"]
+    verify = [
+        sys.executable,
+        os.path.join(TOP, "inspect", "verify.py"),
+        f"{bridge.folder}/journal.db",
+    ]
     for known in words:
         it = subprocess.run([*verify, "--known", *known], capture_output=True, text=True)
-        same(f"verify.py --known takes the code of number {known[0]}", (0, True), (it.returncode, "faults: 0" in it.stdout))
-        it = subprocess.run([*verify, "--known", known[0], "0" * 64], capture_output=True, text=True)
-        same("and names another digest", (1, True), (it.returncode, "has another digest than is known" in it.stdout))
+        same(
+            f"verify.py --known takes the code of number {known[0]}",
+            (0, True),
+            (it.returncode, "faults: 0" in it.stdout),
+        )
+        it = subprocess.run(
+            [*verify, "--known", known[0], "0" * 64], capture_output=True, text=True
+        )
+        same(
+            "and names another digest",
+            (1, True),
+            (it.returncode, "has another digest than is known" in it.stdout),
+        )
 
 
 # ---- the page
@@ -188,7 +275,9 @@ def printed_by(browser, size, path):
 
 
 def by_the_browser(program, pictures, looked_at):
-    bridge = Bridge(program, 10, settings='address = ["Hafenstraße 12", "28217 Bremen"]\nlanguage = "de"\n').start_counter()
+    bridge = Bridge(
+        program, 10, settings='address = ["Hafenstraße 12", "28217 Bremen"]\nlanguage = "de"\n'
+    ).start_counter()
     clerk = Clerk(at_of(bridge.http))
     try:
         bridge.put(0)
@@ -203,9 +292,14 @@ def by_the_browser(program, pictures, looked_at):
             press(clerk, "#others", "Goods, order, driver")
             same("the dialog asks for the goods", "goods", clerk.focus())
             clerk.keys("Kies 0/16" + ENTER)
-            becomes("what was given stands on the button", lambda: "For the paper: Kies 0/16" in clerk.browser.text("#others"))
+            becomes(
+                "what was given stands on the button",
+                lambda: "For the paper: Kies 0/16" in clerk.browser.text("#others"),
+            )
             clerk.keys(ENTER)
-            clerk.sees("HB-KW-77" if load == 9170 else "net 10,200 kg", what="it is weighed") if load != 9170 else clerk.sees("Slip 1")
+            clerk.sees(
+                "HB-KW-77" if load == 9170 else "net 10,200 kg", what="it is weighed"
+            ) if load != 9170 else clerk.sees("Slip 1")
         clerk.keys(F8)
         becomes("F8 prints by the browser", lambda: len(clerk.papers()) == 1)
         ticket = bridge.ask("GET", "/tickets/2", port=bridge.office)[1]
@@ -227,9 +321,17 @@ def by_the_browser(program, pictures, looked_at):
                 same(
                     f"{size}: what is large, and what the clerk gave",
                     [],
-                    [it for it in (*large_of(text, "de"), "Kies 0/16") if it.replace(" ", "") not in bare],
+                    [
+                        it
+                        for it in (*large_of(text, "de"), "Kies 0/16")
+                        if it.replace(" ", "") not in bare
+                    ],
                 )
-                same(f"{size}: the net's letters are larger than the text's", True, letter_height(pdf, "10.200") > 2 * letter_height(pdf, "SECOND"))
+                same(
+                    f"{size}: the net's letters are larger than the text's",
+                    True,
+                    letter_height(pdf, "10.200") > 2 * letter_height(pdf, "SECOND"),
+                )
             if not at:
                 clerk.keys(F8)
                 becomes("and again as a duplicate", lambda: len(clerk.papers()) == 2)
@@ -244,12 +346,16 @@ def by_the_browser(program, pictures, looked_at):
 
 def press(clerk, part, words):
     """Presses the button of these words."""
-    clerk.browser.run(f"[...document.querySelectorAll('{part} button')].find(it => it.textContent.startsWith('{words}')).click()")
+    clerk.browser.run(
+        f"[...document.querySelectorAll('{part} button')].find(it => it.textContent.startsWith('{words}')).click()"
+    )
 
 
 def letter_height(pdf, word):
     """The height of a word on the first page, by pdftotext."""
-    it = subprocess.run(["pdftotext", "-bbox", pdf, "-"], capture_output=True, text=True, check=True)
+    it = subprocess.run(
+        ["pdftotext", "-bbox", pdf, "-"], capture_output=True, text=True, check=True
+    )
     row = next(line for line in it.stdout.split("\n") if f">{word}<" in line)
     top, bottom = (float(row.split(f'{name}="')[1].split('"')[0]) for name in ("yMin", "yMax"))
     return bottom - top
@@ -269,32 +375,56 @@ def with_a_printer(program, pictures):
         clerk.keys("HB-KW-77")
         clerk.sees("Ready.")
         clerk.keys(ENTER)
-        becomes("a weighing at the page prints by itself", lambda: [marks(it) for it in played.printed] == [0])
+        becomes(
+            "a weighing at the page prints by itself",
+            lambda: [marks(it) for it in played.printed] == [0],
+        )
         clerk.keys(F8)
         becomes("F8 prints it again", lambda: [marks(it) for it in played.printed] == [0, 2])
         same("not by the browser", [], clerk.papers())
         played.state = "paper_out"
         clerk.keys(F8)
-        becomes("without paper a bar says so", lambda: "Printer yard: There is no paper in it. Papers not printed: 1." in clerk.alarms())
+        becomes(
+            "without paper a bar says so",
+            lambda: "Printer yard: There is no paper in it. Papers not printed: 1."
+            in clerk.alarms(),
+        )
         press(clerk, "#alarms", "Show them")
         becomes("the list has it", lambda: "Slip 1 · HB-KW-77" in clerk.browser.text("#jobs"))
         if pictures:
             with open(f"{pictures}/paper_waits.png", "wb") as file:
-                clerk.browser.tool("Emulation.setDeviceMetricsOverride", width=1000, height=640, deviceScaleFactor=0.7, mobile=False)
+                clerk.browser.tool(
+                    "Emulation.setDeviceMetricsOverride",
+                    width=1000,
+                    height=640,
+                    deviceScaleFactor=0.7,
+                    mobile=False,
+                )
                 time.sleep(0.3)
                 file.write(clerk.browser.picture())
         played.state = ""
-        becomes("with paper it is printed, and the bar is gone", lambda: len(played.printed) == 3 and clerk.alarms() == "")
-        becomes("and nothing waits on the list", lambda: clerk.browser.text("#jobs") == "Nothing waits.")
+        becomes(
+            "with paper it is printed, and the bar is gone",
+            lambda: len(played.printed) == 3 and clerk.alarms() == "",
+        )
+        becomes(
+            "and nothing waits on the list", lambda: clerk.browser.text("#jobs") == "Nothing waits."
+        )
         for _ in range(3):
             played.cut_after = 900
             if not _:
                 bridge.ask("POST", "/papers/1", body="")
             becomes("it is cut in the middle", lambda: played.cut_after is None)
-        becomes("cut three times, it has failed", lambda: "It was not printed." in clerk.browser.text("#jobs"))
+        becomes(
+            "cut three times, it has failed",
+            lambda: "It was not printed." in clerk.browser.text("#jobs"),
+        )
         looks(bridge, clerk)
         press(clerk, "#jobs", "Print again")
-        becomes("and a press prints it", lambda: len(played.printed) == 4 and clerk.browser.text("#jobs") == "Nothing waits.")
+        becomes(
+            "and a press prints it",
+            lambda: len(played.printed) == 4 and clerk.browser.text("#jobs") == "Nothing waits.",
+        )
     finally:
         clerk.close()
         bridge.close()
@@ -307,24 +437,40 @@ def looks(bridge, clerk):
     for width, is_dark, lang in ((360, False, "de"), (360, True, "fr"), (1280, True, "es")):
         other = Clerk(at_of(bridge.http), None, width, 740, is_dark, lang)
         try:
-            becomes(f"{width} px, {lang}: the bar is there", lambda other=other: "yard" in other.alarms())
+            becomes(
+                f"{width} px, {lang}: the bar is there",
+                lambda other=other: "yard" in other.alarms(),
+            )
             other.keys("NEW-1")
             time.sleep(0.3)
-            for act in ("[...document.querySelectorAll('#alarms button')].at(-1).click()", "document.getElementById('giving').showModal()"):
+            for act in (
+                "[...document.querySelectorAll('#alarms button')].at(-1).click()",
+                "document.getElementById('giving').showModal()",
+            ):
                 other.browser.run(act)
                 time.sleep(0.3)
-                found += [f"{width} {lang}: {it}" for it in other.browser.run(WIDE) + other.browser.run(FAINT)]
+                found += [
+                    f"{width} {lang}: {it}"
+                    for it in other.browser.run(WIDE) + other.browser.run(FAINT)
+                ]
                 other.browser.run("document.querySelector('dialog[open]').close()")
         finally:
             other.close()
-    same("the bar, the list and the dialog: nothing sideways, nothing below a contrast of 4.5", [], found[:5])
+    same(
+        "the bar, the list and the dialog: nothing sideways, nothing below a contrast of 4.5",
+        [],
+        found[:5],
+    )
 
 
 def write_pictures(folder, of_the_browser):
     """The pictures of docs/counter.md."""
     given = ["--goods", "Gravel 0/16", "--order", "4711"]
     rolls = []
-    for form, language, sample, is_further in (("escpos80", "en", USUAL["second"], False), ("escpos58", "de", USUAL["first"], True)):
+    for form, language, sample, is_further in (
+        ("escpos80", "en", USUAL["second"], False),
+        ("escpos58", "de", USUAL["first"], True),
+    ):
         desk = Desk(language, box=f'to = "file:{{folder}}/made"\nform = "{form}"')
         desk.run(sample.text, "--printer", "box", *(given if not is_further else []))
         if is_further:
@@ -333,11 +479,17 @@ def write_pictures(folder, of_the_browser):
             it = Printed(file.read(), {"escpos80": 576, "escpos58": 384}[form])
         it.save(f"{desk.folder}/{form}.png")
         rolls.append(f"{desk.folder}/{form}.png")
-    Image.open(of_the_browser).resize((640, 2160)).crop((0, 0, 640, 1720)).save(f"{folder}/browser.png")
+    Image.open(of_the_browser).resize((640, 2160)).crop((0, 0, 640, 1720)).save(
+        f"{folder}/browser.png"
+    )
     beside([*rolls, f"{folder}/browser.png"], f"{folder}/paper_rolls.png", 0.5)
     os.remove(f"{folder}/browser.png")
     sheets = []
-    for form, language, sample in (("a4", "en", USUAL["single"]), ("a5", "fr", LONGEST["second"]), ("roll80", "es", USUAL["void"])):
+    for form, language, sample in (
+        ("a4", "en", USUAL["single"]),
+        ("a5", "fr", LONGEST["second"]),
+        ("roll80", "es", USUAL["void"]),
+    ):
         desk = Desk(language, box=f'to = "file:{{folder}}/made"\nform = "{form}"')
         desk.run(sample.text, "--printer", "box", *given)
         sheets.append(picture_of(desk.made()[-1], 60))

@@ -102,8 +102,17 @@ class Cups:
         self.start()
 
     def start(self):
-        words = ["cupsd", "-f", "-c", f"{self.folder}/cupsd.conf", "-s", f"{self.folder}/cups-files.conf"]
-        self.scheduler = subprocess.Popen(words, stdin=subprocess.DEVNULL, stdout=subprocess.DEVNULL, stderr=subprocess.DEVNULL)
+        words = [
+            "cupsd",
+            "-f",
+            "-c",
+            f"{self.folder}/cupsd.conf",
+            "-s",
+            f"{self.folder}/cups-files.conf",
+        ]
+        self.scheduler = subprocess.Popen(
+            words, stdin=subprocess.DEVNULL, stdout=subprocess.DEVNULL, stderr=subprocess.DEVNULL
+        )
         for _ in range(100):
             if self.tell("lpstat", "-r").startswith("scheduler is running"):
                 return
@@ -111,13 +120,20 @@ class Cups:
         raise SystemExit(f"paper: cupsd doesn't begin: see {self.folder}/error_log")
 
     def tell(self, program, *words):
-        return subprocess.run([program, "-h", self.address, *words], capture_output=True, text=True, env={**os.environ, "LC_ALL": "C"}).stdout
+        return subprocess.run(
+            [program, "-h", self.address, *words],
+            capture_output=True,
+            text=True,
+            env={**os.environ, "LC_ALL": "C"},
+        ).stdout
 
     def queue(self, name):
         """A queue that puts what it gets, through the filters of the distribution, into a file."""
         with open(f"{self.folder}/file.ppd", "w") as file:
             file.write(PPD)
-        self.tell("lpadmin", "-p", name, "-E", "-v", f"file:{self.made}", "-P", f"{self.folder}/file.ppd")
+        self.tell(
+            "lpadmin", "-p", name, "-E", "-v", f"file:{self.made}", "-P", f"{self.folder}/file.ppd"
+        )
 
     def stop(self):
         self.scheduler.terminate()

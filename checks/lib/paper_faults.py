@@ -18,7 +18,9 @@ from tests.papers import LONGEST, USUAL, Sample
 from tests.played_printer import PlayedPrinter
 
 ROUNDS = 60
-HEADER = "number,key,kind,plate,moment,gross_kg,preset_kg,interval_kg,max_kg,serial,digest,previous\n"
+HEADER = (
+    "number,key,kind,plate,moment,gross_kg,preset_kg,interval_kg,max_kg,serial,digest,previous\n"
+)
 
 
 def marks(data):
@@ -49,15 +51,29 @@ def slow_and_full():
     played.rate = 3000
     began = time.monotonic()
     status = desk.run(USUAL["second"].text, "--printer", "yard")
-    same("a slow printer is waited for", (0, [0]), (status[0], [marks(it) for it in played.printed]))
-    holds("until it has printed everything, and no longer", 3 < time.monotonic() - began < 10, f"{time.monotonic() - began:.1f} s")
+    same(
+        "a slow printer is waited for", (0, [0]), (status[0], [marks(it) for it in played.printed])
+    )
+    holds(
+        "until it has printed everything, and no longer",
+        3 < time.monotonic() - began < 10,
+        f"{time.monotonic() - began:.1f} s",
+    )
     played.rate, played.is_deaf = None, True
     status = desk.run(USUAL["single"].text, "--printer", "yard", "--within", "1")
-    same("a full one is told in words, and the paper waits", (1, True), (status[0], "it doesn't answer" in status[2]))
+    same(
+        "a full one is told in words, and the paper waits",
+        (1, True),
+        (status[0], "it doesn't answer" in status[2]),
+    )
     played.is_deaf = False
     played.reset()
     status = desk.run(USUAL["void"].text, "--printer", "yard")
-    same("with room it prints both, in their order, as originals", (0, [0, 0, 0]), (status[0], [marks(it) for it in played.printed]))
+    same(
+        "with room it prints both, in their order, as originals",
+        (0, [0, 0, 0]),
+        (status[0], [marks(it) for it in played.printed]),
+    )
     same("and nothing waits", "", desk.run("", "--list")[1])
     played.gone()
 
@@ -74,15 +90,28 @@ def in_words_and_once():
         played = PlayedPrinter()
         desk = desk_of(played)
         played.state = name
-        it = subprocess.Popen(desk.words("--printer", "yard"), stdin=subprocess.PIPE, stdout=subprocess.PIPE, stderr=subprocess.PIPE, text=True)
+        it = subprocess.Popen(
+            desk.words("--printer", "yard"),
+            stdin=subprocess.PIPE,
+            stdout=subprocess.PIPE,
+            stderr=subprocess.PIPE,
+            text=True,
+        )
         it.stdin.write(USUAL["second"].text)
         it.stdin.close()
-        becomes(f"{name} is on the list in words", lambda desk=desk, said=said: said in desk.run("", "--list")[1])
+        becomes(
+            f"{name} is on the list in words",
+            lambda desk=desk, said=said: said in desk.run("", "--list")[1],
+        )
         time.sleep(1.2)
         played.state = ""
         status = it.wait(20)
         time.sleep(0.5)
-        same(f"after {name} it is printed once, as the original", (0, [0]), (status, [marks(it) for it in played.printed]))
+        same(
+            f"after {name} it is printed once, as the original",
+            (0, [0]),
+            (status, [marks(it) for it in played.printed]),
+        )
         played.gone()
 
 
@@ -97,20 +126,35 @@ def cut_gone_and_back():
         (status[0], *([marks(it) for it in them] for them in (played.begun, played.printed))),
     )
     played.out_after = 900
-    it = subprocess.Popen(desk.words("--printer", "yard"), stdin=subprocess.PIPE, stdout=subprocess.DEVNULL, stderr=subprocess.DEVNULL, text=True)
+    it = subprocess.Popen(
+        desk.words("--printer", "yard"),
+        stdin=subprocess.PIPE,
+        stdout=subprocess.DEVNULL,
+        stderr=subprocess.DEVNULL,
+        text=True,
+    )
     it.stdin.write(USUAL["single"].text)
     it.stdin.close()
-    becomes("out of paper in the middle is on the list", lambda: "there is no paper in it" in desk.run("", "--list")[1])
+    becomes(
+        "out of paper in the middle is on the list",
+        lambda: "there is no paper in it" in desk.run("", "--list")[1],
+    )
     played.state = ""
     same(
-        "with paper it goes on where it was: one paper, whole", (0, [2, 0], 1), (it.wait(20), [marks(it) for it in played.printed], len(played.begun))
+        "with paper it goes on where it was: one paper, whole",
+        (0, [2, 0], 1),
+        (it.wait(20), [marks(it) for it in played.printed], len(played.begun)),
     )
     played.gone()
     status = desk.run(USUAL["void"].text, "--printer", "yard", "--within", "1")
     same("gone is told in words", (1, True), (status[0], "it can't be reached" in status[2]))
     threading.Timer(1, played.there).start()
     status = desk.run("", "--printer", "yard")
-    same("and once it is back the original comes", (0, [2, 0, 0]), (status[0], [marks(it) for it in played.printed]))
+    same(
+        "and once it is back the original comes",
+        (0, [2, 0, 0]),
+        (status[0], [marks(it) for it in played.printed]),
+    )
     played.rate = 4000
     threading.Timer(1.2, played.gone).start()
     status = desk.run(USUAL["first"].text, "--printer", "yard", "--within", "3")
@@ -129,7 +173,12 @@ def killed():
     samples = [Sample("single", plate=f"KILL-{it}", number=it + 10) for it in range(ROUNDS)]
     played.rate, ends = 60000, 0
     for sample in samples:
-        it = subprocess.Popen(desk.words("--printer", "yard"), stdin=subprocess.PIPE, stdout=subprocess.DEVNULL, stderr=subprocess.DEVNULL)
+        it = subprocess.Popen(
+            desk.words("--printer", "yard"),
+            stdin=subprocess.PIPE,
+            stdout=subprocess.DEVNULL,
+            stderr=subprocess.DEVNULL,
+        )
         it.stdin.write(sample.text.encode())
         it.stdin.close()
         time.sleep(rolls.uniform(0.05, 0.9))
@@ -142,13 +191,24 @@ def killed():
     originals, wholes = {}, {}
     for paper in (*played.printed, *played.begun):
         plate = next(
-            (it.plate for it in samples if b"PLATE " + it.plate.encode() + b"\n" in paper or b"!\x22\x1bE\x01" + it.plate.encode() + b"\n" in paper),
+            (
+                it.plate
+                for it in samples
+                if b"PLATE " + it.plate.encode() + b"\n" in paper
+                or b"!\x22\x1bE\x01" + it.plate.encode() + b"\n" in paper
+            ),
             None,
         )
         if plate is not None:
-            originals[plate] = originals.get(plate, 0) + (marks(paper) == 0 and b"Weighing ticket" in paper)
+            originals[plate] = originals.get(plate, 0) + (
+                marks(paper) == 0 and b"Weighing ticket" in paper
+            )
             wholes[plate] = wholes.get(plate, 0) + (paper in played.printed)
-    same(f"killed {ROUNDS} times ({ends} had ended), no paper has two originals", [], [it for it, count in originals.items() if count > 1])
+    same(
+        f"killed {ROUNDS} times ({ends} had ended), no paper has two originals",
+        [],
+        [it for it, count in originals.items() if count > 1],
+    )
     same("and each was printed", [], [it.plate for it in samples if not wholes.get(it.plate)])
     played.gone()
 
@@ -160,12 +220,27 @@ def by_a_device():
         master, slave = pty.openpty()
         tty.setraw(slave)
         line = socket.create_connection(("127.0.0.1", played.port))
-        for source, target in ((lambda: os.read(master, 4096), line.sendall), (lambda: line.recv(4096), lambda data: os.write(master, data))):
+        for source, target in (
+            (lambda: os.read(master, 4096), line.sendall),
+            (lambda: line.recv(4096), lambda data: os.write(master, data)),
+        ):
             threading.Thread(target=pump, args=(source, target), daemon=True).start()
-        desk = Desk(yard=f'to = "{way.format(os.ttyname(slave))}"\nform = "escpos58"\nlanguage = "fr"')
-        statuses = [desk.run(USUAL[kind].text, "--printer", "yard")[0] for kind in ("second", "second")]
-        same(f"{way.partition(':')[0]}: an original and a duplicate", ([0, 0], [0, 2]), (statuses, [marks(it) for it in played.printed]))
-        same("with the legal text", [USUAL["second"].text] * 2, [Printed(it, 384).legal() for it in played.printed])
+        desk = Desk(
+            yard=f'to = "{way.format(os.ttyname(slave))}"\nform = "escpos58"\nlanguage = "fr"'
+        )
+        statuses = [
+            desk.run(USUAL[kind].text, "--printer", "yard")[0] for kind in ("second", "second")
+        ]
+        same(
+            f"{way.partition(':')[0]}: an original and a duplicate",
+            ([0, 0], [0, 2]),
+            (statuses, [marks(it) for it in played.printed]),
+        )
+        same(
+            "with the legal text",
+            [USUAL["second"].text] * 2,
+            [Printed(it, 384).legal() for it in played.printed],
+        )
         played.state = "cover_open"
         status = desk.run(USUAL["void"].text, "--printer", "yard", "--within", "0.5")
         same("and the state in words", (1, True), (status[0], "its cover is open" in status[2]))
@@ -190,7 +265,13 @@ def falsified():
         export = f"{desk.folder}/{sample.kind}-{sample.number}.csv"
         with open(export, "w") as file:
             digests = sample.digests | {sample.number: sample.digest}
-            file.write(HEADER + "".join(f"{number},{sample.keys.get(number, 'K0')},,,,,,,,,{digest},\n" for number, digest in digests.items()))
+            file.write(
+                HEADER
+                + "".join(
+                    f"{number},{sample.keys.get(number, 'K0')},,,,,,,,,{digest},\n"
+                    for number, digest in digests.items()
+                )
+            )
         same(
             f"{sample.kind} {sample.number}: the true one is taken, with nothing said",
             (0, ""),
@@ -204,7 +285,11 @@ def falsified():
             said += status == 3 or "can't be made again" in words
             taken += [changed] if status != 3 and "can't be made again" not in words else []
     same("falsified texts that were taken", [], taken)
-    same("falsified texts refused against an export, and refused or said without", (refused, refused), (refused, said))
+    same(
+        "falsified texts refused against an export, and refused or said without",
+        (refused, refused),
+        (refused, said),
+    )
     print(f"falsified texts: {refused}")
 
 

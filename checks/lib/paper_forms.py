@@ -4,7 +4,16 @@ import os
 
 from countering import holds, same
 from paper_roll import code_of
-from papering import Desk, about, code_in_pdf, fonts_left_out, legal_in_pdf, lines_of, picture_of, printed_of
+from papering import (
+    Desk,
+    about,
+    code_in_pdf,
+    fonts_left_out,
+    legal_in_pdf,
+    lines_of,
+    picture_of,
+    printed_of,
+)
 from PIL import Image
 
 from tests.papers import KINDS, LONGEST, USUAL
@@ -13,14 +22,20 @@ from weighbridge_paper.text import read_text
 
 DOTS = {"escpos80": 576, "escpos58": 384}
 SIZES = {"a4": (210, 297), "a5": (148, 210), "roll80": (80, None)}
-GIVEN = {"goods": "Kies 0/16 für Straßenbau, gewaschen, Körnung nach Norm 12620", "order": "4711/2025-ÄÖÜ", "driver": "François Ñandú"}
+GIVEN = {
+    "goods": "Kies 0/16 für Straßenbau, gewaschen, Körnung nach Norm 12620",
+    "order": "4711/2025-ÄÖÜ",
+    "driver": "François Ñandú",
+}
 
 
 def large_of(text, language):
     """What may be large: kind, number, plate and net, or the gross if there is no net."""
     kg = text.net if text.net is not None else text.own.gross
     kind = words.word("ticket" if text.is_ticket else "slip", language)
-    return [f"{kind} {text.own.number}", text.plate] + ([] if kg is None else [words.kg(kg, language)])
+    return [f"{kind} {text.own.number}", text.plate] + (
+        [] if kg is None else [words.kg(kg, language)]
+    )
 
 
 def show(looked_at=None):
@@ -30,7 +45,9 @@ def show(looked_at=None):
         for at, (length, samples) in enumerate((("usual", USUAL), ("longest", LONGEST))):
             for kind in KINDS:
                 language = words.LANGUAGES[(KINDS.index(kind) + at) % 4]
-                sample, desk = samples[kind], Desk(language, box=f'to = "file:{{folder}}/made"\nform = "{form}"')
+                sample, desk = samples[kind], Desk(
+                    language, box=f'to = "file:{{folder}}/made"\nform = "{form}"'
+                )
                 given = [part for name, value in GIVEN.items() for part in (f"--{name}", value)]
                 statuses = [
                     desk.run(sample.text, "--printer", "box", *given)[0],
@@ -49,8 +66,14 @@ def show(looked_at=None):
                     count += 1
                 if looked_at:
                     picture = made[at] if form in SIZES else made[at] + ".png"
-                    sheets.setdefault(form, []).append(picture_of(picture, 75) if form in SIZES else picture)
-    same("each form, kind, length and language: letters, large print, marks, QR code, fonts, pages", [], wrong[:5])
+                    sheets.setdefault(form, []).append(
+                        picture_of(picture, 75) if form in SIZES else picture
+                    )
+    same(
+        "each form, kind, length and language: letters, large print, marks, QR code, fonts, pages",
+        [],
+        wrong[:5],
+    )
     same("papers read back", 80, count)
     a_full_page()
     for form, pictures in sheets.items():
@@ -62,11 +85,20 @@ def a_full_page():
     lines = [f"Line {it} of what the company has to say" for it in range(8)]
     desk = Desk(box=f'to = "file:{{folder}}/made"\nform = "a5"\nheader = {lines}\nfooter = {lines}')
     for sample in (LONGEST["second"], USUAL["second"]):
-        desk.run(sample.text, "--printer", "box", *[part for name in GIVEN for part in (f"--{name}", GIVEN["goods"])])
+        desk.run(
+            sample.text,
+            "--printer",
+            "box",
+            *[part for name in GIVEN for part in (f"--{name}", GIVEN["goods"])],
+        )
         desk.run("", "--printer", "box", "--reprint", str(sample.number))
         for path, count in zip(desk.made()[-2:], (0, 3)):
             rest = " ".join(" ".join(lines_of(path, "a5")).split())
-            same("a full page", (2, sample.text, count), (about(path)[0], legal_in_pdf(path, "a5"), rest.count("DUPLICATE")))
+            same(
+                "a full page",
+                (2, sample.text, count),
+                (about(path)[0], legal_in_pdf(path, "a5"), rest.count("DUPLICATE")),
+            )
 
 
 def faults_of_roll(path, form, sample, language, is_further):
@@ -92,7 +124,12 @@ def faults_of_roll(path, form, sample, language, is_further):
 
 def missing(rest, text, language):
     """What every paper has, if it isn't there: times, what was given, and that it is no part of the weighing."""
-    wanted = [words.utc(it.at) for it in text.weighings] + [GIVEN["order"], GIVEN["driver"], "Kies 0/16", words.word("given", language)]
+    wanted = [words.utc(it.at) for it in text.weighings] + [
+        GIVEN["order"],
+        GIVEN["driver"],
+        "Kies 0/16",
+        words.word("given", language),
+    ]
     return [f"no {it}" for it in wanted if it.replace(" ", "") not in rest.replace(" ", "")]
 
 
@@ -113,15 +150,24 @@ def faults_of_pdf(path, form, sample, language, is_further):
     if pages != 1 or width != SIZES[form][0] or SIZES[form][1] not in (None, height):
         found.append(f"{pages} pages of {width} by {height} mm")
     bare = rest.replace(" ", "").replace("\u202f", "")
-    found += [f"no large {it}" for it in large_of(text, language) if it.replace(" ", "").replace("\u202f", "") not in bare]
+    found += [
+        f"no large {it}"
+        for it in large_of(text, language)
+        if it.replace(" ", "").replace("\u202f", "") not in bare
+    ]
     return found + missing(rest, text, language)
 
 
 def beside(paths, target, scale):
     """Pictures side by side, to be looked at."""
     pictures = [Image.open(it).convert("L") for it in paths]
-    pictures = [it.resize((round(it.width * scale), round(it.height * scale)), Image.LANCZOS) for it in pictures]
-    sheet = Image.new("L", (sum(it.width + 12 for it in pictures), max(it.height for it in pictures) + 12), 200)
+    pictures = [
+        it.resize((round(it.width * scale), round(it.height * scale)), Image.LANCZOS)
+        for it in pictures
+    ]
+    sheet = Image.new(
+        "L", (sum(it.width + 12 for it in pictures), max(it.height for it in pictures) + 12), 200
+    )
     left = 6
     for it in pictures:
         sheet.paste(it, (left, 6))

@@ -25,8 +25,16 @@ def show():
                 made = cups.made + ".pdf"
                 os.replace(cups.made, made)
                 pages, width, height = about(made)
-                same("its size is as it was laid out", (1, size[0], True), (pages, width, size[1] in (None, height)))
-                same("its legal text, letter for letter, behind CUPS's filters", sample.text, legal_in_pdf(made, form))
+                same(
+                    "its size is as it was laid out",
+                    (1, size[0], True),
+                    (pages, width, size[1] in (None, height)),
+                )
+                same(
+                    "its legal text, letter for letter, behind CUPS's filters",
+                    sample.text,
+                    legal_in_pdf(made, form),
+                )
                 same(
                     "its QR code, and fonts that are all embedded",
                     (f"{sample.number} {sample.digest}", []),
@@ -42,7 +50,11 @@ def show():
 def once(cups):
     """A CUPS that keeps no files, as docs/counter.md has it, prints a paper once, whatever another user asks of it: it would be a second original."""
     desk = Desk(desk=f'to = "cups:desk@{cups.address}"\nform = "a4"')
-    same("a paper is printed", 0, desk.run(Sample("single", plate="ONCE").text, "--printer", "desk")[0])
+    same(
+        "a paper is printed",
+        0,
+        desk.run(Sample("single", plate="ONCE").text, "--printer", "desk")[0],
+    )
     os.remove(cups.made)
     for number in range(1, 20):
         cups.tell("lp", "-U", "root", "-i", f"desk-{number}", "-H", "restart")
@@ -59,13 +71,19 @@ def stopped(cups):
         (1, True, ""),
         (status[0], "its queue at CUPS is stopped" in status[2], cups.tell("lpstat", "-o", "desk")),
     )
-    it = subprocess.Popen(desk.words("--printer", "desk"), stdin=subprocess.DEVNULL, stdout=subprocess.PIPE, text=True)
+    it = subprocess.Popen(
+        desk.words("--printer", "desk"), stdin=subprocess.DEVNULL, stdout=subprocess.PIPE, text=True
+    )
     time.sleep(1)
     cups.tell("cupsenable", "desk")
     same("once it goes on the original comes", (0, ""), (it.wait(20), desk.run("", "--list")[1]))
     same("with its text", USUAL["single"].text, legal_in_pdf(cups.made, "a4"))
     cups.tell("cupsreject", "desk")
-    same("one that takes nothing, too", 1, desk.run(USUAL["void"].text, "--printer", "desk", "--within", "1")[0])
+    same(
+        "one that takes nothing, too",
+        1,
+        desk.run(USUAL["void"].text, "--printer", "desk", "--within", "1")[0],
+    )
     cups.tell("cupsaccept", "desk")
     same("and goes on", 0, desk.run("", "--printer", "desk")[0])
 
@@ -74,13 +92,23 @@ def gone(cups):
     desk = Desk(desk=f'to = "cups:desk@{cups.address}"\nform = "a4"')
     cups.stop()
     status = desk.run(USUAL["second"].text, "--printer", "desk", "--within", "1")
-    same("a CUPS that is gone is told in words", (1, True), (status[0], "it can't be reached" in status[2]))
+    same(
+        "a CUPS that is gone is told in words",
+        (1, True),
+        (status[0], "it can't be reached" in status[2]),
+    )
     cups.start()
     same("and once it is back the original comes", 0, desk.run("", "--printer", "desk")[0])
     with open(cups.made, "rb") as file:
         first = file.read()
     os.kill(cups.scheduler.pid, signal.SIGSTOP)
-    it = subprocess.Popen(desk.words("--printer", "desk"), stdin=subprocess.PIPE, stdout=subprocess.PIPE, stderr=subprocess.DEVNULL, text=True)
+    it = subprocess.Popen(
+        desk.words("--printer", "desk"),
+        stdin=subprocess.PIPE,
+        stdout=subprocess.PIPE,
+        stderr=subprocess.DEVNULL,
+        text=True,
+    )
     it.stdin.write(USUAL["first"].text)
     it.stdin.close()
     time.sleep(1)

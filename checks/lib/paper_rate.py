@@ -26,7 +26,9 @@ def show():
     for name in lines:
         desk = Desk(**{name: lines[name]})
         papers = read_papers(Path(desk.setup))
-        spool, samples = Spool(papers.spool), [Sample("second", plate=f"R-{it}", number=it + 2) for it in range(TICKETS)]
+        spool, samples = Spool(papers.spool), [
+            Sample("second", plate=f"R-{it}", number=it + 2) for it in range(TICKETS)
+        ]
         began = time.monotonic()
         for sample in samples:
             spool.put(spool.take(read_text(sample.text)), name)
@@ -37,7 +39,11 @@ def show():
             worker.turn()
             each.append(time.monotonic() - begun)
         took = time.monotonic() - began
-        same(f"{name}: each is printed", TICKETS, len(played.printed) if name == "yard" else len(desk.made()))
+        same(
+            f"{name}: each is printed",
+            TICKETS,
+            len(played.printed) if name == "yard" else len(desk.made()),
+        )
         holds(
             f"{name}: {TICKETS} within a minute",
             took < 60,

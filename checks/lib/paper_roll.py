@@ -108,10 +108,14 @@ class Printed:
     def picture(self):
         if self.take(2) != b"0\0":
             raise Fault("another picture")
-        width, height = int.from_bytes(self.take(2), "little"), int.from_bytes(self.take(2), "little")
+        width, height = int.from_bytes(self.take(2), "little"), int.from_bytes(
+            self.take(2), "little"
+        )
         if self.pending:
             raise Fault("a picture within a line")
-        picture = Image.frombytes("1", (width * 8, height), bytes(it ^ 0xFF for it in self.take(width * height)))
+        picture = Image.frombytes(
+            "1", (width * 8, height), bytes(it ^ 0xFF for it in self.take(width * height))
+        )
         if width * 8 > self.dots:
             raise Fault("a picture wider than the paper")
         self.image.paste(picture, ((self.dots - width * 8) // 2 if self.to == 1 else 0, self.top))
@@ -172,7 +176,11 @@ def legal_of(lines):
 
 def code_in(path):
     """What the QR code of a picture says."""
-    it = subprocess.run(["zbarimg", "--quiet", "--raw", "-Sdisable", "-Sqrcode.enable", path], capture_output=True, text=True)
+    it = subprocess.run(
+        ["zbarimg", "--quiet", "--raw", "-Sdisable", "-Sqrcode.enable", path],
+        capture_output=True,
+        text=True,
+    )
     return it.stdout.removesuffix("\n")
 
 

@@ -13,7 +13,11 @@ from paper_roll import Printed, code_in, legal_of
 
 sys.path.insert(0, os.path.join(TOP, "counter"))
 COMMAND = os.path.join(TOP, "counter", "weighbridge-paper")
-LETTERS = {"a4": 6.02, "a5": 4.816, "roll80": 4.816}  # width in points of a letter of the legal text
+LETTERS = {
+    "a4": 6.02,
+    "a5": 4.816,
+    "roll80": 4.816,
+}  # width in points of a letter of the legal text
 HEAD = """spool = "{folder}/spool"
 zone = "Europe/Berlin"
 language = "{language}"
@@ -27,7 +31,9 @@ class Desk:
 
     def __init__(self, language="en", **printers):
         self.folder = tempfile.mkdtemp(prefix="paper-")
-        atexit.register(lambda: failures or shutil.rmtree(self.folder, ignore_errors=True))  # what failed stays, to be looked at
+        atexit.register(
+            lambda: failures or shutil.rmtree(self.folder, ignore_errors=True)
+        )  # what failed stays, to be looked at
         self.setup = f"{self.folder}/paper.toml"
         os.mkdir(f"{self.folder}/made")
         with open(self.setup, "w") as file:
@@ -39,12 +45,16 @@ class Desk:
         return [COMMAND, "--setup", self.setup, *words]
 
     def run(self, letters, *words, within=60):
-        it = subprocess.run(self.words(*words), input=letters.encode(), capture_output=True, timeout=within)
+        it = subprocess.run(
+            self.words(*words), input=letters.encode(), capture_output=True, timeout=within
+        )
         return it.returncode, it.stdout.decode(), it.stderr.decode()
 
     def made(self):
         """What came out, the oldest first."""
-        names = sorted(os.listdir(f"{self.folder}/made"), key=lambda it: int(re.findall(r"-(\d+)\.", it)[0]))
+        names = sorted(
+            os.listdir(f"{self.folder}/made"), key=lambda it: int(re.findall(r"-(\d+)\.", it)[0])
+        )
         return [f"{self.folder}/made/{it}" for it in names]
 
 
@@ -59,7 +69,9 @@ def lines_of(pdf, form):
 
 
 def lines_of_width(pdf, width):
-    it = subprocess.run(["pdftotext", "-fixed", str(width), pdf, "-"], capture_output=True, text=True, check=True)
+    it = subprocess.run(
+        ["pdftotext", "-fixed", str(width), pdf, "-"], capture_output=True, text=True, check=True
+    )
     lines = it.stdout.replace("\f", "\n\n").split("\n")  # a page's end ends what stands on it
     begin = next(it for it in lines if it.lstrip().startswith("WEIGHING "))
     margin = len(begin) - len(begin.lstrip())
@@ -72,7 +84,10 @@ def legal_in_pdf(pdf, form):
 
 def picture_of(pdf, resolution=200):
     """The first page of a PDF as a picture."""
-    subprocess.run(["pdftoppm", "-r", str(resolution), "-png", "-singlefile", pdf, pdf.removesuffix(".pdf")], check=True)
+    subprocess.run(
+        ["pdftoppm", "-r", str(resolution), "-png", "-singlefile", pdf, pdf.removesuffix(".pdf")],
+        check=True,
+    )
     return pdf.removesuffix(".pdf") + ".png"
 
 
@@ -91,4 +106,8 @@ def about(pdf):
     """Pages, and width and height in millimetres."""
     it = subprocess.run(["pdfinfo", pdf], capture_output=True, text=True, check=True)
     size = re.search(r"Page size: +([\d.]+) x ([\d.]+) pts", it.stdout)
-    return int(re.search(r"Pages: +(\d+)", it.stdout)[1]), round(float(size[1]) * 25.4 / 72), round(float(size[2]) * 25.4 / 72)
+    return (
+        int(re.search(r"Pages: +(\d+)", it.stdout)[1]),
+        round(float(size[1]) * 25.4 / 72),
+        round(float(size[2]) * 25.4 / 72),
+    )

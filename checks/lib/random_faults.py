@@ -37,7 +37,12 @@ class Faulty:
     FAULTS = []
 
     def __init__(self, seed):
-        self.held, self.fault, self.random, self.over = Held(), "", random.Random(seed), threading.Event()
+        self.held, self.fault, self.random, self.over = (
+            Held(),
+            "",
+            random.Random(seed),
+            threading.Event(),
+        )
         self.had = {}
         self.begin()
         threading.Thread(target=self.have_faults, daemon=True).start()
@@ -88,7 +93,20 @@ class FaultyTcp(Faulty):
 
 
 class FaultyModbus(FaultyTcp):
-    FAULTS = ["away", "late", "too late", "twice", "exchanged", "in pieces", "cut", "with more", "busy", "exception", "silent", "an old one first"]
+    FAULTS = [
+        "away",
+        "late",
+        "too late",
+        "twice",
+        "exchanged",
+        "in pieces",
+        "cut",
+        "with more",
+        "busy",
+        "exception",
+        "silent",
+        "an old one first",
+    ]
 
     def serve(self, stream):
         earlier, kept = b"", b""
@@ -105,7 +123,9 @@ class FaultyModbus(FaultyTcp):
         fault = self.fault
         if fault in ("", "late", "twice", "with more"):
             time.sleep(0.1 if fault == "late" else 0)
-            stream.sendall(answer * (2 if fault == "twice" else 1) + (b"more" if fault == "with more" else b""))
+            stream.sendall(
+                answer * (2 if fault == "twice" else 1) + (b"more" if fault == "with more" else b"")
+            )
         elif fault == "too late":
             time.sleep(0.5)
             stream.sendall(answer)
@@ -143,7 +163,18 @@ def checked_by(frame):
 class FaultyLine(Faulty):
     """A Modbus device by RTU on a pair of pseudo terminals."""
 
-    FAULTS = ["late", "too late", "twice", "garbled", "cut", "with more", "noise before", "exception", "another unit", "silent"]
+    FAULTS = [
+        "late",
+        "too late",
+        "twice",
+        "garbled",
+        "cut",
+        "with more",
+        "noise before",
+        "exception",
+        "another unit",
+        "silent",
+    ]
 
     def __init__(self, seed, folder):
         self.folder = folder
@@ -153,7 +184,9 @@ class FaultyLine(Faulty):
         os.makedirs(self.folder)
         own, self.name = (os.path.join(self.folder, it) for it in ("own", "device"))
         self.pair = begun(["socat", f"pty,rawer,link={own}", f"pty,rawer,link={self.name}"])
-        wait_for("a pair of pseudo terminals", lambda: os.path.exists(own) and os.path.exists(self.name))
+        wait_for(
+            "a pair of pseudo terminals", lambda: os.path.exists(own) and os.path.exists(self.name)
+        )
         self.line = os.open(own, os.O_RDWR | os.O_NOCTTY)
         tty.setraw(self.line)
         threading.Thread(target=self.serve, daemon=True).start()
@@ -196,7 +229,19 @@ class FaultyLine(Faulty):
 class FaultyText(FaultyTcp):
     """An indicator that sends frames with a checksum so many times a second."""
 
-    FAULTS = ["away", "silent", "cut", "garbled", "twice", "no ends", "held back", "a net", "out of range", "in pieces", "busy"]
+    FAULTS = [
+        "away",
+        "silent",
+        "cut",
+        "garbled",
+        "twice",
+        "no ends",
+        "held back",
+        "a net",
+        "out of range",
+        "in pieces",
+        "busy",
+    ]
     RATE = 10
 
     def serve(self, stream):
@@ -285,10 +330,20 @@ class FaultyAsked(FaultyTcp):
                 stream.sendall(bytes([byte]))
                 time.sleep(0.001)
         else:
-            stream.sendall({"silent": b"", "twice": text * 2, "cut": text[:5] + b"\r\n"}.get(self.fault, text))
+            stream.sendall(
+                {"silent": b"", "twice": text * 2, "cut": text[:5] + b"\r\n"}.get(self.fault, text)
+            )
 
     def words(self):
-        return ["text", "--tcp", f"{bridge.HOST}:{self.port}", "--pattern", r"(?P<sign>[+-])(?P<value>[0-9]{7})", "--ask", "MSV?;"]
+        return [
+            "text",
+            "--tcp",
+            f"{bridge.HOST}:{self.port}",
+            "--pattern",
+            r"(?P<sign>[+-])(?P<value>[0-9]{7})",
+            "--ask",
+            "MSV?;",
+        ]
 
 
 class FaultyIio(Faulty):
@@ -307,7 +362,12 @@ class FaultyIio(Faulty):
     def serve(self):
         while not self.over.wait(0.01):
             fault, value = self.fault, self.held.now()
-            self.show(fault, {"no number": "12x4\n", "empty": "", "out of its bits": "8388608\n"}.get(fault, f"{value}\n"))
+            self.show(
+                fault,
+                {"no number": "12x4\n", "empty": "", "out of its bits": "8388608\n"}.get(
+                    fault, f"{value}\n"
+                ),
+            )
             self.until[self.value] = time.monotonic()
             self.value = None if fault else value
 

@@ -6,7 +6,9 @@ import re
 import shutil
 
 PARTS = ("src", "specs", "proofs")
-COMMENT_OR_TEXT = re.compile(r"""//[^\n]*|/\*.*?\*/|b?"(?:\\.|[^"\\])*"|b?'(?:\\[^']*|[^'\\\n])'""", re.S)
+COMMENT_OR_TEXT = re.compile(
+    r"""//[^\n]*|/\*.*?\*/|b?"(?:\\.|[^"\\])*"|b?'(?:\\[^']*|[^'\\\n])'""", re.S
+)
 CLAUSE = re.compile(r"\b(?:requires|ensures)\s*\*?\s*\w*\s*$|\bghost\b\s*\w*\s*:?\s*\w*\s*=?\s*$")
 
 
@@ -22,7 +24,12 @@ def write(path, text):
 
 
 def files_below(folder, parts):
-    found = [f"{at}/{name}" for part in parts for at, _, names in os.walk(f"{folder}/{part}") for name in names]
+    found = [
+        f"{at}/{name}"
+        for part in parts
+        for at, _, names in os.walk(f"{folder}/{part}")
+        for name in names
+    ]
     return sorted(os.path.relpath(it, folder) for it in found)
 
 
@@ -80,7 +87,10 @@ def impls_of(text):
         while re.search(r"<[^<>]*>", head):
             head = re.sub(r"<[^<>]*>", "", head)
         trait, _, type_name = head.split("where")[0].rpartition(" for ")
-        yield it.start(), end_of_block(text, it.end() - 1), (type_name.split("::")[-1].strip(), trait.split("::")[-1].strip())
+        yield it.start(), end_of_block(text, it.end() - 1), (
+            type_name.split("::")[-1].strip(),
+            trait.split("::")[-1].strip(),
+        )
 
 
 def first_line(text, at):
@@ -103,7 +113,11 @@ def functions_of(text):
         if opening is None or any(other.opening < it.start() < other.end for other in found):
             continue
         impl = next((named for first, last, named in impls if first < it.start() < last), ("", ""))
-        found.append(Function(it[1], impl, first_line(written, it.start()), opening, end_of_block(text, opening)))
+        found.append(
+            Function(
+                it[1], impl, first_line(written, it.start()), opening, end_of_block(text, opening)
+            )
+        )
     return found
 
 
@@ -117,7 +131,11 @@ def contracts_of(text):
 
 
 def module_of(file):
-    return [it for it in file.removeprefix("src/").removesuffix(".rt").split("/") if it not in ("lib", "mod")]
+    return [
+        it
+        for it in file.removeprefix("src/").removesuffix(".rt").split("/")
+        if it not in ("lib", "mod")
+    ]
 
 
 def path_of(homes, file, key):
@@ -134,7 +152,10 @@ def homes_of(folder):
     """By the names of the crate's types, the modules in which one of that name is declared."""
     homes = {}
     for file in files_below(folder, ["src"]):
-        for it in re.finditer(r"(?m)^\s*(?:pub(?:\(\w+\))? )?(?:struct|enum|union) (\w+)", blanked(read(f"{folder}/{file}"))):
+        for it in re.finditer(
+            r"(?m)^\s*(?:pub(?:\(\w+\))? )?(?:struct|enum|union) (\w+)",
+            blanked(read(f"{folder}/{file}")),
+        ):
             homes.setdefault(it[1], []).append(module_of(file))
     return homes
 
@@ -165,7 +186,10 @@ def leave_hole(crate, folder, path):
         if os.path.exists(f"{above}/{name}/{it}.antt"):
             os.remove(f"{above}/{name}/{it}.antt")
     statement = f"use Rattle.{crate}.proofs.{'.'.join(path)}.Statement.{{statement}}\n"
-    write(f"{above}/{name}/Proof.antt", f"{statement}\npub {name}_spec : {{M : Type 1}} → statement M\n{name}_spec = ?\n")
+    write(
+        f"{above}/{name}/Proof.antt",
+        f"{statement}\npub {name}_spec : {{M : Type 1}} → statement M\n{name}_spec = ?\n",
+    )
 
 
 def copied(source, to):

@@ -11,10 +11,22 @@ import time
 
 import bridge
 import odd_modbus
-from converting import IS_LONG, PROGRAM, PYMODBUS, READERS, Running, holds, line_of, same, tenths, with_pymodbus
+from converting import (
+    IS_LONG,
+    PROGRAM,
+    PYMODBUS,
+    READERS,
+    Running,
+    holds,
+    line_of,
+    same,
+    tenths,
+    with_pymodbus,
+)
 from devices import begun, wait_for
 from random_faults import FaultyAsked, FaultyIio, FaultyLine, FaultyModbus, FaultySir, FaultyText
 from sir_device import SirDevice
+
 
 def goes_through(name, device, folder, rate=10):
     """The device's load is indicated and stored, as computed."""
@@ -31,12 +43,19 @@ def goes_through(name, device, folder, rate=10):
             same(f"{name}: S at {now} counts", f"S S {shown:10} kg", terminal.ask("S"))
         same(f"{name}: SI at {counts} counts", f"S S {gross:10} kg", terminal.ask("SI"))
         status, slip = bridge.post(service, "/weighings", f"key=K{key}&kind=first&plate=P-{key}")
-        holds(f"{name}: a weighing of {gross} kg is stored: {status} {slip!r}", status == 201 and f"G {gross:10} kg" in slip)
+        holds(
+            f"{name}: a weighing of {gross} kg is stored: {status} {slip!r}",
+            status == 201 and f"G {gross:10} kg" in slip,
+        )
     terminal.close()
     chain.close()
     _, err = service.process.communicate(timeout=20)
     same(f"{name}: the service ends with its converter", (0, ""), (service.process.returncode, err))
-    same(f"{name}: the journal", (0, "SOUND 3\n", ""), bridge.printed(PROGRAM, "check", "--file", journal))
+    same(
+        f"{name}: the journal",
+        (0, "SOUND 3\n", ""),
+        bridge.printed(PROGRAM, "check", "--file", journal),
+    )
     print(f"{name}: from the device to a stored weighing: ok", flush=True)
 
 
@@ -57,15 +76,32 @@ def is_lost(name, device, folder, rate=10):
         told = chain.told_lines()[before:]
         ends()
         device.put(96_766)
-        wait_for(f"{name}, {fault}: a line after it", lambda: client.texts()[-1] == line_of(96_766), 20)
+        wait_for(
+            f"{name}, {fault}: a line after it", lambda: client.texts()[-1] == line_of(96_766), 20
+        )
         time.sleep(0.5)
         after = chain.told_lines()[before:]
         texts = set(client.texts())
-        holds(f"{name}, {fault}: all lines are lost while it lasts: {during[:5]}", during and set(during) == {"lost"})
-        holds(f"{name}, {fault}: lines come at the pace: {len(during)}", 0.3 * 1.4 * rate <= len(during) <= 1.3 * 1.4 * rate + 1)
-        holds(f"{name}, {fault}: one line when it begins: {told}", len(told) == 1 and "are lost: " in told[0])
-        holds(f"{name}, {fault}: one line when it ends: {after[1:]}", len(after) == 2 and "are back" in after[1])
-        holds(f"{name}, {fault}: no other load comes: {texts}", texts <= {wanted, line_of(96_766), "lost"})
+        holds(
+            f"{name}, {fault}: all lines are lost while it lasts: {during[:5]}",
+            during and set(during) == {"lost"},
+        )
+        holds(
+            f"{name}, {fault}: lines come at the pace: {len(during)}",
+            0.3 * 1.4 * rate <= len(during) <= 1.3 * 1.4 * rate + 1,
+        )
+        holds(
+            f"{name}, {fault}: one line when it begins: {told}",
+            len(told) == 1 and "are lost: " in told[0],
+        )
+        holds(
+            f"{name}, {fault}: one line when it ends: {after[1:]}",
+            len(after) == 2 and "are back" in after[1],
+        )
+        holds(
+            f"{name}, {fault}: no other load comes: {texts}",
+            texts <= {wanted, line_of(96_766), "lost"},
+        )
         print(f"{name}, {fault}: {told[0].partition('lost: ')[2] if told else ''}", flush=True)
         device.put(232_000)
         wait_for(f"{name}: the load again", lambda: client.texts()[-1] == wanted)
@@ -97,14 +133,29 @@ def reads_odd_answers():
             it.start()
         for it in tried:
             it.join()
-        print(f"odd answers, read by the pymodbus {'of this system' if folder is None else 'in ' + folder}: ok", flush=True)
+        print(
+            f"odd answers, read by the pymodbus {'of this system' if folder is None else 'in ' + folder}: ok",
+            flush=True,
+        )
 
 
 def reads_one_odd(folder, answers, least, most):
     server = odd_modbus.OddModbus(bridge.HOST, answers)
     name = answers.__name__.replace("_", " ")
-    command = [os.path.join(READERS, "modbus"), "--tcp", f"{bridge.HOST}:{server.port}", "--address", "0"]
-    reader = begun(command, stdout=subprocess.PIPE, stderr=subprocess.DEVNULL, text=True, env=with_pymodbus(folder))
+    command = [
+        os.path.join(READERS, "modbus"),
+        "--tcp",
+        f"{bridge.HOST}:{server.port}",
+        "--address",
+        "0",
+    ]
+    reader = begun(
+        command,
+        stdout=subprocess.PIPE,
+        stderr=subprocess.DEVNULL,
+        text=True,
+        env=with_pymodbus(folder),
+    )
     ages, lost = [], 0
     for _ in range(40):
         text = reader.stdout.readline().strip()
@@ -115,13 +166,22 @@ def reads_one_odd(folder, answers, least, most):
     reader.kill()
     reader.wait()
     server.close()
-    holds(f"answers {name}: no reading is older than 250 ms: {max(ages, default=0)}", max(ages, default=0) <= 250)
-    holds(f"answers {name}: {least} to {most} of 40 readings are lost: {lost}", least <= lost <= most)
+    holds(
+        f"answers {name}: no reading is older than 250 ms: {max(ages, default=0)}",
+        max(ages, default=0) <= 250,
+    )
+    holds(
+        f"answers {name}: {least} to {most} of 40 readings are lost: {lost}", least <= lost <= most
+    )
 
 
 def comes_back():
     """A device that forgot what it was to send, at five periods and three times, all side by side."""
-    cases = [(period, off) for period in (0.02, 0.1, 0.12, 0.15, 0.2) for off in (0.5, 2.0, 30.0 if IS_LONG else 5.0)]
+    cases = [
+        (period, off)
+        for period in (0.02, 0.1, 0.12, 0.15, 0.2)
+        for off in (0.5, 2.0, 30.0 if IS_LONG else 5.0)
+    ]
     tried = [threading.Thread(target=comes_back_after, args=it) for it in cases]
     for it in tried:
         it.start()
@@ -132,10 +192,19 @@ def comes_back():
 
 def comes_back_after(period, off):
     device = SirDevice(bridge.HOST, period)
-    command = [os.path.join(READERS, "text"), "--tcp", f"{bridge.HOST}:{device.port}", "--preset", "sir"]
+    command = [
+        os.path.join(READERS, "text"),
+        "--tcp",
+        f"{bridge.HOST}:{device.port}",
+        "--preset",
+        "sir",
+    ]
     reader = begun(command, stdout=subprocess.PIPE, stderr=subprocess.DEVNULL, text=True)
     lines = []
-    hearing = threading.Thread(target=lambda: lines.extend((time.monotonic(), it.strip()) for it in reader.stdout), daemon=True)
+    hearing = threading.Thread(
+        target=lambda: lines.extend((time.monotonic(), it.strip()) for it in reader.stdout),
+        daemon=True,
+    )
     hearing.start()
     time.sleep(2)
     device.is_on = False
@@ -149,7 +218,10 @@ def comes_back_after(period, off):
     late = [at - back for at, text in lines if at > back + 2 and text == "lost"]
     name = f"a period of {period} s, off for {off} s"
     holds(f"{name}: no reading is lost two seconds after: {late[:3]}", not late)
-    holds(f"{name}: values come: {len(lines)}", sum(text == "1234" for at, text in lines if at > back) >= 3 / max(period, 0.1) * 0.6)
+    holds(
+        f"{name}: values come: {len(lines)}",
+        sum(text == "1234" for at, text in lines if at > back) >= 3 / max(period, 0.1) * 0.6,
+    )
     holds(f"{name}: it is asked once or twice when it is back: {again}", 1 <= again <= 2)
 
 
@@ -171,10 +243,21 @@ def has_faults(name, device, folder, seconds, environment=None):
     oldest = max(known, default=9.0)
     holds(f"{name}: no line is a value that the device never held: {never[:5]}", not never)
     holds(f"{name}: no line is older than 250 ms: {oldest * 1000:.0f} ms", oldest <= 0.25)
-    holds(f"{name}: {len(found)} of {len(client.lines)} lines have a load", len(found) > len(client.lines) / 4 > seconds)
+    holds(
+        f"{name}: {len(found)} of {len(client.lines)} lines have a load",
+        len(found) > len(client.lines) / 4 > seconds,
+    )
     lost = len(client.lines) - len(found)
-    times = f"median {statistics.median(known) * 1000:.0f} ms, greatest {oldest * 1000:.0f} ms" if known else "none"
-    print(f"{name}: {sum(device.had.values())} faults, {lost} of {len(client.lines)} lines lost, the others old: {times}\n", end="", flush=True)
+    times = (
+        f"median {statistics.median(known) * 1000:.0f} ms, greatest {oldest * 1000:.0f} ms"
+        if known
+        else "none"
+    )
+    print(
+        f"{name}: {sum(device.had.values())} faults, {lost} of {len(client.lines)} lines lost, the others old: {times}\n",
+        end="",
+        flush=True,
+    )
 
 
 def random_faults(folder):
@@ -189,14 +272,27 @@ def random_faults(folder):
         "industrial IO with faults": FaultyIio(seed + 5, os.path.join(folder, "faulty_iio")),
     }
     print(f"random faults of {seconds} s, seed {seed}", flush=True)
-    tried = [threading.Thread(target=has_faults, args=(name, device, folder, seconds)) for name, device in devices.items()]
+    tried = [
+        threading.Thread(target=has_faults, args=(name, device, folder, seconds))
+        for name, device in devices.items()
+    ]
     for at, other in enumerate(PYMODBUS[1:]):
-        kinds = ("TCP", FaultyModbus(seed)), ("RTU", FaultyLine(seed, os.path.join(folder, f"other_line_{at}")))
+        kinds = ("TCP", FaultyModbus(seed)), (
+            "RTU",
+            FaultyLine(seed, os.path.join(folder, f"other_line_{at}")),
+        )
         for kind, device in kinds:
             name = f"Modbus by {kind} with faults, by {other}"
-            tried.append(threading.Thread(target=has_faults, args=(name, device, folder, seconds, with_pymodbus(other))))
+            tried.append(
+                threading.Thread(
+                    target=has_faults, args=(name, device, folder, seconds, with_pymodbus(other))
+                )
+            )
     standing = ("Modbus", StandingModbus(seed + 6)), ("frames", StandingText(seed + 7))
-    tried += [threading.Thread(target=stores_what_stood, args=(name, device, folder, seconds)) for name, device in standing]
+    tried += [
+        threading.Thread(target=stores_what_stood, args=(name, device, folder, seconds))
+        for name, device in standing
+    ]
     for it in tried:
         it.start()
     for it in tried:
@@ -241,17 +337,36 @@ def stores_what_stood(name, device, folder, seconds):
     while time.monotonic() < until:
         number += 1
         begun_at = time.monotonic()
-        status, slip = bridge.post(service, "/weighings", f"key=K{number}&kind=first&plate=P-{number}")
+        status, slip = bridge.post(
+            service, "/weighings", f"key=K{number}&kind=first&plate=P-{number}"
+        )
         if status == 201:
             gross = int(re.search(r"G +([0-9]+) kg", slip).group(1))
             now = time.monotonic()
-            stood = {(device.held.load(now - back / 20) + 5) // 10 * 20 for back in range(31 + int((now - begun_at) * 20))}
-            holds(f"{name}: {gross} kg was stored, and {sorted(stood)} stood on the bridge", gross in stood)
+            stood = {
+                (device.held.load(now - back / 20) + 5) // 10 * 20
+                for back in range(31 + int((now - begun_at) * 20))
+            }
+            holds(
+                f"{name}: {gross} kg was stored, and {sorted(stood)} stood on the bridge",
+                gross in stood,
+            )
             stored.append(gross)
         time.sleep(0.3)
     chain.close()
     device.close()
     service.process.communicate(timeout=20)
-    holds(f"{name}: of {number} weighings over a device with faults {len(stored)} are stored", len(stored) >= seconds / 20)
-    same(f"{name}: the journal", (0, f"SOUND {len(stored)}\n", ""), bridge.printed(PROGRAM, "check", "--file", os.path.join(own, "journal.db")))
-    print(f"{name}: {len(stored)} of {number} weighings stored, each of a load that stood there, over {sum(device.had.values())} faults: ok\n", end="", flush=True)
+    holds(
+        f"{name}: of {number} weighings over a device with faults {len(stored)} are stored",
+        len(stored) >= seconds / 20,
+    )
+    same(
+        f"{name}: the journal",
+        (0, f"SOUND {len(stored)}\n", ""),
+        bridge.printed(PROGRAM, "check", "--file", os.path.join(own, "journal.db")),
+    )
+    print(
+        f"{name}: {len(stored)} of {number} weighings stored, each of a load that stood there, over {sum(device.had.values())} faults: ok\n",
+        end="",
+        flush=True,
+    )

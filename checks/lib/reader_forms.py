@@ -13,6 +13,7 @@ from converting import CONVERTER, READERS, TOP, first_line, holds, same
 from devices import begun
 from register_modbus import RegisterModbus
 
+
 def reads_devices(folder):
     """The samples of docs/devices.md, read with the words that it gives."""
     with open(os.path.join(READERS, "samples", "devices.json")) as it:
@@ -21,7 +22,10 @@ def reads_devices(folder):
         page = it.read().replace("\\|", "|")
     for device in devices:
         name, words = device["device"], device["words"]
-        holds(f"docs/devices.md has the words of {name}: {shlex.join(words)}", f"`{shlex.join(words)}`" in page)
+        holds(
+            f"docs/devices.md has the words of {name}: {shlex.join(words)}",
+            f"`{shlex.join(words)}`" in page,
+        )
         holds(f"docs/devices.md says where the sample of {name} is from", device["source"] in page)
         kind = next(it for it in ("registers", "channel", "sent") if it in device)
         same(f"the sample of {name}", device["counts"], READ_BY[kind](device, words, folder))
@@ -48,7 +52,14 @@ def channel_read(device, words, folder):
 
 def texts_read(device, words, _):
     with socket.create_server((bridge.HOST, 0)) as listener:
-        command = [os.path.join(READERS, words[0]), "--tcp", f"{bridge.HOST}:{listener.getsockname()[1]}", *words[1:], "--timeout", "2"]
+        command = [
+            os.path.join(READERS, words[0]),
+            "--tcp",
+            f"{bridge.HOST}:{listener.getsockname()[1]}",
+            *words[1:],
+            "--timeout",
+            "2",
+        ]
         reader = begun(command, stdout=subprocess.PIPE, stderr=subprocess.DEVNULL, text=True)
         stream, _ = listener.accept()
         stream.setsockopt(socket.IPPROTO_TCP, socket.TCP_NODELAY, 1)
@@ -56,7 +67,9 @@ def texts_read(device, words, _):
         found, is_each = [], "--ask" in words
         sent, asked = [it.encode() for it in device["sent"]], device.get("asked", "").encode()
         if not is_each:
-            stream.sendall(b"the rest of a line" + sent[0][-2 if sent[0].endswith(b"\r\n") else -1 :])
+            stream.sendall(
+                b"the rest of a line" + sent[0][-2 if sent[0].endswith(b"\r\n") else -1 :]
+            )
         for at, line in enumerate(sent):
             if asked and (is_each or at == 0):
                 same(f"what {device['device']} is asked", asked, stream.recv(64))
@@ -81,10 +94,30 @@ def reads_forms(folder):
     forms = [
         ("a float", {0: high, 1: low}, "--float --scale 10", "12346"),
         ("a float, low word first", {0: low, 1: high}, "--float --scale 10 --low-first", "12346"),
-        ("a float of an exact half below zero", dict(enumerate(float_registers(-2.5))), "--float --scale 1", "-2"),
-        ("a float that is no number", dict(enumerate(float_registers(float("nan")))), "--float --scale 10", "lost"),
-        ("a float without bounds", dict(enumerate(float_registers(float("-inf")))), "--float --scale 10", "lost"),
-        ("a float past 32 bits", dict(enumerate(float_registers(3e8))), "--float --scale 10", "lost"),
+        (
+            "a float of an exact half below zero",
+            dict(enumerate(float_registers(-2.5))),
+            "--float --scale 1",
+            "-2",
+        ),
+        (
+            "a float that is no number",
+            dict(enumerate(float_registers(float("nan")))),
+            "--float --scale 10",
+            "lost",
+        ),
+        (
+            "a float without bounds",
+            dict(enumerate(float_registers(float("-inf")))),
+            "--float --scale 10",
+            "lost",
+        ),
+        (
+            "a float past 32 bits",
+            dict(enumerate(float_registers(3e8))),
+            "--float --scale 10",
+            "lost",
+        ),
         ("offset binary, the middle", {0: 0x80, 1: 0}, "--bits 24 --offset-binary", "0"),
         ("offset binary, below it", {0: 0x7F, 1: 0xFFFF}, "--bits 24 --offset-binary", "-1"),
         ("offset binary, the least", {0: 0, 1: 0}, "--bits 24 --offset-binary", "-8388608"),
@@ -92,22 +125,65 @@ def reads_forms(folder):
         ("offset binary of 16 bits", {0: 0x8005}, "--bits 16 --offset-binary", "5"),
         ("a sign of its own", {0: 0, 1: 1_234, 9: 0x0018}, "--status 9 --negative 8", "-1234"),
         ("no sign", {0: 0, 1: 1_234, 9: 0x0010}, "--status 9 --negative 8", "1234"),
-        ("a fault beside a sign", {0: 0, 1: 1_234, 9: 0x0018}, "--status 9 --negative 8 --faulty 16", "lost"),
-        ("a value past 32 bits with its sign", {0: 0x8000, 1: 0, 9: 0}, "--status 9 --negative 8", "lost"),
+        (
+            "a fault beside a sign",
+            {0: 0, 1: 1_234, 9: 0x0018},
+            "--status 9 --negative 8 --faulty 16",
+            "lost",
+        ),
+        (
+            "a value past 32 bits with its sign",
+            {0: 0x8000, 1: 0, 9: 0},
+            "--status 9 --negative 8",
+            "lost",
+        ),
     ]
     for name, registers, words, wanted in forms:
         device = RegisterModbus(bridge.HOST, registers)
-        same(name, wanted, first_line("modbus", "--tcp", f"{bridge.HOST}:{device.port}", "--address", "0", *words.split())[0])
+        same(
+            name,
+            wanted,
+            first_line(
+                "modbus", "--tcp", f"{bridge.HOST}:{device.port}", "--address", "0", *words.split()
+            )[0],
+        )
         device.close()
     device = RegisterModbus(bridge.HOST, {0: 0, 1: 7, 9: 0})
-    device.before = lambda question: device.registers.__setitem__(9, 8) if question[9] == 0 else None
-    same("a sign that changes meanwhile", "lost", first_line("modbus", "--tcp", f"{bridge.HOST}:{device.port}", "--address", "0", "--status", "9", "--negative", "8")[0])
+    device.before = (
+        lambda question: device.registers.__setitem__(9, 8) if question[9] == 0 else None
+    )
+    same(
+        "a sign that changes meanwhile",
+        "lost",
+        first_line(
+            "modbus",
+            "--tcp",
+            f"{bridge.HOST}:{device.port}",
+            "--address",
+            "0",
+            "--status",
+            "9",
+            "--negative",
+            "8",
+        )[0],
+    )
     device.close()
     offset = ["--offset-binary"]
-    for number, words, wanted in ((8_388_613, offset, "5"), (0, offset, "-8388608"), (16_777_216, offset, "lost"), (8_388_607, [], "8388607")):
+    for number, words, wanted in (
+        (8_388_613, offset, "5"),
+        (0, offset, "-8388608"),
+        (16_777_216, offset, "lost"),
+        (8_388_607, [], "8388607"),
+    ):
         with open(os.path.join(folder, "channel"), "w") as it:
             it.write(f"{number}\n")
-        same(f"a channel of {number}", wanted, first_line("iio", "--folder", folder, "--channel", "channel", "--bits", "24", *words)[0])
+        same(
+            f"a channel of {number}",
+            wanted,
+            first_line("iio", "--folder", folder, "--channel", "channel", "--bits", "24", *words)[
+                0
+            ],
+        )
     print(f"{len(forms) + 5} forms of a value: ok", flush=True)
 
 
@@ -123,16 +199,43 @@ def reads_texts():
     same("a checksum that is as STX", b"\x02", frame(as_stx)[-1:])
     continuous = ["--preset", "continuous", "--pace", "10"]
     cases = [
-        ("lines that end with ETX", ["--pattern", "\x02(?P<value>[0-9]+)", "--end", "etx"], [b"rest\x03", b"\x0212\x03", b"\x0234\x03"], ["12", "34"]),
+        (
+            "lines that end with ETX",
+            ["--pattern", "\x02(?P<value>[0-9]+)", "--end", "etx"],
+            [b"rest\x03", b"\x0212\x03", b"\x0234\x03"],
+            ["12", "34"],
+        ),
         ("frames with a checksum", continuous, [b"rest\rX", frame(12), frame(34)], ["12", "34"]),
-        ("a wrong checksum", continuous, [b"rest\rX", frame(12), frame(34, more=1), frame(56)], ["12", "lost", "56"]),
-        ("a checksum that is as STX", continuous, [b"rest\r", frame(12), frame(as_stx), frame(56)], ["12", str(as_stx), "56"]),
-        ("frames without one", continuous, [b"rest\r", frame(12, False), frame(34, False)], ["12", "34"]),
+        (
+            "a wrong checksum",
+            continuous,
+            [b"rest\rX", frame(12), frame(34, more=1), frame(56)],
+            ["12", "lost", "56"],
+        ),
+        (
+            "a checksum that is as STX",
+            continuous,
+            [b"rest\r", frame(12), frame(as_stx), frame(56)],
+            ["12", str(as_stx), "56"],
+        ),
+        (
+            "frames without one",
+            continuous,
+            [b"rest\r", frame(12, False), frame(34, False)],
+            ["12", "34"],
+        ),
         ("nine frames at once", continuous, [b"rest\r", b"".join(several)], ["lost", "8"]),
     ]
     for name, words, sent, wanted in cases:
         with socket.create_server((bridge.HOST, 0)) as listener:
-            command = [os.path.join(READERS, "text"), "--tcp", f"{bridge.HOST}:{listener.getsockname()[1]}", *words, "--timeout", "2"]
+            command = [
+                os.path.join(READERS, "text"),
+                "--tcp",
+                f"{bridge.HOST}:{listener.getsockname()[1]}",
+                *words,
+                "--timeout",
+                "2",
+            ]
             reader = begun(command, stdout=subprocess.PIPE, stderr=subprocess.DEVNULL, text=True)
             stream, _ = listener.accept()
             stream.setsockopt(socket.IPPROTO_TCP, socket.TCP_NODELAY, 1)
@@ -182,18 +285,43 @@ BAD_WORDS = (
 def refuses_words():
     """Words that are wrong end a reader with status 2, and it names them."""
     for reader, words, named in BAD_WORDS:
-        it = subprocess.run([os.path.join(READERS, reader), *words.split()], capture_output=True, text=True, timeout=20)
-        holds(f"{reader} {words}: {it.returncode} {it.stderr[-200:]!r}", it.returncode == 2 and named in it.stderr and not it.stdout)
+        it = subprocess.run(
+            [os.path.join(READERS, reader), *words.split()],
+            capture_output=True,
+            text=True,
+            timeout=20,
+        )
+        holds(
+            f"{reader} {words}: {it.returncode} {it.stderr[-200:]!r}",
+            it.returncode == 2 and named in it.stderr and not it.stdout,
+        )
     print(f"{len(BAD_WORDS)} words that are wrong: ok", flush=True)
 
 
 def unit_ends_as_its_reader(folder):
     """The package's unit ends with its reader's status, so that words that are wrong don't start it again for good."""
-    with open(os.path.join(TOP, "packaging", "weighbridge-converter.service"), encoding="utf-8") as unit:
-        line = next(it for it in unit if it.startswith("ExecStart=")).removeprefix("ExecStart=").replace("$$", "$")
-    for there, here in (("/usr/lib/weighbridge", READERS), ("/usr/bin/weighbridge-converter", os.path.abspath(CONVERTER)), ("/var/lib/weighbridge/calibration", f"{folder}/calibration")):
+    with open(
+        os.path.join(TOP, "packaging", "weighbridge", "weighbridge-converter.service"),
+        encoding="utf-8",
+    ) as unit:
+        line = (
+            next(it for it in unit if it.startswith("ExecStart="))
+            .removeprefix("ExecStart=")
+            .replace("$$", "$")
+        )
+    for there, here in (
+        ("/usr/lib/weighbridge", READERS),
+        ("/usr/bin/weighbridge-converter", os.path.abspath(CONVERTER)),
+        ("/var/lib/weighbridge/calibration", f"{folder}/calibration"),
+    ):
         line = line.replace(there, here)
     for words in ("modbus --tcp h", "text --tcp h:1", "iio --folder f"):
-        environment = {**os.environ, "WEIGHBRIDGE_READER": words, "WEIGHBRIDGE_LISTEN": f"{bridge.HOST}:{bridge.free_port()}"}
-        it = subprocess.run(shlex.split(line), env=environment, capture_output=True, text=True, timeout=20)
+        environment = {
+            **os.environ,
+            "WEIGHBRIDGE_READER": words,
+            "WEIGHBRIDGE_LISTEN": f"{bridge.HOST}:{bridge.free_port()}",
+        }
+        it = subprocess.run(
+            shlex.split(line), env=environment, capture_output=True, text=True, timeout=20
+        )
         same(f"the unit's status with the reader {words}", 2, it.returncode)

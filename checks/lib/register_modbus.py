@@ -15,7 +15,9 @@ class RegisterModbus:
     def accept(self):
         try:
             while True:
-                threading.Thread(target=self.serve, args=(self.listener.accept()[0],), daemon=True).start()
+                threading.Thread(
+                    target=self.serve, args=(self.listener.accept()[0],), daemon=True
+                ).start()
         except OSError:
             pass  # it was closed
 
@@ -23,9 +25,14 @@ class RegisterModbus:
         try:
             while len(question := stream.recv(12, socket.MSG_WAITALL)) == 12:
                 number, _, _, unit, function, first, count = struct.unpack(">HHHBBHH", question)
-                held = b"".join(struct.pack(">H", self.registers[at]) for at in range(first, first + count))
+                held = b"".join(
+                    struct.pack(">H", self.registers[at]) for at in range(first, first + count)
+                )
                 self.before(question)
-                stream.sendall(struct.pack(">HHHBBB", number, 0, 3 + len(held), unit, function, len(held)) + held)
+                stream.sendall(
+                    struct.pack(">HHHBBB", number, 0, 3 + len(held), unit, function, len(held))
+                    + held
+                )
         except OSError:
             pass  # the reader opened another
 

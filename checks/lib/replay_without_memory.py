@@ -22,9 +22,16 @@ PAIR_ANSWERS = {
 TRACES = {
     "a day": list(day.lines()),
     "a pair": PAIR,
-    "a purge": PAIR + ["o 1749427199 POST /purge", LATER + " POST /purge", LATER + FIRST[12:], "r 9170 4",
-                       LATER + " POST /weighings key=K3&kind=first&plate=CD-34"],
-    "exports": PAIR + ["o 1741599000 GET /tickets.csv", "o 1741599000 GET /tickets/1", "o 1741599000 POST /check"],
+    "a purge": PAIR
+    + [
+        "o 1749427199 POST /purge",
+        LATER + " POST /purge",
+        LATER + FIRST[12:],
+        "r 9170 4",
+        LATER + " POST /weighings key=K3&kind=first&plate=CD-34",
+    ],
+    "exports": PAIR
+    + ["o 1741599000 GET /tickets.csv", "o 1741599000 GET /tickets/1", "o 1741599000 POST /check"],
     "the weight": ["r 9170 4", "t SI"],
     "the zero": ["r 600 4", "t Z", "t SI", "r 601 4", "t Z"],
     "tracking": ["r 3 7", "r 7", "t SI"],
@@ -40,8 +47,12 @@ TRACES = {
 
 
 def run(lines, number):
-    return subprocess.run([PROGRAM, "replay"], input=("\n".join(lines) + "\n").encode(), capture_output=True,
-                          env=dict(os.environ, LD_PRELOAD=REFUSE, FAIL_AT=str(number)))
+    return subprocess.run(
+        [PROGRAM, "replay"],
+        input=("\n".join(lines) + "\n").encode(),
+        capture_output=True,
+        env=dict(os.environ, LD_PRELOAD=REFUSE, FAIL_AT=str(number)),
+    )
 
 
 REFUSED = "503 refused 15 store"
@@ -91,8 +102,11 @@ def sweep(name, lines):
         assert found == without(tuple(lines), unmade), (name, number, found)
         refused += bool(unmade)
         answers.add(tuple(response.split("\n")[0] for response in found[1]))
-    print(f"{name}: allocations: {allocations}, replays not begun: {not_begun}, with a request refused: {refused}, "
-          f"as ever: {allocations - not_begun - refused}", flush=True)
+    print(
+        f"{name}: allocations: {allocations}, replays not begun: {not_begun}, with a request refused: {refused}, "
+        f"as ever: {allocations - not_begun - refused}",
+        flush=True,
+    )
     return answers
 
 

@@ -46,10 +46,17 @@ def html(blocks, image):
         if kind == "table":
             columns, rows = rest
             lines = ["<tr>" + "".join(f"<th>{marked(it)}</th>" for it in columns) + "</tr>"]
-            lines += ["<tr>" + "".join(f"<td>{marked(it)}</td>" for it in cells) + "</tr>" for cells in rows]
+            lines += [
+                "<tr>" + "".join(f"<td>{marked(it)}</td>" for it in cells) + "</tr>"
+                for cells in rows
+            ]
             parts.append("<table>\n" + "\n".join(lines) + "\n</table>")
         else:
-            parts.append(image[image.index("<svg") :] if kind == "image" else f"<{kind}>{marked(rest[0])}</{kind}>")
+            parts.append(
+                image[image.index("<svg") :]
+                if kind == "image"
+                else f"<{kind}>{marked(rest[0])}</{kind}>"
+            )
     style = "body{font-family:sans-serif;margin:2em;max-width:75em}table{border-collapse:collapse}td,th{border:1px solid #999;padding:2px 6px;text-align:left}"
     title = next(rest[0] for kind, *rest in blocks if kind == "h1")
     head = f'<!DOCTYPE html>\n<html lang="en">\n<head>\n<meta charset="utf-8">\n<title>{marked(title)}</title>\n<style>{style}</style>\n</head>\n<body>\n'
@@ -69,7 +76,9 @@ def svg(plots):
     ]
     for plot in plots:
         words += drawn(plot)
-    return subprocess.run(["gnuplot"], input="\n".join([*words, ""]), capture_output=True, text=True, check=True).stdout
+    return subprocess.run(
+        ["gnuplot"], input="\n".join([*words, ""]), capture_output=True, text=True, check=True
+    ).stdout
 
 
 def drawn(plot):

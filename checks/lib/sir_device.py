@@ -15,7 +15,9 @@ class SirDevice:
     def accept(self):
         try:
             while True:
-                threading.Thread(target=self.serve, args=(self.listener.accept()[0],), daemon=True).start()
+                threading.Thread(
+                    target=self.serve, args=(self.listener.accept()[0],), daemon=True
+                ).start()
         except OSError:
             pass  # it was closed
 

@@ -34,13 +34,17 @@ class File:
         if what:
             self.change(number, what, *values)
         columns = "number, request_key, kind, plate, moment, ifnull(gross_kg, '-'), ifnull(preset_kg, '-'), max_kg, serial, previous, interval_kg"
-        number, key, kind, plate, moment, gross, preset, *setup = self.do(f"SELECT {columns} FROM journal WHERE number = ?", number)[0]
+        number, key, kind, plate, moment, gross, preset, *setup = self.do(
+            f"SELECT {columns} FROM journal WHERE number = ?", number
+        )[0]
         digest = digest_of(number, key, KINDS[kind - 1], plate, moment, gross, preset, *setup)
         self.do("UPDATE journal SET digest = ? WHERE number = ?", digest, number)
 
     def relink(self, number):
         """Makes the entries from this number on anew, each with the digest of the one below it where that stands."""
-        for at, in self.do("SELECT number FROM journal WHERE number >= ? ORDER BY number", number):
+        for (at,) in self.do(
+            "SELECT number FROM journal WHERE number >= ? ORDER BY number", number
+        ):
             below = self.do("SELECT digest FROM journal WHERE number = ?", at - 1)
             self.forge(at, "previous = ?", below[0][0] if below else ZEROS)
 

@@ -17,13 +17,23 @@ def read(file):
 
 @functools.cache
 def files():
-    return {os.path.relpath(os.path.join(at, name), TRACES) for at, _, names in os.walk(TRACES) for name in names}
+    return {
+        os.path.relpath(os.path.join(at, name), TRACES)
+        for at, _, names in os.walk(TRACES)
+        for name in names
+    }
 
 
 def names():
     """The traces that have both of their files, in order."""
     there = files()
-    return sorted({os.path.splitext(file)[0] for file in there if all(os.path.splitext(file)[0] + part in there for part in PARTS)})
+    return sorted(
+        {
+            os.path.splitext(file)[0]
+            for file in there
+            if all(os.path.splitext(file)[0] + part in there for part in PARTS)
+        }
+    )
 
 
 def alone():

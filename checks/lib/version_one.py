@@ -21,7 +21,9 @@ import tempfile
 sys.path.insert(0, os.path.dirname(os.path.abspath(__file__)))
 import bridge  # noqa: E402
 
-KEPT = os.path.join(os.path.dirname(os.path.dirname(os.path.abspath(__file__))), "data", "version_1")
+KEPT = os.path.join(
+    os.path.dirname(os.path.dirname(os.path.abspath(__file__))), "data", "version_1"
+)
 SPRING, AUTUMN = "@2025-03-10 08:00:00", "@2025-09-01 08:00:00"
 LIBRARY = "/usr/lib/*/faketime/libfaketimeMT.so.1"
 LINES_A_SECOND = 1000.0
@@ -31,7 +33,9 @@ FILES, EXPORTS = (".db", ".db-wal"), (".journal.csv", ".tickets.csv")
 def unpack(name, path, ends=FILES):
     """Puts the two files of a journal that is kept at this path."""
     for end in ends:
-        with gzip.open(os.path.join(KEPT, f"{name}{end}.gz")) as packed, open(path.removesuffix(".db") + end, "wb") as file:
+        with gzip.open(os.path.join(KEPT, f"{name}{end}.gz")) as packed, open(
+            path.removesuffix(".db") + end, "wb"
+        ) as file:
             shutil.copyfileobj(packed, file)
 
 
@@ -45,7 +49,12 @@ class Bridge:
     """A bridge of version 1, at which one vehicle after another is weighed."""
 
     def __init__(self, program, path, clock):
-        os.environ |= {"LD_PRELOAD": glob.glob(LIBRARY)[0], "FAKETIME": clock, "TZ": "UTC", "DONT_FAKE_MONOTONIC": "1"}
+        os.environ |= {
+            "LD_PRELOAD": glob.glob(LIBRARY)[0],
+            "FAKETIME": clock,
+            "TZ": "UTC",
+            "DONT_FAKE_MONOTONIC": "1",
+        }
         self.converter = bridge.Played(LINES_A_SECOND)
         self.service = bridge.Service(program, path, self.converter, "--capacity", "100000")
         for name in ("LD_PRELOAD", "FAKETIME", "DONT_FAKE_MONOTONIC"):
@@ -142,7 +151,11 @@ def make_all(program, folder, entries=None):
                 pack(folder, name + end, os.path.join(here, name + end))
             for end in EXPORTS:
                 with open(os.path.join(here, name + end), "w") as file:
-                    subprocess.run([program, "export", "--file", path, "--what", end.split(".")[1]], stdout=file, check=True)
+                    subprocess.run(
+                        [program, "export", "--file", path, "--what", end.split(".")[1]],
+                        stdout=file,
+                        check=True,
+                    )
                 pack(folder, name + end, os.path.join(here, name + end))
 
 

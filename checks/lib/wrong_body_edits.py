@@ -12,7 +12,12 @@ class Crate:
     """A crate of the repository: its folder, and what crates.txt says of it."""
 
     def __init__(self, name, named, is_static):
-        self.name, self.named, self.is_static, self.folder = name, named, is_static, f"{TOP}/crates/{name}"
+        self.name, self.named, self.is_static, self.folder = (
+            name,
+            named,
+            is_static,
+            f"{TOP}/crates/{name}",
+        )
 
     def of_kit(self, crates):
         return [it for it in self.named if it not in crates]
@@ -21,12 +26,20 @@ class Crate:
         found = []
         for it in self.named:
             if it in crates:
-                found += [below for below in [*crates[it].below(crates), crates[it]] if below not in found]
+                found += [
+                    below for below in [*crates[it].below(crates), crates[it]] if below not in found
+                ]
         return found
 
     def edit_files(self):
         folders = [f"{self.folder}/must-fail", f"{self.folder}/wrong-bodies"]
-        return [f"{it}/{name}" for it in folders if os.path.isdir(it) for name in sorted(os.listdir(it)) if name.endswith(".edit")]
+        return [
+            f"{it}/{name}"
+            for it in folders
+            if os.path.isdir(it)
+            for name in sorted(os.listdir(it))
+            if name.endswith(".edit")
+        ]
 
     def contracts(self):
         """What the crate states: its specs, and its sources without their bodies."""
@@ -39,7 +52,12 @@ class Edit:
     """A wrong body: the pairs of texts that make it, and the functions that are to be refused for it."""
 
     def __init__(self, path, folder):
-        self.name, self.path, self.pairs, self.own = os.path.basename(path).removesuffix(".edit"), path, [], set()
+        self.name, self.path, self.pairs, self.own = (
+            os.path.basename(path).removesuffix(".edit"),
+            path,
+            [],
+            set(),
+        )
         self.is_of_bodies, self.verdict, self.copy, self.is_alone = True, None, None, False
         file = old = ""
         for line in read(path).split("\n"):
@@ -76,7 +94,11 @@ class Edit:
         for file, old, new in self.pairs:
             text = texts.setdefault(file, read(f"{folder}/{file}"))
             at = text.find(old)
-            self.own |= {(file, it.key()) for it in functions_of(text) if it.opening <= at and at + len(old) <= it.end}
+            self.own |= {
+                (file, it.key())
+                for it in functions_of(text)
+                if it.opening <= at and at + len(old) <= it.end
+            }
             constant = re.match(r"\s*(?:pub(?:\(\w+\))? )?const (\w+)\b", old)
             if constant:
                 self.is_of_bodies = False
@@ -89,10 +111,26 @@ class Edit:
 def readers_of(constant, folder):
     """The functions that a constant may be seen in: those that name it, and those that call one whose head names it."""
     texts = {file: blanked(read(f"{folder}/{file}")) for file in files_below(folder, ["src"])}
-    functions = [(file, it, texts[file][it.start : it.opening], texts[file][it.opening : it.end]) for file in texts for it in functions_of(texts[file])]
+    functions = [
+        (file, it, texts[file][it.start : it.opening], texts[file][it.opening : it.end])
+        for file in texts
+        for it in functions_of(texts[file])
+    ]
     named = re.compile(rf"\b{constant}\b")
-    seen = re.compile("|".join(rf"\b{it}\b" for it in [constant, *(function.name for _, function, head, _ in functions if named.search(head))]))
-    return {(file, it.key()) for file, it, head, body in functions if named.search(head) or seen.search(body)}
+    seen = re.compile(
+        "|".join(
+            rf"\b{it}\b"
+            for it in [
+                constant,
+                *(function.name for _, function, head, _ in functions if named.search(head)),
+            ]
+        )
+    )
+    return {
+        (file, it.key())
+        for file, it, head, body in functions
+        if named.search(head) or seen.search(body)
+    }
 
 
 def crates_listed():

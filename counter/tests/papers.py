@@ -19,28 +19,78 @@ def entry(number, kind, plate, moment, at, gross, preset, interval, most, serial
 class Sample:
     """A text, the keys of its entries, and the digests that stand before them."""
 
-    def __init__(self, kind, plate="AB-12", serial="WB01", interval=20, most=60000, first=18340, own=8140, number=2):
+    def __init__(
+        self,
+        kind,
+        plate="AB-12",
+        serial="WB01",
+        interval=20,
+        most=60000,
+        first=18340,
+        own=8140,
+        number=2,
+    ):
         self.keys = {number - 1: "K1", number: "K2"}
         moment, at = 1741593600, "2025-03-10 08:00:00"
         self.digests = {number - 2: "1" * 64, number - 1: "2" * 64} if number > 2 else {}
         previous = self.digests.get(number - 2, ZEROS)
         blocks, net = "", ""
         if kind == "second":
-            before, blocks = entry(number - 1, "first", plate, moment, at, first, None, interval, most, serial, previous, "K1")
+            before, blocks = entry(
+                number - 1,
+                "first",
+                plate,
+                moment,
+                at,
+                first,
+                None,
+                interval,
+                most,
+                serial,
+                previous,
+                "K1",
+            )
             self.digests[number - 1] = before
             net = f"N {abs(first - own):>10} kg\n"
             moment, at, gross, preset = 1741599000, "2025-03-10 09:30:00", own, None
         else:
             self.digests[number - 1] = self.digests.get(number - 1, "2" * 64)
-            gross, preset = {"first": (first, None), "void": (None, None), "single": (first, own)}[kind]
+            gross, preset = {"first": (first, None), "void": (None, None), "single": (first, own)}[
+                kind
+            ]
             net = f"N {first - own:>10} kg\n" if kind == "single" else ""
-        self.digest, block = entry(number, kind, plate, moment, at, gross, preset, interval, most, serial, self.digests[number - 1], "K2")
+        self.digest, block = entry(
+            number,
+            kind,
+            plate,
+            moment,
+            at,
+            gross,
+            preset,
+            interval,
+            most,
+            serial,
+            self.digests[number - 1],
+            "K2",
+        )
         self.number, self.kind, self.plate = number, kind, plate
-        self.text = f"WEIGHING {'TICKET' if net else 'SLIP'} {number}\nPLATE {plate}\n{blocks}{block}{net}"
+        self.text = (
+            f"WEIGHING {'TICKET' if net else 'SLIP'} {number}\nPLATE {plate}\n{blocks}{block}{net}"
+        )
 
 
 KINDS = ("first", "second", "single", "void")
 USUAL = {kind: Sample(kind) for kind in KINDS}
 LONGEST = {
-    kind: Sample(kind, "WWWWW-WWWWWW", "WWWWWWWWWWWWWWWW", 1, 500000, 9999999, 1 if kind == "second" else 9999998, 4294967295) for kind in KINDS
+    kind: Sample(
+        kind,
+        "WWWWW-WWWWWW",
+        "WWWWWWWWWWWWWWWW",
+        1,
+        500000,
+        9999999,
+        1 if kind == "second" else 9999998,
+        4294967295,
+    )
+    for kind in KINDS
 }

@@ -89,7 +89,11 @@ class PlayedTerminal:
             self.fanout.tick()
 
     def value(self) -> str:
-        return f"S {self.state} {self.kg - self.tare:>10} kg" if self.state in "SD" else f"S {self.state}"
+        return (
+            f"S {self.state} {self.kg - self.tare:>10} kg"
+            if self.state in "SD"
+            else f"S {self.state}"
+        )
 
     def answer_waiting(self) -> str:
         word, self.waiting = self.waiting, None
@@ -144,7 +148,9 @@ class Asker:
             self._ask()
 
     def _ask(self) -> None:
-        self.question = self.fanout.ask(self.turn, self.line, self._done, self.until - self.fanout.clock())
+        self.question = self.fanout.ask(
+            self.turn, self.line, self._done, self.until - self.fanout.clock()
+        )
 
     def _done(self, outcome, lines) -> None:
         self.outcome, self.lines = outcome.value, lines

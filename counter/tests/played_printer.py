@@ -23,8 +23,16 @@ ANSWERS = {
 
 class PlayedPrinter:
     def __init__(self, port=0):
-        self.state, self.rate, self.is_deaf, self.is_dumb, self.knows_behind = "", None, False, False, True
-        self.cut_after = self.out_after = None  # bytes of a paper after which it breaks the connection, or has no paper
+        self.state, self.rate, self.is_deaf, self.is_dumb, self.knows_behind = (
+            "",
+            None,
+            False,
+            False,
+            True,
+        )
+        self.cut_after = (
+            self.out_after
+        ) = None  # bytes of a paper after which it breaks the connection, or has no paper
         self.printed = []  # whole papers, as bytes
         self.begun = []  # what came out of papers that were cut
         self.connections = self.asked = 0
@@ -80,7 +88,9 @@ class Connection:
                 time.sleep(0.01)
                 continue
             try:
-                more = self.stream.recv(4096 if printer.rate is None else max(1, printer.rate // 20))
+                more = self.stream.recv(
+                    4096 if printer.rate is None else max(1, printer.rate // 20)
+                )
                 has_ended = not more
             except TimeoutError:
                 more = b""
@@ -95,7 +105,9 @@ class Connection:
 
     def take(self, more):
         """A command in real time is answered at once, also if nothing is printed."""
-        while re.fullmatch(rb"\x10\x04[\x01-\x04]", more[:3], re.S) and (not self.waiting or self.printer.state):
+        while re.fullmatch(rb"\x10\x04[\x01-\x04]", more[:3], re.S) and (
+            not self.waiting or self.printer.state
+        ):
             self.printer.asked += 1
             if not self.printer.is_dumb:
                 self.stream.sendall(bytes([ANSWERS[self.printer.state][more[2] - 1]]))

@@ -12,7 +12,9 @@ import urllib.parse
 from .played import PlayedTerminal
 
 ZEROS = "0" * 64
-HEADER = "number,key,kind,plate,moment,gross_kg,preset_kg,interval_kg,max_kg,serial,digest,previous\n"
+HEADER = (
+    "number,key,kind,plate,moment,gross_kg,preset_kg,interval_kg,max_kg,serial,digest,previous\n"
+)
 
 
 class PlayedService:
@@ -55,7 +57,14 @@ class PlayedService:
     async def answer(self, reader: asyncio.StreamReader, writer: asyncio.StreamWriter) -> None:
         try:
             head = (await reader.readuntil(b"\r\n\r\n")).decode()
-            length = next((int(it.split(":")[1]) for it in head.split("\r\n") if it.lower().startswith("content-length:")), 0)
+            length = next(
+                (
+                    int(it.split(":")[1])
+                    for it in head.split("\r\n")
+                    if it.lower().startswith("content-length:")
+                ),
+                0,
+            )
             form = dict(urllib.parse.parse_qsl((await reader.readexactly(length)).decode()))
             method, target = head.split(" ")[:2]
             status, text = self.judge(method, target, form)
@@ -72,10 +81,17 @@ class PlayedService:
         if target == "/journal.csv":
             return 200, HEADER + "".join(",".join(it) + "\n" for it in self.rows)
         if target == "/indication":
-            return 200, f"{'MOVING' if self.scale.state == 'D' else 'STABLE'} G {self.scale.kg:>10} kg N {self.scale.kg - self.scale.tare:>10} kg\n"
+            return (
+                200,
+                f"{'MOVING' if self.scale.state == 'D' else 'STABLE'} G {self.scale.kg:>10} kg N {self.scale.kg - self.scale.tare:>10} kg\n",
+            )
         if target.startswith("/tickets/"):
             number = target[9:]
-            return (200, self.tickets[int(number)]) if number.isdigit() and int(number) in self.tickets else (404, "refused 16 no_ticket\n")
+            return (
+                (200, self.tickets[int(number)])
+                if number.isdigit() and int(number) in self.tickets
+                else (404, "refused 16 no_ticket\n")
+            )
         if method != "POST" or target not in ("/weighings", "/voids"):
             return 404, "fault 404 no_route\n"
         key = form.get("key", "")
@@ -99,19 +115,40 @@ class PlayedService:
         return next((name for is_so, name in rows if is_so), None)
 
     def store(self, key: str, kind: str, plate: str) -> str:
-        number, now = len(self.rows) + 1, datetime.datetime.now(datetime.timezone.utc).replace(microsecond=0)
+        number, now = len(self.rows) + 1, datetime.datetime.now(datetime.timezone.utc).replace(
+            microsecond=0
+        )
         gross = str(self.scale.kg) if kind != "void" else ""
         preset = str(self.scale.tare) if kind == "single" else ""
         previous = self.rows[-1][10] if self.rows else ZEROS
         signed = f"version 2\nnumber {number}\nkey {key}\nkind {kind}\nplate {plate}\nmoment {int(now.timestamp())}\ngross {gross or '-'}\npreset {preset or '-'}\n"
-        digest = hashlib.sha256(f"{signed}interval 20\nmax 60000\nserial WB01\nprevious {previous}\n".encode()).hexdigest()
+        digest = hashlib.sha256(
+            f"{signed}interval 20\nmax 60000\nserial WB01\nprevious {previous}\n".encode()
+        ).hexdigest()
         at = now.strftime("%Y-%m-%d %H:%M:%S")
-        self.rows.append([str(number), key, kind, plate, at, gross, preset, "20", "60000", "WB01", digest, previous])
+        self.rows.append(
+            [
+                str(number),
+                key,
+                kind,
+                plate,
+                at,
+                gross,
+                preset,
+                "20",
+                "60000",
+                "WB01",
+                digest,
+                previous,
+            ]
+        )
         text = self.text_of(number)
         self.texts[key] = text
         if kind in ("second", "single"):
             self.tickets[number] = text
-        self.open = {it: first for it, first in self.open.items() if it != plate or kind == "single"} | ({plate: number} if kind == "first" else {})
+        self.open = {
+            it: first for it, first in self.open.items() if it != plate or kind == "single"
+        } | ({plate: number} if kind == "first" else {})
         self.is_cleared = self.is_cleared and kind == "void"
         return text
 
@@ -120,12 +157,19 @@ class PlayedService:
         head = f"WEIGHING {'TICKET' if row[2] in ('second', 'single') else 'SLIP'} {number}\nPLATE {row[3]}\n"
         if row[2] == "second":
             first = self.rows[self.open[row[3]] - 1]
-            return head + self.block(first) + self.block(row) + f"N {abs(int(first[5]) - int(row[5])):>10} kg\n"
+            return (
+                head
+                + self.block(first)
+                + self.block(row)
+                + f"N {abs(int(first[5]) - int(row[5])):>10} kg\n"
+            )
         net = f"N {int(row[5]) - int(row[6]):>10} kg\n" if row[2] == "single" else ""
         return head + self.block(row) + net
 
     def block(self, row: list[str]) -> str:
-        weights = (f"G {row[5]:>10} kg\n" if row[5] else "") + (f"PT {row[6]:>10} kg\n" if row[6] else "")
+        weights = (f"G {row[5]:>10} kg\n" if row[5] else "") + (
+            f"PT {row[6]:>10} kg\n" if row[6] else ""
+        )
         return f"{row[2].upper()} NO {row[0]}\nAT {row[4]}\n{weights}E 20 kg MAX 60000 kg SERIAL WB01\nDIGEST {row[10]}\n"
 
 

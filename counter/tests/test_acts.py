@@ -101,9 +101,17 @@ class Passing(WithABridge):
     async def test_free_lines_for_the_paper_stay_with_the_counter(self):
         for tare in (b"", b"&tare=5000"):
             bridge, seen = self.bridge((201, TICKET)), []
-            bridge.acts.on_text.append(lambda text, asked, seen=seen: seen.append((asked["goods"], asked["driver"], asked["key"])))
-            told = await self.weigh(bridge, b"key=K1&kind=single&goods=Kies+0%2F16&plate=AB%2D12&driver=%C5%81" + tare)
-            self.assertEqual((201, [b"key=K1&kind=single&plate=AB%2D12"]), (told.status, bridge.office.bodies))
+            bridge.acts.on_text.append(
+                lambda text, asked, seen=seen: seen.append(
+                    (asked["goods"], asked["driver"], asked["key"])
+                )
+            )
+            told = await self.weigh(
+                bridge, b"key=K1&kind=single&goods=Kies+0%2F16&plate=AB%2D12&driver=%C5%81" + tare
+            )
+            self.assertEqual(
+                (201, [b"key=K1&kind=single&plate=AB%2D12"]), (told.status, bridge.office.bodies)
+            )
             self.assertEqual([("Kies 0/16", "Ł", "K1")], seen)
 
     async def test_no_answer_is_told_as_none_and_as_sent(self):
@@ -113,7 +121,9 @@ class Passing(WithABridge):
     async def test_a_refusal_is_no_text(self):
         bridge = self.bridge((409, "refused 11 not_cleared\n"))
         told = await self.weigh(bridge, b"key=K1&kind=first&plate=AB-12")
-        self.assertEqual((409, b"refused 11 not_cleared\n", []), (told.status, told.body, bridge.texts))
+        self.assertEqual(
+            (409, b"refused 11 not_cleared\n", []), (told.status, told.body, bridge.texts)
+        )
 
 
 class WithATare(WithABridge):
@@ -121,7 +131,10 @@ class WithATare(WithABridge):
         bridge = self.bridge((201, TICKET))
         told = await self.weigh(bridge)
         self.assertEqual((201, TICKET.encode()), (told.status, told.body))
-        self.assertEqual(([b"key=K1&kind=single&plate=AB%2D12"], [5000]), (bridge.office.bodies, bridge.office.tares))
+        self.assertEqual(
+            ([b"key=K1&kind=single&plate=AB%2D12"], [5000]),
+            (bridge.office.bodies, bridge.office.tares),
+        )
         self.assertEqual((["TA 5000 kg", "TAC"], 0), (bridge.played.done, bridge.played.tare))
         self.assertIsNone(bridge.on_disk())
 
@@ -135,7 +148,9 @@ class WithATare(WithABridge):
 
         bridge.played.reply = reply
         await self.weigh(bridge)
-        self.assertEqual(({"kg": 5000}, {"kg": 5000}, None), (seen["TA 5000 kg"], seen["TAC"], bridge.on_disk()))
+        self.assertEqual(
+            ({"kg": 5000}, {"kg": 5000}, None), (seen["TA 5000 kg"], seen["TAC"], bridge.on_disk())
+        )
 
     async def test_none_is_left_whatever_the_office_says(self):
         for answer in ((409, "refused 7 unstable\n"), (503, "refused 15 store\n"), None):
@@ -147,14 +162,22 @@ class WithATare(WithABridge):
         bridge = self.bridge()
         bridge.played.tare = 3000
         told = await self.weigh(bridge)
-        self.assertEqual((409, b"counter tare_set\n", False), (told.status, told.body, told.is_sent))
+        self.assertEqual(
+            (409, b"counter tare_set\n", False), (told.status, told.body, told.is_sent)
+        )
         self.assertEqual((3000, []), (bridge.played.tare, bridge.office.bodies))
 
     async def test_one_that_the_scale_refuses_is_told_so(self):
         bridge = self.bridge()
-        bridge.played.reply = lambda line: "TA L" if line.startswith("TA ") else PlayedTerminal.reply(bridge.played, line)
+        bridge.played.reply = (
+            lambda line: "TA L"
+            if line.startswith("TA ")
+            else PlayedTerminal.reply(bridge.played, line)
+        )
         told = await self.weigh(bridge)
-        self.assertEqual((409, b"counter tare_refused\n", False), (told.status, told.body, told.is_sent))
+        self.assertEqual(
+            (409, b"counter tare_refused\n", False), (told.status, told.body, told.is_sent)
+        )
         self.assertIsNone(bridge.on_disk())
 
     async def test_a_tare_in_disguise_never_goes_out(self):
@@ -163,10 +186,18 @@ class WithATare(WithABridge):
         self.assertEqual(["TA 5000 kg", "TAC"], bridge.played.done)
 
     async def test_what_is_no_tare_of_a_single_never_goes_out(self):
-        for body in (b"kind=single&tare=0", b"kind=single&tare=-5", b"kind=single&tare=5&tare=6", b"kind=first&tare=5", b"kind=single&tare=12345678"):
+        for body in (
+            b"kind=single&tare=0",
+            b"kind=single&tare=-5",
+            b"kind=single&tare=5&tare=6",
+            b"kind=first&tare=5",
+            b"kind=single&tare=12345678",
+        ):
             bridge = self.bridge()
             told = await self.weigh(bridge, body)
-            self.assertEqual((422, b"counter bad_tare\n", ["SIR"]), (told.status, told.body, bridge.played.sent))
+            self.assertEqual(
+                (422, b"counter bad_tare\n", ["SIR"]), (told.status, told.body, bridge.played.sent)
+            )
 
     async def test_a_file_that_can_not_be_written_is_told_and_nothing_is_set(self):
         bridge = self.bridge()
@@ -175,7 +206,12 @@ class WithATare(WithABridge):
             told = await self.weigh(bridge)
         self.assertEqual((503, b"counter no_file\n", False), (told.status, told.body, told.is_sent))
         self.assertEqual(
-            ([], [], True), (bridge.played.done, bridge.office.bodies, "act.json: it can't be written, because No such file" in said.getvalue())
+            ([], [], True),
+            (
+                bridge.played.done,
+                bridge.office.bodies,
+                "act.json: it can't be written, because No such file" in said.getvalue(),
+            ),
         )
         self.assertFalse(bridge.acts.is_busy())
 
@@ -187,7 +223,9 @@ class WithATare(WithABridge):
             await asyncio.sleep(0)
         bridge.played.pass_time(1.5)
         told = await task
-        self.assertEqual((503, b"counter no_terminal\n", False), (told.status, told.body, told.is_sent))
+        self.assertEqual(
+            (503, b"counter no_terminal\n", False), (told.status, told.body, told.is_sent)
+        )
         await bridge.files.bring()
         self.assertEqual(([], None), (bridge.played.done, bridge.on_disk()))
 
@@ -226,7 +264,10 @@ class AtTheNextStart(WithABridge):
         bridge.acts = Acts(bridge.terminal, bridge.office, bridge.files, 20, Counter())
         self.assertTrue(bridge.acts.may_be_left)
         await bridge.until(bridge.acts.look())
-        self.assertEqual((0, False, False), (bridge.played.tare, bridge.acts.may_be_left, bridge.on_disk() is not None))
+        self.assertEqual(
+            (0, False, False),
+            (bridge.played.tare, bridge.acts.may_be_left, bridge.on_disk() is not None),
+        )
         self.assertEqual("WB01", bridge.terminal.serial)
 
     async def test_one_that_somebody_else_set_is_left_alone(self):
@@ -234,7 +275,10 @@ class AtTheNextStart(WithABridge):
         await bridge.files.write(ACT_FILE, {"kg": 5000}, 1)
         bridge.played.tare = 3000
         await bridge.until(bridge.acts.look())
-        self.assertEqual((3000, 3000, False), (bridge.played.tare, bridge.played.fanout.tare, bridge.on_disk() is not None))
+        self.assertEqual(
+            (3000, 3000, False),
+            (bridge.played.tare, bridge.played.fanout.tare, bridge.on_disk() is not None),
+        )
 
     async def test_one_that_acted_though_it_was_called_back_is_cleared(self):
         bridge = self.bridge()

@@ -25,8 +25,21 @@ class InTheCounter(unittest.IsolatedAsyncioTestCase):
         self.addCleanup(folder.cleanup)
         self.played = PlayedPrinter()
         self.addCleanup(self.played.gone)
-        printer = Printer("yard", "tcp", "127.0.0.1", str(self.played.port), "escpos80", TEMPLATE, 48, (("cp858", 19),), True)
-        self.printing = Printing(Papers(Path(folder.name), TEMPLATE, (printer,), "yard"), {1: USUAL["second"].digests[1]}.get)
+        printer = Printer(
+            "yard",
+            "tcp",
+            "127.0.0.1",
+            str(self.played.port),
+            "escpos80",
+            TEMPLATE,
+            48,
+            (("cp858", 19),),
+            True,
+        )
+        self.printing = Printing(
+            Papers(Path(folder.name), TEMPLATE, (printer,), "yard"),
+            {1: USUAL["second"].digests[1]}.get,
+        )
         self.running = asyncio.ensure_future(self.printing.run())
 
     async def asyncTearDown(self):
@@ -43,13 +56,25 @@ class InTheCounter(unittest.IsolatedAsyncioTestCase):
 
     async def test_what_passes_is_printed_once(self):
         for _ in range(3):
-            self.printing.passed(USUAL["second"].text, {"key": "K2", "goods": "Kies", "plate": "AB-12"})
+            self.printing.passed(
+                USUAL["second"].text, {"key": "K2", "goods": "Kies", "plate": "AB-12"}
+            )
             await self.becomes(lambda: self.played.printed and not self.printing.jobs)
             await asyncio.sleep(0.2)
-        self.assertEqual((1, 1, None), (len(self.played.printed), self.played.printed[0].count(b"Kies\n"), self.printing.state()["refused"]))
+        self.assertEqual(
+            (1, 1, None),
+            (
+                len(self.played.printed),
+                self.played.printed[0].count(b"Kies\n"),
+                self.printing.state()["refused"],
+            ),
+        )
 
     async def test_what_is_not_the_office_s_is_refused_and_told(self):
-        for changed in (USUAL["second"].text.replace("8140", "8120").replace("10200", "10220"), USUAL["second"].text.replace("AB-12", "ab-12")):
+        for changed in (
+            USUAL["second"].text.replace("8140", "8120").replace("10200", "10220"),
+            USUAL["second"].text.replace("AB-12", "ab-12"),
+        ):
             self.printing.refused = None
             with self.assertLogsOnStandardError() as said:
                 self.printing.passed(changed, {"key": "K2"})
@@ -61,7 +86,9 @@ class InTheCounter(unittest.IsolatedAsyncioTestCase):
                 self.printing.passed(f"WEIGHING SLIP {number}\n", {})
                 await self.becomes(lambda: self.printing.refused == 0)
         self.assertTrue(self.printing.faults())
-        self.assertEqual(([], []), (self.played.printed, self.printing.spool.jobs("waits", "begun", "printed")))
+        self.assertEqual(
+            ([], []), (self.played.printed, self.printing.spool.jobs("waits", "begun", "printed"))
+        )
 
     async def test_without_its_key_a_text_is_printed_all_the_same(self):
         self.printing.passed(Sample("single", number=7).text, {})
@@ -97,8 +124,13 @@ class InTheCounter(unittest.IsolatedAsyncioTestCase):
             with self.assertRaises(OSError):
                 await self.printing.print(USUAL["second"].text, "yard")
             self.printing.passed(USUAL["second"].text, {"key": "K2"})
-            await self.becomes(lambda: "papers.db: file is not a database: look at the disk" in said.getvalue())
-        self.assertEqual((False, True, []), (self.printing.state()["is_writable"], self.printing.faults(), self.played.printed))
+            await self.becomes(
+                lambda: "papers.db: file is not a database: look at the disk" in said.getvalue()
+            )
+        self.assertEqual(
+            (False, True, []),
+            (self.printing.state()["is_writable"], self.printing.faults(), self.played.printed),
+        )
         self.assertFalse(self.running.done())
         path.write_bytes(whole)
         await self.printing.print(USUAL["second"].text, "yard")

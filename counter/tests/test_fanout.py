@@ -35,7 +35,14 @@ def reconnect(played):
 
 class Values(unittest.TestCase):
     def test_a_value_is_written_as_it_was_read(self):
-        for line in ("S S      18340 kg", "S D        -20 kg", "S I", "S +", "S -", "S S 12345678901 kg"):
+        for line in (
+            "S S      18340 kg",
+            "S D        -20 kg",
+            "S I",
+            "S +",
+            "S -",
+            "S S 12345678901 kg",
+        ):
             self.assertEqual(line, reply_of(value_of(line, 1.0)))
 
     def test_no_reply_is_taken_for_a_value(self):
@@ -146,7 +153,9 @@ class CallingBack(unittest.TestCase):
         for line in ("TA 5000 kg", "TAC", "Z", "T"):
             for seconds in (1.1, 1.6, 3.5):
                 played, outcome = self.held(line, seconds)
-                self.assertEqual(("unanswered", [], 1), (outcome, played.done, played.resets), (line, seconds))
+                self.assertEqual(
+                    ("unanswered", [], 1), (outcome, played.done, played.resets), (line, seconds)
+                )
 
     def test_a_copy_without_the_reset_fails(self):
         played, outcome = self.held("TA 5000 kg", 1.6, is_reset=False)
@@ -173,7 +182,10 @@ class CallingBack(unittest.TestCase):
         played.reading(2)
         asker = Asker(played.fanout, "TA 5000 kg")
         played.pass_time(1.2)
-        self.assertEqual(("unanswered", 0, None), (asker.outcome, played.fanout.doubtful_tare, played.fanout.tare))
+        self.assertEqual(
+            ("unanswered", 0, None),
+            (asker.outcome, played.fanout.doubtful_tare, played.fanout.tare),
+        )
 
     def test_it_is_remembered_too_where_the_connection_was_cut(self):
         for cut in ("ended", "reset"):
@@ -271,7 +283,9 @@ class ManyAtOnce(unittest.TestCase):
             self.assertGreater(len(answered), 100)
             for it in answered:
                 self.assertRegex(it.lines[0], f"^{REPLIES[it.line]}$")
-            self.assertTrue(all(it.outcome in ("answered", "not_sent", "unanswered") for it in asked))
+            self.assertTrue(
+                all(it.outcome in ("answered", "not_sent", "unanswered") for it in asked)
+            )
 
     def test_no_tare_is_ever_seen_whose_sender_was_refused(self):
         """Each preset is another one, so that one that acted late is known by its number."""
@@ -282,7 +296,9 @@ class ManyAtOnce(unittest.TestCase):
             presets[kg] = Asker(played.fanout, f"TA {kg} kg")
             if rng.random() < 0.05:
                 played.pass_time(rng.uniform(0.3, 2.5))
-            refused = {it for it, asker in presets.items() if asker.outcome in ("not_sent", "unanswered")}
+            refused = {
+                it for it, asker in presets.items() if asker.outcome in ("not_sent", "unanswered")
+            }
             before = played.tare
             played.reading()
             if played.tare != before:

@@ -69,7 +69,11 @@ class TheWayToTheDisk(unittest.TestCase):
 
     def calls_of(self, work):
         """Return what reaches the disk, in its order."""
-        names, calls, real = {}, [], SimpleNamespace(open=os.open, fsync=os.fsync, replace=os.replace, unlink=os.unlink)
+        names, calls, real = (
+            {},
+            [],
+            SimpleNamespace(open=os.open, fsync=os.fsync, replace=os.replace, unlink=os.unlink),
+        )
 
         def fsync(number):
             calls.append(("fsync", os.readlink(f"/proc/self/fd/{number}")))
@@ -93,17 +97,32 @@ class TheWayToTheDisk(unittest.TestCase):
             [("fsync", new), ("rename", new, str(self.path)), ("fsync", folder)],
             self.calls_of(lambda: store(self.path, {"AB-12": 5000})),
         )
-        self.assertEqual([("unlink", str(self.path)), ("fsync", folder)], self.calls_of(lambda: store(self.path, None)))
+        self.assertEqual(
+            [("unlink", str(self.path)), ("fsync", folder)],
+            self.calls_of(lambda: store(self.path, None)),
+        )
 
     def test_after_any_failure_the_file_is_as_before_and_nothing_is_next_to_it(self):
         store(self.path, {"is": "old"})
-        for name in ("weighbridge_counter.files.json.dump", "weighbridge_counter.files.os.fsync", "weighbridge_counter.files.os.replace"):
-            with mock.patch(name, side_effect=OSError(errno.ENOSPC, "full")), self.assertRaises(OSError):
+        for name in (
+            "weighbridge_counter.files.json.dump",
+            "weighbridge_counter.files.os.fsync",
+            "weighbridge_counter.files.os.replace",
+        ):
+            with mock.patch(name, side_effect=OSError(errno.ENOSPC, "full")), self.assertRaises(
+                OSError
+            ):
                 store(self.path, {"is": "new"})
-            self.assertEqual(({"is": "old"}, [self.path.name]), (found_in(self.path), os.listdir(self.path.parent)), name)
+            self.assertEqual(
+                ({"is": "old"}, [self.path.name]),
+                (found_in(self.path), os.listdir(self.path.parent)),
+                name,
+            )
 
     def test_a_folder_that_can_not_be_synced_is_a_fault(self):
-        with mock.patch("weighbridge_counter.files.sync_folder", side_effect=OSError(errno.EIO, "broken")), self.assertRaises(OSError):
+        with mock.patch(
+            "weighbridge_counter.files.sync_folder", side_effect=OSError(errno.EIO, "broken")
+        ), self.assertRaises(OSError):
             store(self.path, {"is": "new"})
 
     def test_a_file_that_is_none_of_the_counter_s_is_logged_and_ignored(self):
@@ -122,13 +141,18 @@ class AFault(OnADisk):
             for _ in range(5):
                 self.assertFalse(await files.bring())
         self.assertEqual(
-            [f"counter: {files.path('zero.json')}: it can't be written, because {os.strerror(errno.ENOSPC)}; "],
+            [
+                f"counter: {files.path('zero.json')}: it can't be written, because {os.strerror(errno.ENOSPC)}; "
+            ],
             [it.split("look at")[0] for it in self.lines()],
         )
         self.assertEqual(os.strerror(FAULTS[-1]), files.faults["zero.json"])
         self.disk.fault = None
         self.assertTrue(await files.bring())
-        self.assertEqual(([f"counter: {files.path('zero.json')}: it is written again"], {}), (self.lines()[1:], files.faults))
+        self.assertEqual(
+            ([f"counter: {files.path('zero.json')}: it is written again"], {}),
+            (self.lines()[1:], files.faults),
+        )
         self.assertEqual({"is_set": True}, found_in(files.path("zero.json")))
 
     async def test_what_is_refused_is_not_made_up_for_later(self):
@@ -139,7 +163,9 @@ class AFault(OnADisk):
             await files.write("tares.json", {"A": 1, "B": 2}, 1)
         self.disk.fault = None
         self.assertTrue(await files.bring())
-        self.assertEqual(({"A": 1}, {"A": 1}), (files.read("tares.json"), found_in(files.path("tares.json"))))
+        self.assertEqual(
+            ({"A": 1}, {"A": 1}), (files.read("tares.json"), found_in(files.path("tares.json")))
+        )
 
     async def test_a_write_that_hangs_is_refused_in_time_and_the_next_at_once(self):
         files = self.bridge().files
@@ -151,7 +177,10 @@ class AFault(OnADisk):
             for _ in range(100):
                 with self.assertRaisesRegex(NoFile, "hasn't taken what was written before"):
                     await files.write("act.json", {"kg": 6000}, 60)
-        self.assertEqual((tries, ["the disk takes longer than 0.05 s"]), (self.disk.tries, list(files.faults.values())))
+        self.assertEqual(
+            (tries, ["the disk takes longer than 0.05 s"]),
+            (self.disk.tries, list(files.faults.values())),
+        )
         bringing = asyncio.ensure_future(files.bring())
         await asyncio.sleep(0)
         self.disk.goes_on.set()
@@ -208,10 +237,18 @@ class ATare(OnADisk):
             await bridge.until(bridge.acts.look())
             self.disk.fault = fault
             told = await self.weigh(bridge)
-            self.assertEqual((503, b"counter no_file\n", False), (told.status, told.body, told.is_sent))
-            self.assertEqual(([], [], 0), (bridge.played.done, bridge.office.bodies, bridge.played.tare))
+            self.assertEqual(
+                (503, b"counter no_file\n", False), (told.status, told.body, told.is_sent)
+            )
+            self.assertEqual(
+                ([], [], 0), (bridge.played.done, bridge.office.bodies, bridge.played.tare)
+            )
             told = await self.weigh(bridge, b"key=K2&kind=first&plate=AB-12")
-            self.assertEqual((201, TICKET.encode()), (told.status, told.body), "a weighing without a tare still works")
+            self.assertEqual(
+                (201, TICKET.encode()),
+                (told.status, told.body),
+                "a weighing without a tare still works",
+            )
 
     async def test_a_note_that_hangs_keeps_nobody_waiting_at_the_terminal_or_the_office(self):
         bridge = self.bridge((201, TICKET), (201, TICKET))
@@ -221,7 +258,9 @@ class ATare(OnADisk):
             single = asyncio.ensure_future(bridge.acts.carry_out("/weighings", BODY))
             await asyncio.sleep(0.05)
             self.assertFalse(single.done() or bridge.acts.is_busy() or bridge.played.fanout.holder)
-            first = asyncio.ensure_future(bridge.acts.carry_out("/weighings", b"key=K2&kind=first&plate=AB-12"))
+            first = asyncio.ensure_future(
+                bridge.acts.carry_out("/weighings", b"key=K2&kind=first&plate=AB-12")
+            )
             zero = asyncio.ensure_future(bridge.terminal.command("Z"))
             for _ in range(3):
                 await asyncio.sleep(0)
@@ -245,13 +284,19 @@ class ATare(OnADisk):
         bridge.played.reply = fails_from_now_on
         told = await self.weigh(bridge)
         self.assertEqual((201, TICKET.encode()), (told.status, told.body))
-        self.assertEqual((0, False, {"kg": 5000}), (bridge.played.tare, bridge.acts.may_be_left, bridge.on_disk()))
+        self.assertEqual(
+            (0, False, {"kg": 5000}),
+            (bridge.played.tare, bridge.acts.may_be_left, bridge.on_disk()),
+        )
         self.assertEqual([ACT_FILE], list(bridge.files.faults))
         bridge.played.fanout.ended()
         bridge.played.connect()
         bridge.played.reading(2)
         await bridge.until(bridge.acts.look())
-        self.assertTrue(bridge.played.fanout.is_settled, "the counter checks a new connection, and everybody may ask")
+        self.assertTrue(
+            bridge.played.fanout.is_settled,
+            "the counter checks a new connection, and everybody may ask",
+        )
         self.disk.fault = None
         self.assertTrue(await bridge.files.bring())
         self.assertIsNone(bridge.on_disk())
@@ -277,7 +322,10 @@ class ATare(OnADisk):
             await asyncio.sleep(0)
         told = await bridge.until(single)
         running.cancel()
-        self.assertEqual((201, [("TA 5000 kg", {"kg": 5000})]), (told.status, [it for it in seen if it[0].startswith("TA ")]))
+        self.assertEqual(
+            (201, [("TA 5000 kg", {"kg": 5000})]),
+            (told.status, [it for it in seen if it[0].startswith("TA ")]),
+        )
 
     async def test_whoever_fails_over_an_answer_changes_none(self):
         for fault in (OSError(errno.ENOSPC, "full"), ValueError("no moment"), KeyError("x")):
@@ -285,7 +333,9 @@ class ATare(OnADisk):
             bridge.acts.on_text.insert(0, mock.Mock(side_effect=fault))
             bridge.acts.on_answer = mock.Mock(side_effect=fault)
             told = await self.weigh(bridge, b"key=K1&kind=first&plate=AB-12")
-            self.assertEqual((201, TICKET.encode(), [TICKET]), (told.status, told.body, bridge.texts))
+            self.assertEqual(
+                (201, TICKET.encode(), [TICKET]), (told.status, told.body, bridge.texts)
+            )
         self.assertEqual(6, len(self.lines()))
 
 
@@ -304,10 +354,17 @@ class TheCounter(OnADisk):
             bridge.played.fanout.on_zero = counter.terminal.fanout.on_zero
             self.disk.fault = fault
             self.assertEqual(("Z A",), await bridge.until(bridge.terminal.command("Z")))
-            self.assertEqual((True, fault is None), (counter.zero.is_set, await counter.files.bring()))
+            self.assertEqual(
+                (True, fault is None), (counter.zero.is_set, await counter.files.bring())
+            )
             self.assertEqual(fault is not None, "files" in faults_of(counter))
-            self.assertEqual([] if fault is None else [os.strerror(fault)], list(health_of(counter)["files"].values()))
-            self.assertIn(f"weighbridge_counter_files_written {int(fault is None)}\n", metrics_of(counter))
+            self.assertEqual(
+                [] if fault is None else [os.strerror(fault)],
+                list(health_of(counter)["files"].values()),
+            )
+            self.assertIn(
+                f"weighbridge_counter_files_written {int(fault is None)}\n", metrics_of(counter)
+            )
 
     async def test_the_fault_stops_no_weighing_and_is_over_by_itself(self):
         counter = self.counter()
@@ -321,7 +378,14 @@ class TheCounter(OnADisk):
             self.disk.fault = None
             await asyncio.sleep(0.1)
         running.cancel()
-        self.assertEqual((True, 2, "anna"), (counter.state()["files_written"], len(self.lines()), found_in(counter.files.path("zero.json"))["by"]))
+        self.assertEqual(
+            (True, 2, "anna"),
+            (
+                counter.state()["files_written"],
+                len(self.lines()),
+                found_in(counter.files.path("zero.json"))["by"],
+            ),
+        )
 
     async def test_a_tare_that_can_not_be_noted_is_not_kept_and_none_is_dropped(self):
         counter = self.counter()
@@ -329,18 +393,33 @@ class TheCounter(OnADisk):
         counter.terminal.is_in_doubt = lambda: False
 
         async def asked(method, plate):
-            request = make_mocked_request(method, f"/tares/{plate}", headers={"Host": "127.0.0.1"}, match_info={"plate": plate})
+            request = make_mocked_request(
+                method,
+                f"/tares/{plate}",
+                headers={"Host": "127.0.0.1"},
+                match_info={"plate": plate},
+            )
             request._read_bytes = b'{"kg": 5000}'
-            answer = await routes.guarded(request, routes.keep_tare if method == "PUT" else routes.drop_tare)
+            answer = await routes.guarded(
+                request, routes.keep_tare if method == "PUT" else routes.drop_tare
+            )
             return answer.status, json.loads(answer.text)
 
         self.assertEqual((200, {}), await asked("PUT", "AB-1"))
         for self.disk.fault in FAULTS:
-            self.assertEqual([(503, {"why": "no_file"})] * 2, [await asked("PUT", "AB-2"), await asked("DELETE", "AB-1")])
-            self.assertEqual((["AB-1"], ["AB-1"]), (list(counter.tares.shown()), list(found_in(counter.files.path("tares.json")))))
+            self.assertEqual(
+                [(503, {"why": "no_file"})] * 2,
+                [await asked("PUT", "AB-2"), await asked("DELETE", "AB-1")],
+            )
+            self.assertEqual(
+                (["AB-1"], ["AB-1"]),
+                (list(counter.tares.shown()), list(found_in(counter.files.path("tares.json")))),
+            )
         self.disk.fault = None
         self.assertEqual((200, {}), await asked("DELETE", "AB-1"))
-        self.assertEqual({}, Tares(Files(counter.files.folder), counter.tares.today, 90, 60000).shown())
+        self.assertEqual(
+            {}, Tares(Files(counter.files.folder), counter.tares.today, 90, 60000).shown()
+        )
 
 
 class TheNotesOfPapers(unittest.IsolatedAsyncioTestCase):
@@ -352,28 +431,44 @@ class TheNotesOfPapers(unittest.IsolatedAsyncioTestCase):
         raise AssertionError("it doesn't become so")
 
     async def test_they_can_not_be_noted_at_the_start_and_then_can(self):
-        with tempfile.TemporaryDirectory() as folder, contextlib.redirect_stderr(io.StringIO()) as said:
+        with tempfile.TemporaryDirectory() as folder, contextlib.redirect_stderr(
+            io.StringIO()
+        ) as said:
             in_the_way = Path(folder) / "papers"
             in_the_way.write_text("a file where the folder should be")
             with mock.patch("weighbridge_counter.papers.TRY_EVERY", 0.02):
-                printing = Printing(Papers(in_the_way, Template(("Kieswerk",), (), "en", None)), lambda number: None)
+                printing = Printing(
+                    Papers(in_the_way, Template(("Kieswerk",), (), "en", None)), lambda number: None
+                )
                 running = asyncio.ensure_future(printing.run())
                 await self.becomes(printing.faults)
                 printing.passed(USUAL["second"].text, {"key": "K2"})
                 await self.becomes(lambda: not printing.tasks)
-                self.assertEqual((False, 1), (printing.state()["is_writable"], said.getvalue().count("\n")))
+                self.assertEqual(
+                    (False, 1), (printing.state()["is_writable"], said.getvalue().count("\n"))
+                )
                 in_the_way.unlink()
                 await self.becomes(lambda: printing.state()["is_writable"])
-            self.assertEqual((2, True), (said.getvalue().count("\n"), "papers are noted again" in said.getvalue()), said.getvalue())
+            self.assertEqual(
+                (2, True),
+                (said.getvalue().count("\n"), "papers are noted again" in said.getvalue()),
+                said.getvalue(),
+            )
             self.assertTrue((await printing.for_browser(USUAL["second"].text))["is_original"])
             running.cancel()
             printing.end()
             printing.notes.shutdown()
 
     async def test_a_fault_of_noting_is_not_over_by_a_look(self):
-        with tempfile.TemporaryDirectory() as folder, contextlib.redirect_stderr(io.StringIO()) as said:
-            printing = Printing(Papers(Path(folder), Template(("Kieswerk",), (), "en", None)), lambda number: None)
-            with mock.patch.object(printing.spool, "take", side_effect=OSError("papers.db: database or disk is full")):
+        with tempfile.TemporaryDirectory() as folder, contextlib.redirect_stderr(
+            io.StringIO()
+        ) as said:
+            printing = Printing(
+                Papers(Path(folder), Template(("Kieswerk",), (), "en", None)), lambda number: None
+            )
+            with mock.patch.object(
+                printing.spool, "take", side_effect=OSError("papers.db: database or disk is full")
+            ):
                 for _ in range(3):
                     with self.assertRaises(OSError):
                         await printing.for_browser(USUAL["second"].text)

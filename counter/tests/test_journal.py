@@ -47,7 +47,9 @@ class PlayedJournal:
         self.last += 1
         previous = self.rows[self.last - 1].split(",")[10] if self.last - 1 in self.rows else ZEROS
         digest = hashlib.sha256(f"{self.name} {self.last} {plate} {previous}".encode()).hexdigest()
-        self.rows[self.last] = f"{self.last},K{self.name}{self.last},first,{plate},{TODAY},18340,,20,60000,{self.serial},{digest},{previous}"
+        self.rows[
+            self.last
+        ] = f"{self.last},K{self.name}{self.last},first,{plate},{TODAY},18340,,20,60000,{self.serial},{digest},{previous}"
         return (
             f"WEIGHING SLIP {self.last}\nPLATE {plate}\nFIRST NO {self.last}\nAT {TODAY}\nG      18340 kg\n"
             f"E 20 kg MAX 60000 kg SERIAL {self.serial}\nDIGEST {digest}\n"
@@ -128,7 +130,10 @@ class TheSameJournal(WithBooks):
         journal = await self.begin()
         self.passes(journal.weigh("B-6"))
         await self.read()
-        self.assertEqual((["B-6", "A-5", "A-4", "A-3", "A-2", "A-1"], None, True), (self.on_site(), self.told(), self.books.is_whole()))
+        self.assertEqual(
+            (["B-6", "A-5", "A-4", "A-3", "A-2", "A-1"], None, True),
+            (self.on_site(), self.told(), self.books.is_whole()),
+        )
         self.assertEqual("passed", self.books.lists.slip_again(6)[1], "its text stays as it passed")
 
     async def test_what_passes_while_an_export_is_made_stays(self):
@@ -139,7 +144,10 @@ class TheSameJournal(WithBooks):
         self.passes(journal.weigh("B-6"))
         self.office.goes_on.set()
         await reading
-        self.assertEqual((["B-6", "A-5", "A-4", "A-3", "A-2", "A-1"], None, [6]), (self.on_site(), self.told(), self.entries))
+        self.assertEqual(
+            (["B-6", "A-5", "A-4", "A-3", "A-2", "A-1"], None, [6]),
+            (self.on_site(), self.told(), self.entries),
+        )
 
     async def test_a_purge_of_a_part_is_none_other(self):
         journal = await self.begin()
@@ -174,7 +182,9 @@ class TheSameJournal(WithBooks):
         self.passes(journal.weigh("B-7"))
         self.assertFalse(self.books.is_whole())
         await self.read()
-        self.assertEqual((["B-7", "B-6"], None, True), (self.on_site()[:2], self.told(), self.books.is_whole()))
+        self.assertEqual(
+            (["B-7", "B-6"], None, True), (self.on_site()[:2], self.told(), self.books.is_whole())
+        )
 
     async def test_a_counter_that_is_started_again_finds_the_same(self):
         journal = await self.begin()
@@ -202,9 +212,13 @@ class AnotherJournal(WithBooks):
             self.passes(journal.weigh(f"B-{it}"))
         self.office.journal = older
         await self.read()
-        self.assertEqual((["A-5", "A-4", "A-3", "A-2", "A-1"], (SHORTER, 7, 5)), (self.on_site(), self.told()))
+        self.assertEqual(
+            (["A-5", "A-4", "A-3", "A-2", "A-1"], (SHORTER, 7, 5)), (self.on_site(), self.told())
+        )
         self.assertIsNone(self.books.lists.slip_again(7))
-        self.assertIn("the journal: its last number is 5 and was 7, so an older copy", self.said.getvalue())
+        self.assertIn(
+            "the journal: its last number is 5 and was 7, so an older copy", self.said.getvalue()
+        )
 
     async def test_an_older_copy_is_reported_after_a_restart_of_the_counter(self):
         journal = await self.begin()
@@ -234,18 +248,27 @@ class AnotherJournal(WithBooks):
         for it in (6, 7, 8):
             older.weigh(f"C-{it}")
         await self.read()
-        self.assertEqual((["C-8", "C-7", "C-6"], (CHANGED, 7, 8)), (self.on_site()[:3], self.told()))
+        self.assertEqual(
+            (["C-8", "C-7", "C-6"], (CHANGED, 7, 8)), (self.on_site()[:3], self.told())
+        )
 
     async def test_a_text_of_it_begins_the_lists_again_at_once(self):
         journal = await self.begin()
         other = PlayedJournal("new")
         self.office.journal = other
         self.passes(other.weigh("N-1"))
-        self.assertEqual((["N-1"], ["N-1"], (SHORTER, 5, 1), [1]), (self.on_site(), self.today(), self.told(), self.entries))
+        self.assertEqual(
+            (["N-1"], ["N-1"], (SHORTER, 5, 1), [1]),
+            (self.on_site(), self.today(), self.told(), self.entries),
+        )
         self.passes(other.weigh("N-2"))
         self.books.journal.seen()
         await self.read()
-        self.assertEqual((["N-2", "N-1"], ["N-2", "N-1"], None), (self.on_site(), self.today(), self.told()), "the counter reports it once")
+        self.assertEqual(
+            (["N-2", "N-1"], ["N-2", "N-1"], None),
+            (self.on_site(), self.today(), self.told()),
+            "the counter reports it once",
+        )
 
     async def test_a_text_of_a_number_that_was_purged_is_of_another_journal(self):
         journal = await self.begin()
@@ -342,11 +365,20 @@ class AnotherJournal(WithBooks):
         self.assertEqual(journal.last, 5)
 
     async def test_a_file_of_it_that_says_nothing_is_ignored(self):
-        for it in ([], {"known": 5, "told": 5}, {"known": {"last": "5"}, "told": {"why": "x"}}, {"told": {"why": SHORTER}}):
+        for it in (
+            [],
+            {"known": 5, "told": 5},
+            {"known": {"last": "5"}, "told": {"why": "x"}},
+            {"told": {"why": SHORTER}},
+        ):
             self.counter(PlayedJournal())
             self.files.keep("journal.json", it)
             await self.files.bring()
-            self.assertEqual((None, 0), (self.counter(PlayedJournal()).journal.told, self.books.journal.kept.last), it)
+            self.assertEqual(
+                (None, 0),
+                (self.counter(PlayedJournal()).journal.told, self.books.journal.kept.last),
+                it,
+            )
 
     async def test_the_page_and_health_say_so_until_it_is_closed(self):
         counter = Counter(Setup(state=self.folder), lambda address: None)
@@ -359,13 +391,21 @@ class AnotherJournal(WithBooks):
         self.books, self.files, self.office = counter.books, counter.files, Office(journal)
         self.books.office = self.office
         await self.read()
-        self.assertEqual((None, False), (counter.state()["journal_changed"], "journal_changed" in faults_of(counter)))
+        self.assertEqual(
+            (None, False),
+            (counter.state()["journal_changed"], "journal_changed" in faults_of(counter)),
+        )
         self.office.journal = PlayedJournal("new")
         await self.read()
         told = health_of(counter)["state"]["journal_changed"]
-        self.assertEqual(((EMPTY, 3, 0), True), ((told["why"], told["before"], told["now"]), "journal_changed" in faults_of(counter)))
+        self.assertEqual(
+            ((EMPTY, 3, 0), True),
+            ((told["why"], told["before"], told["now"]), "journal_changed" in faults_of(counter)),
+        )
         routes = Routes(counter, Path("."))
-        answer = await routes.guarded(make_mocked_request("POST", "/lists/seen", headers={"Host": "127.0.0.1"}), routes.seen)
+        answer = await routes.guarded(
+            make_mocked_request("POST", "/lists/seen", headers={"Host": "127.0.0.1"}), routes.seen
+        )
         self.assertEqual((200, None), (answer.status, counter.state()["journal_changed"]))
         await self.files.bring()
         self.assertIsNone(found_in(self.folder / "journal.json")["told"])
@@ -376,7 +416,10 @@ class ThePaperAfterAPurge(unittest.IsolatedAsyncioTestCase):
         """Return two truths: the counter accepts the text as the office's, and it checks the lists again."""
         missed = []
         with tempfile.TemporaryDirectory() as folder, contextlib.redirect_stderr(io.StringIO()):
-            printing = Printing(Papers(Path(folder), Template(("Kieswerk",), (), "en", BERLIN)), lambda number: before)
+            printing = Printing(
+                Papers(Path(folder), Template(("Kieswerk",), (), "en", BERLIN)),
+                lambda number: before,
+            )
             printing.on_unlinked = lambda: missed.append(True)
             await printing._take(text, {"key": key})
             printing.notes.shutdown()
@@ -386,12 +429,19 @@ class ThePaperAfterAPurge(unittest.IsolatedAsyncioTestCase):
         after_all = Sample("single", number=7)  # on the digest before it that the sample has
         self.assertEqual((True, False), await self.taken(after_all.text, after_all.digests[6]))
         zeros = at_zeros(7)
-        self.assertEqual((True, True), await self.taken(zeros, "5" * 64), "the lists have an entry before, which was purged")
+        self.assertEqual(
+            (True, True),
+            await self.taken(zeros, "5" * 64),
+            "the lists have an entry before, which was purged",
+        )
         self.assertEqual((True, False), await self.taken(zeros, None))
 
     async def test_a_changed_one_is_not(self):
         zeros = at_zeros(7)
-        for changed in (zeros.replace("18340", "18360").replace("10200", "10220"), zeros.replace("AB-12", "AB-13")):
+        for changed in (
+            zeros.replace("18340", "18360").replace("10200", "10220"),
+            zeros.replace("AB-12", "AB-13"),
+        ):
             self.assertEqual((False, True), await self.taken(changed, "5" * 64))
 
 

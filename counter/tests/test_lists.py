@@ -80,7 +80,14 @@ class Texts(unittest.TestCase):
         self.assertFalse(has_key(export(), "K1"), "of a journal whose entries were purged")
 
     def test_a_key_is_looked_for_in_an_export_only(self):
-        for text in ("", "store 2 disk\n", export(ROW + ",more"), HEADER, export(ROW)[:-1], export(ROW)[:-40]):
+        for text in (
+            "",
+            "store 2 disk\n",
+            export(ROW + ",more"),
+            HEADER,
+            export(ROW)[:-1],
+            export(ROW)[:-40],
+        ):
             with self.assertRaises(NoText):
                 has_key(text, "K1")
 
@@ -93,7 +100,12 @@ class Texts(unittest.TestCase):
 class TheLists(unittest.TestCase):
     def test_an_export_and_what_passed(self):
         lists = Lists.of_export(
-            BERLIN, export(row(1, "first", "AB-12", 18340), row(2, "single", "CD-34", 18340, 5000), row(3, "first", "EF-56", 9000))
+            BERLIN,
+            export(
+                row(1, "first", "AB-12", 18340),
+                row(2, "single", "CD-34", 18340, 5000),
+                row(3, "first", "EF-56", 9000),
+            ),
         )
         self.assertEqual(["EF-56", "AB-12"], [it["plate"] for it in lists.on_site()])
         first = "FIRST NO 1\nAT 2025-03-10 08:00:00\nG      18340 kg\n"
@@ -105,7 +117,11 @@ class TheLists(unittest.TestCase):
         self.assertEqual([], lists.on_site())
 
     def test_plates_weighed_before_are_told_if_they_are_near_one_on_site(self):
-        rows = [row(1, "single", "RA-KM-1237", 18340, 5000), row(2, "first", "RA-KM-1236", 18340), row(3, "single", "HB-X-1", 18340, 5000)]
+        rows = [
+            row(1, "single", "RA-KM-1237", 18340, 5000),
+            row(2, "first", "RA-KM-1236", 18340),
+            row(3, "single", "HB-X-1", 18340, 5000),
+        ]
         lists = Lists.of_export(BERLIN, export(*rows))
         self.assertEqual(["RAKM1237"], lists.near.shown())
         lists.passed(slip(4, "SINGLE", "RA-KM-1226"))
@@ -125,25 +141,54 @@ class TheLists(unittest.TestCase):
 
     def test_a_second_of_a_first_that_is_not_known_is_missed(self):
         lists = Lists.of_export(BERLIN, export(ROW))
-        lists.passed(slip(2, "SECOND", "ZZ-1", "8140", "FIRST NO 9\nAT 2025-03-10 08:00:00\nG      18340 kg\n"))
+        lists.passed(
+            slip(
+                2, "SECOND", "ZZ-1", "8140", "FIRST NO 9\nAT 2025-03-10 08:00:00\nG      18340 kg\n"
+            )
+        )
         self.assertFalse(lists.is_whole)
 
     def test_a_text_that_comes_again_is_not_new(self):
         lists = Lists.of_export(BERLIN, export(ROW))
-        self.assertEqual([False, True, False], [lists.passed(it)[1] for it in (SLIP, slip(2, "FIRST", "EF-56"), slip(2, "FIRST", "EF-56"))])
+        self.assertEqual(
+            [False, True, False],
+            [
+                lists.passed(it)[1]
+                for it in (SLIP, slip(2, "FIRST", "EF-56"), slip(2, "FIRST", "EF-56"))
+            ],
+        )
 
     def test_today_is_the_day_of_the_zone(self):
         lists = Lists.of_export(
-            BERLIN, export(row(1, "first", "A", 1000, at="2025-03-09 22:59:00"), row(2, "first", "B", 1000, at="2025-03-09 23:01:00"))
+            BERLIN,
+            export(
+                row(1, "first", "A", 1000, at="2025-03-09 22:59:00"),
+                row(2, "first", "B", 1000, at="2025-03-09 23:01:00"),
+            ),
         )
         now = datetime.datetime(2025, 3, 10, 12, tzinfo=BERLIN)
         self.assertEqual(["B"], [it["plate"] for it in lists.today(now)])
 
     def test_search_by_number_and_by_a_part_of_a_plate(self):
         lists = Lists.of_export(
-            BERLIN, export(row(1, "first", "HB-AB-12", 1000), row(2, "first", "OL-X-1", 1000), row(3, "second", "HB-AB-12", 9000))
+            BERLIN,
+            export(
+                row(1, "first", "HB-AB-12", 1000),
+                row(2, "first", "OL-X-1", 1000),
+                row(3, "second", "HB-AB-12", 9000),
+            ),
         )
-        for words, found in (("2", [2, 3, 1]), ("bab", [3, 1]), ("b-ab", [3, 1]), ("x", [2]), ("", []), ("-", []), ("zz", []), ("9", []), ("²", [])):
+        for words, found in (
+            ("2", [2, 3, 1]),
+            ("bab", [3, 1]),
+            ("b-ab", [3, 1]),
+            ("x", [2]),
+            ("", []),
+            ("-", []),
+            ("zz", []),
+            ("9", []),
+            ("²", []),
+        ):
             self.assertEqual(found, [it["number"] for it in lists.search(words)], words)
 
     def test_what_is_no_export_is_refused(self):
@@ -167,7 +212,10 @@ class Kept(unittest.IsolatedAsyncioTestCase):
 
     async def test_a_tare_has_a_last_day_and_who_kept_it(self):
         await self.tares().keep("AB-12", 5000, "anna")
-        self.assertEqual({"AB-12": {"kg": 5000, "until": "2025-06-08", "by": "anna", "is_over": False}}, self.tares().shown())
+        self.assertEqual(
+            {"AB-12": {"kg": 5000, "until": "2025-06-08", "by": "anna", "is_over": False}},
+            self.tares().shown(),
+        )
         self.day = datetime.date(2025, 6, 9)
         self.assertTrue(self.tares().shown()["AB-12"]["is_over"])
         await self.tares().drop("AB-12")
@@ -254,7 +302,10 @@ class TheSetup(unittest.TestCase):
         self.assertEqual((("127.0.0.1", 8090), 20, ()), (setup.listen, setup.interval, setup.ports))
 
     def test_a_language_is_a_file(self):
-        self.assertEqual({"de": "Deutsch", "en": "English", "es": "Español", "fr": "Français"}, self.read('state = "x"').languages)
+        self.assertEqual(
+            {"de": "Deutsch", "en": "English", "es": "Español", "fr": "Français"},
+            self.read('state = "x"').languages,
+        )
 
     def test_one_that_is_put_there_is_known_and_one_that_is_broken_is_named(self):
         with tempfile.TemporaryDirectory() as web:
@@ -285,10 +336,19 @@ class TheSetup(unittest.TestCase):
             ('state = "x"\nlissten = "127.0.0.1:1"', "lissten: there is no such key"),
             ('state = "x"\nport = 5', "port: write each port as a table"),
             ('state = "x"\n' + port.replace("till", "Till 1"), "port 1: name: write"),
-            ('state = "x"\n' + port.replace("change", "all"), 'port 1: may: write "read" or "change"'),
-            ('state = "x"\n' + port.replace("4101", "8090"), "port 1: listen: it is the address of listen"),
+            (
+                'state = "x"\n' + port.replace("change", "all"),
+                'port 1: may: write "read" or "change"',
+            ),
+            (
+                'state = "x"\n' + port.replace("4101", "8090"),
+                "port 1: listen: it is the address of listen",
+            ),
             ('state = "x"\n' + port + port, "port 2: listen: it is the address of port 1"),
-            ('state = "x"\n' + port + port.replace("4101", "4102"), "port 2: name: there is a port till"),
+            (
+                'state = "x"\n' + port + port.replace("4101", "4102"),
+                "port 2: name: there is a port till",
+            ),
             ('state = "x"\n' + port + "speed = 1", "port 1: speed: there is no such key"),
             ("state = ", "it is no TOML"),
         ]

@@ -26,13 +26,21 @@ class Letters(unittest.TestCase):
             ("", "", False),
         ]
         for one, other, wanted in rows:
-            self.assertEqual((wanted, wanted), (is_near(one, other), is_near(other, one)), (one, other))
+            self.assertEqual(
+                (wanted, wanted), (is_near(one, other), is_near(other, one)), (one, other)
+            )
 
     def test_both_functions_agree_on_each_text_of_three_letters(self):
         with mock.patch.object(near, "LETTERS", "AB1"):
-            texts = ["".join(it) for length in range(5) for it in itertools.product("AB1", repeat=length)]
+            texts = [
+                "".join(it) for length in range(5) for it in itertools.product("AB1", repeat=length)
+            ]
             for text in texts:
-                self.assertEqual({it for it in texts if is_near(it, text)}, {it for it in neighbours(text) if len(it) < 5}, text)
+                self.assertEqual(
+                    {it for it in texts if is_near(it, text)},
+                    {it for it in neighbours(text) if len(it) < 5},
+                    text,
+                )
 
 
 class WeighedBefore(unittest.TestCase):
@@ -43,15 +51,27 @@ class WeighedBefore(unittest.TestCase):
         return made
 
     def test_a_ticket_makes_a_plate_known_and_hyphens_do_not_count(self):
-        made = self.near(("single", "RA-KM-1237"), ("first", "RA-KM-1238"), ("second", "RA-KM-1238"), ("first", "RAKM-1236"))
+        made = self.near(
+            ("single", "RA-KM-1237"),
+            ("first", "RA-KM-1238"),
+            ("second", "RA-KM-1238"),
+            ("first", "RAKM-1236"),
+        )
         self.assertEqual(["RAKM1237", "RAKM1238"], made.shown())
 
     def test_a_first_without_a_ticket_or_withdrawn_does_not(self):
-        self.assertEqual([], self.near(("first", "RA-KM-1237"), ("void", "RA-KM-1237"), ("first", "RA-KM-1236")).shown())
+        self.assertEqual(
+            [],
+            self.near(
+                ("first", "RA-KM-1237"), ("void", "RA-KM-1237"), ("first", "RA-KM-1236")
+            ).shown(),
+        )
         self.assertEqual([], self.near(("first", "RA-KM-1237"), ("first", "RA-KM-1236")).shown())
 
     def test_only_near_ones_are_shown_and_none_without_a_vehicle_on_site(self):
-        made = self.near(("single", "RA-KM-1237"), ("single", "RA-KM-9999"), ("first", "RA-KM-1236"))
+        made = self.near(
+            ("single", "RA-KM-1237"), ("single", "RA-KM-9999"), ("first", "RA-KM-1236")
+        )
         self.assertEqual(["RAKM1237"], made.shown())
         made.takes("second", "RA-KM-1236")
         self.assertEqual([], made.shown())
@@ -65,14 +85,18 @@ class WeighedBefore(unittest.TestCase):
 
     def test_it_is_bounded_and_the_newest_come_first(self):
         made = self.near(
-            *(("single", f"A-{it}") for it in range(1000, 4000)), *(("first", f"B-{it}") for it in range(1000, 1100)), ("first", "A-2000")
+            *(("single", f"A-{it}") for it in range(1000, 4000)),
+            *(("first", f"B-{it}") for it in range(1000, 1100)),
+            ("first", "A-2000"),
         )
         with mock.patch.multiple(near, MOST_TOLD=10, MOST_ON_SITE=2):
             told = made.shown()
         self.assertEqual((10, True), (len(told), all(is_near(it, "A2000") for it in told)))
 
     def test_a_fleet_of_running_numbers_takes_below_20_ms_for_each_entry(self):
-        entries = [("single", f"RA-KM-{it}") for it in range(1000, 9999)] + [("first", f"RA-KM-{it}") for it in range(1200, 1300)]
+        entries = [("single", f"RA-KM-{it}") for it in range(1000, 9999)] + [
+            ("first", f"RA-KM-{it}") for it in range(1200, 1300)
+        ]
         made = self.near(*entries)
         made.shown()
         began = time.process_time()

@@ -65,7 +65,9 @@ class WhatTheServiceRefuses(Played):
     def test_refused_zero_sends_for_the_operator_until_less_is_shown(self):
         self.shows(160, 6)
         self.bridge.answered("Z +")
-        self.assertEqual((160, True), (self.bridge.shown()["kg"], self.bridge.shown()["is_refused"]))
+        self.assertEqual(
+            (160, True), (self.bridge.shown()["kg"], self.bridge.shown()["is_refused"])
+        )
         self.assertTrue(self.shows(180)["is_refused"], "more is refused too")
         self.assertFalse(self.shows(100)["is_refused"], "less may not be")
 
@@ -82,13 +84,17 @@ class WhatTheServiceRefuses(Played):
             self.shows(160, 6)
             self.bridge.answered("Z +")
             ends()
-            self.assertEqual((None, False), (self.bridge.shown()["kg"], self.bridge.shown()["is_refused"]))
+            self.assertEqual(
+                (None, False), (self.bridge.shown()["kg"], self.bridge.shown()["is_refused"])
+            )
             self.assertFalse(self.shows(160, 6)["is_refused"])
 
     def test_refused_under_a_vehicle_says_nothing_of_the_empty_bridge(self):
         self.shows(9000)
         self.bridge.answered("Z +")
-        self.assertEqual((160, False), (self.shows(160, 6)["kg"], self.bridge.shown()["is_refused"]))
+        self.assertEqual(
+            (160, False), (self.shows(160, 6)["kg"], self.bridge.shown()["is_refused"])
+        )
 
     def test_a_bridge_that_moved_is_not_refused(self):
         self.shows(160, 6)
@@ -108,7 +114,9 @@ class BeforeTheVehicle(Played):
 
     def test_what_the_bridge_showed_is_kept_while_the_vehicle_is_on(self):
         self.shows(160)
-        self.assertEqual((160, True), (self.drives_on()["before"], self.shows(9000, 60)["is_doubtful"]))
+        self.assertEqual(
+            (160, True), (self.drives_on()["before"], self.shows(9000, 60)["is_doubtful"])
+        )
 
     def test_five_intervals_are_doubtful_on_either_side_and_four_are_not(self):
         for kg, is_doubtful in ((100, True), (-100, True), (80, False), (-80, False), (0, False)):
@@ -120,23 +128,35 @@ class BeforeTheVehicle(Played):
     def test_a_weight_that_moves_is_none_before_the_vehicle(self):
         self.shows(0)
         self.shows(240, 2, "D")
-        self.assertEqual((0, False), (self.drives_on()["before"], self.bridge.shown()["is_doubtful"]))
+        self.assertEqual(
+            (0, False), (self.drives_on()["before"], self.bridge.shown()["is_doubtful"])
+        )
 
     def test_an_empty_bridge_is_before_no_vehicle(self):
-        self.assertEqual((None, False), (self.shows(160)["before"], self.bridge.shown()["is_doubtful"]))
+        self.assertEqual(
+            (None, False), (self.shows(160)["before"], self.bridge.shown()["is_doubtful"])
+        )
         self.drives_on()
-        self.assertEqual((None, False), (self.shows(0)["before"], self.bridge.shown()["is_doubtful"]))
+        self.assertEqual(
+            (None, False), (self.shows(0)["before"], self.bridge.shown()["is_doubtful"])
+        )
 
     def test_far_below_zero_counts_with_twenty_intervals(self):
         self.shows(None, 1, "-")
-        self.assertEqual((-400, True), (self.drives_on()["before"], self.bridge.shown()["is_doubtful"]))
+        self.assertEqual(
+            (-400, True), (self.drives_on()["before"], self.bridge.shown()["is_doubtful"])
+        )
 
     def test_what_was_before_this_program_or_a_gap_is_not_known(self):
-        self.assertEqual((None, True), (self.drives_on()["before"], self.bridge.shown()["is_doubtful"]))
+        self.assertEqual(
+            (None, True), (self.drives_on()["before"], self.bridge.shown()["is_doubtful"])
+        )
         self.setUp()
         self.shows(0)
         self.at += ANOTHER_MAY_COME + 1
-        self.assertEqual((None, True), (self.drives_on()["before"], self.bridge.shown()["is_doubtful"]))
+        self.assertEqual(
+            (None, True), (self.drives_on()["before"], self.bridge.shown()["is_doubtful"])
+        )
 
     def test_a_short_gap_lets_no_other_vehicle_come(self):
         self.shows(0)
@@ -151,7 +171,9 @@ class BeforeTheVehicle(Played):
 
     def test_too_heavy_is_a_vehicle_too(self):
         self.shows(160)
-        self.assertEqual((160, True), (self.shows(None, 1, "+")["before"], self.bridge.shown()["is_doubtful"]))
+        self.assertEqual(
+            (160, True), (self.shows(None, 1, "+")["before"], self.bridge.shown()["is_doubtful"])
+        )
 
     def test_a_start_of_the_service_forgets_it(self):
         self.shows(0)
@@ -167,7 +189,11 @@ class AtTheCounter(unittest.TestCase):
     def setUp(self):
         folder = tempfile.TemporaryDirectory()
         self.addCleanup(folder.cleanup)
-        self.counter, self.page, self.at = Counter(Setup(Path(folder.name), interval=10)), Page(), 1000.0
+        self.counter, self.page, self.at = (
+            Counter(Setup(Path(folder.name), interval=10)),
+            Page(),
+            1000.0,
+        )
         self.counter.pages.open.add(self.page)
         self.counter.terminal.fanout.link, self.counter.terminal.fanout.tare = "up", 0
 
@@ -181,14 +207,22 @@ class AtTheCounter(unittest.TestCase):
 
     def test_e_is_that_of_the_setup(self):
         self.assertEqual(10, self.shows(10, 6)["kg"])
-        self.assertEqual((190, True), (self.shows(190) and self.shows(200)["before"], self.counter.state()["off_zero"]["is_doubtful"]))
+        self.assertEqual(
+            (190, True),
+            (
+                self.shows(190) and self.shows(200)["before"],
+                self.counter.state()["off_zero"]["is_doubtful"],
+            ),
+        )
 
     def test_no_page_has_a_vehicle_s_weight_before_what_the_bridge_showed(self):
         self.shows(160)
         self.page.frames.clear()
         self.shows(9000, 0.1)
         told = b"".join(self.page.frames) + self.page.weight
-        self.assertTrue(0 <= told.index(b'"before":160,"is_doubtful":true') < told.index(b'"net":9000'))
+        self.assertTrue(
+            0 <= told.index(b'"before":160,"is_doubtful":true') < told.index(b'"net":9000')
+        )
 
     def test_what_the_page_got_once_is_not_sent_again(self):
         self.shows(160, 10)
@@ -199,9 +233,14 @@ class AtTheCounter(unittest.TestCase):
     def test_a_zero_that_is_refused_counts_whoever_asked_for_it(self):
         self.shows(160, 6)
         self.counter.terminal.fanout._learn("Z +")
-        self.assertEqual((True, False), (self.counter.state()["off_zero"]["is_refused"], self.counter.zero.is_set))
+        self.assertEqual(
+            (True, False),
+            (self.counter.state()["off_zero"]["is_refused"], self.counter.zero.is_set),
+        )
         self.counter.terminal.fanout._learn("Z A")
-        self.assertEqual((None, True), (self.counter.state()["off_zero"]["kg"], self.counter.zero.is_set))
+        self.assertEqual(
+            (None, True), (self.counter.state()["off_zero"]["kg"], self.counter.zero.is_set)
+        )
 
 
 if __name__ == "__main__":

@@ -29,7 +29,14 @@ from .papers import USUAL, Sample
 from .played_printer import ANSWERS, PlayedPrinter
 
 TEMPLATE = layout.Template(("Kieswerk",), (), "en", zoneinfo.ZoneInfo("Europe/Berlin"))
-FAST = {"ANSWER_WITHIN": 0.3, "STUCK_AFTER": 0.5, "BEHIND_EVERY": 0.3, "BEHIND_WITHIN": 1.5, "CONNECT_WITHIN": 0.5, "UNKNOWN_AFTER": 99}
+FAST = {
+    "ANSWER_WITHIN": 0.3,
+    "STUCK_AFTER": 0.5,
+    "BEHIND_EVERY": 0.3,
+    "BEHIND_WITHIN": 1.5,
+    "CONNECT_WITHIN": 0.5,
+    "UNKNOWN_AFTER": 99,
+}
 
 
 def marks(data):
@@ -47,7 +54,17 @@ class AtAPrinter(unittest.TestCase):
             changed = mock.patch.object(devices, name, value)
             changed.start()
             self.addCleanup(changed.stop)
-        self.printer = Printer("yard", "tcp", "127.0.0.1", str(self.played.port), "escpos80", TEMPLATE, 48, (("cp858", 19),), True)
+        self.printer = Printer(
+            "yard",
+            "tcp",
+            "127.0.0.1",
+            str(self.played.port),
+            "escpos80",
+            TEMPLATE,
+            48,
+            (("cp858", 19),),
+            True,
+        )
 
     def put(self, *samples):
         return [self.spool.put(self.spool.take(read_text(it.text)), "yard") for it in samples]
@@ -65,7 +82,9 @@ class AtAPrinter(unittest.TestCase):
             self.assertTrue(self.turn())
         self.assertEqual([0, 2, 2], [marks(it) for it in self.played.printed])
         self.assertFalse(self.turn())
-        self.assertIn(b"\x1d!\x22\x1bEAB-12".replace(b"\x1bE", b"\x1bE\x01"), self.played.printed[0])
+        self.assertIn(
+            b"\x1d!\x22\x1bEAB-12".replace(b"\x1bE", b"\x1bE\x01"), self.played.printed[0]
+        )
 
     def test_many_presses_at_one_that_waits_make_one_paper(self):
         self.played.gone()
@@ -93,7 +112,10 @@ class AtAPrinter(unittest.TestCase):
         self.put(*samples)
         while self.turn():
             pass
-        self.assertEqual([it.plate.encode() in data for it, data in zip(samples, self.played.printed)], [True] * 5)
+        self.assertEqual(
+            [it.plate.encode() in data for it, data in zip(samples, self.played.printed)],
+            [True] * 5,
+        )
 
     def test_each_trouble_is_told_in_its_name_and_the_original_comes_once_it_is_over(self):
         for name in ("paper_out", "cover_open", "offline", "knife", "fault"):
@@ -139,7 +161,10 @@ class AtAPrinter(unittest.TestCase):
         self.assertFalse(self.turn())
         self.assertEqual(("waits", "cut"), self.state(job))
         self.assertTrue(self.turn())
-        self.assertEqual(([0], [2]), ([marks(it) for it in self.played.begun], [marks(it) for it in self.played.printed]))
+        self.assertEqual(
+            ([0], [2]),
+            ([marks(it) for it in self.played.begun], [marks(it) for it in self.played.printed]),
+        )
 
     def test_cut_three_times_it_has_failed_and_a_press_prints_it(self):
         (job,) = self.put(USUAL["second"])
@@ -164,7 +189,10 @@ class AtAPrinter(unittest.TestCase):
         self.assertEqual(("begun", "paper_out"), self.state(job))
         self.played.state = ""
         done.join(5)
-        self.assertEqual((("printed", ""), [0], []), (self.state(job), [marks(it) for it in self.played.printed], self.played.begun))
+        self.assertEqual(
+            (("printed", ""), [0], []),
+            (self.state(job), [marks(it) for it in self.played.printed], self.played.begun),
+        )
 
     def test_one_in_trouble_is_given_up_if_nobody_waits_any_more(self):
         self.played.out_after = 700
@@ -186,7 +214,17 @@ class AtAPrinter(unittest.TestCase):
         self.assertEqual(("printed", ""), self.state(job))
 
     def test_one_without_status_is_asked_nothing(self):
-        self.printer = Printer("yard", "tcp", "127.0.0.1", str(self.played.port), "escpos80", TEMPLATE, 48, (("cp858", 19),), False)
+        self.printer = Printer(
+            "yard",
+            "tcp",
+            "127.0.0.1",
+            str(self.played.port),
+            "escpos80",
+            TEMPLATE,
+            48,
+            (("cp858", 19),),
+            False,
+        )
         self.played.is_dumb = True
         self.put(USUAL["second"])
         self.assertTrue(self.turn())
@@ -226,7 +264,9 @@ class AtAPrinter(unittest.TestCase):
         with mock.patch.object(self.spool, "_open", wraps=self.spool._open) as transactions:
             self.assertEqual((True, (("goods", "Kies"),)), self.spool.elsewhere(paper))
         self.assertEqual(1, transactions.call_count)
-        self.assertEqual(["printed"], [it.state for it in self.spool.jobs("waits", "begun", "printed")])
+        self.assertEqual(
+            ["printed"], [it.state for it in self.spool.jobs("waits", "begun", "printed")]
+        )
 
     def test_root_makes_nothing_in_another_user_s_folder_nor_where_his_link_leads(self):
         if os.geteuid():
@@ -248,9 +288,13 @@ class AtAPrinter(unittest.TestCase):
         (job,) = self.put(USUAL["second"])
         name = f"WB01-2-{job}.escpos"
         (box / f".{name}.new").symlink_to(kept)
-        self.printer = Printer("yard", "file", str(box), "", "escpos80", TEMPLATE, 48, (("cp858", 19),))
+        self.printer = Printer(
+            "yard", "file", str(box), "", "escpos80", TEMPLATE, 48, (("cp858", 19),)
+        )
         self.assertTrue(self.turn())
-        self.assertEqual(("kept", [name], False), (kept.read_text(), os.listdir(box), (box / name).is_symlink()))
+        self.assertEqual(
+            ("kept", [name], False), (kept.read_text(), os.listdir(box), (box / name).is_symlink())
+        )
         self.put(USUAL["first"])
         with mock.patch("os.replace", side_effect=OSError):
             self.assertFalse(self.turn())
@@ -260,7 +304,10 @@ class AtAPrinter(unittest.TestCase):
         paper = self.spool.take(read_text(USUAL["second"].text))
         jobs = [self.spool.put(paper, f"printer_{it}") for it in range(12)]
         found = []
-        threads = [threading.Thread(target=lambda job=job: found.append(self.spool.begin(job, True))) for job in jobs]
+        threads = [
+            threading.Thread(target=lambda job=job: found.append(self.spool.begin(job, True)))
+            for job in jobs
+        ]
         for it in threads:
             it.start()
         for it in threads:
@@ -274,15 +321,23 @@ class AtAPrinter(unittest.TestCase):
 
         def looks(wire, data):
             if len(data) > 100:
-                with contextlib.closing(sqlite3.connect(self.spool.folder / "papers.db")) as database:
-                    seen.append(database.execute("SELECT state, is_original, is_spent FROM job JOIN paper ON paper.id = paper").fetchone())
+                with contextlib.closing(
+                    sqlite3.connect(self.spool.folder / "papers.db")
+                ) as database:
+                    seen.append(
+                        database.execute(
+                            "SELECT state, is_original, is_spent FROM job JOIN paper ON paper.id = paper"
+                        ).fetchone()
+                    )
             write(wire, data)
 
         with mock.patch.object(devices.Wire, "write", looks):
             self.turn()
         self.assertEqual([("begun", 1, 1)], seen)
         (job,) = self.put(Sample("single"))
-        with mock.patch("weighbridge_paper.printing.data_of", side_effect=ValueError), self.assertRaises(ValueError):
+        with mock.patch(
+            "weighbridge_paper.printing.data_of", side_effect=ValueError
+        ), self.assertRaises(ValueError):
             self.turn()
         self.assertEqual("waits", self.state(job)[0])
 
@@ -325,26 +380,51 @@ class EscPos(unittest.TestCase):
         self.assertEqual(text, found)
 
     def test_what_no_page_has_is_alike_or_a_question_mark(self):
-        self.assertEqual(b"Zolc - EUR ?", escpos.Letters((("cp437", 0),)).of("Żółc – € 山").replace(b"\x1bt\x00", b"").replace(b"\xa2", b"o"))
+        self.assertEqual(
+            b"Zolc - EUR ?",
+            escpos.Letters((("cp437", 0),))
+            .of("Żółc – € 山")
+            .replace(b"\x1bt\x00", b"")
+            .replace(b"\xa2", b"o"),
+        )
 
     def test_a_picture_begins_at_its_left(self):
-        self.assertEqual(b"\x1dv0\x00\x02\x00\x01\x00\x80\x80", escpos.raster([[True] + [False] * 7 + [True]]))
+        self.assertEqual(
+            b"\x1dv0\x00\x02\x00\x01\x00\x80\x80", escpos.raster([[True] + [False] * 7 + [True]])
+        )
 
     def test_the_status_says_what_is_wrong(self):
         for name, answers in ANSWERS.items():
-            self.assertEqual(None if name in ("", "paper_low") else name, escpos.trouble_of(dict(zip((1, 2, 3, 4), answers))))
+            self.assertEqual(
+                None if name in ("", "paper_low") else name,
+                escpos.trouble_of(dict(zip((1, 2, 3, 4), answers))),
+            )
             self.assertTrue(all(escpos.is_status(it) for it in answers))
-        self.assertEqual([False, True], [escpos.is_low(dict(zip((1, 2, 3, 4), ANSWERS[it]))) for it in ("", "paper_low")])
+        self.assertEqual(
+            [False, True],
+            [escpos.is_low(dict(zip((1, 2, 3, 4), ANSWERS[it]))) for it in ("", "paper_low")],
+        )
 
     def test_nothing_is_wider_than_the_roll(self):
         for columns in (30, 32, 42, 48):
             for language in words.LANGUAGES:
-                template = layout.Template(("A very long name of a company that needs more than one line",), (), language, TEMPLATE.zone)
-                given = layout.given_of({"goods": "œ" * 60, "order": "y z " * 15, "driver": "山…€ " * 15})
-                blocks = layout.blocks_of(layout.Paper(read_text(USUAL["single"].text), given), template)
+                template = layout.Template(
+                    ("A very long name of a company that needs more than one line",),
+                    (),
+                    language,
+                    TEMPLATE.zone,
+                )
+                given = layout.given_of(
+                    {"goods": "œ" * 60, "order": "y z " * 15, "driver": "山…€ " * 15}
+                )
+                blocks = layout.blocks_of(
+                    layout.Paper(read_text(USUAL["single"].text), given), template
+                )
                 data = escpos.Roll(columns, (("cp858", 19),), True).bytes_of(blocks)
                 self.assertTrue(data.startswith(b"\x1b@") and data.endswith(b"\x1dVB\x00"))
-                lines = re.sub(rb"\x1d[!B].|\x1b[tEaR].|\x1b@", b"", data.partition(b"\x1dv0")[0], flags=re.S).split(b"\n")
+                lines = re.sub(
+                    rb"\x1d[!B].|\x1b[tEaR].|\x1b@", b"", data.partition(b"\x1dv0")[0], flags=re.S
+                ).split(b"\n")
                 self.assertLessEqual(max(map(len, lines)), columns)
 
 
@@ -353,11 +433,15 @@ class TheCode(unittest.TestCase):
         rows = modules_of("2 " + "a" * 64)
         self.assertEqual(QUIET, rows[QUIET].index(True))
         runs = path_of(rows).removesuffix("z").split("z")
-        self.assertEqual(sum(map(sum, rows)), sum(int(it.partition("h")[2].partition("v")[0]) for it in runs))
+        self.assertEqual(
+            sum(map(sum, rows)), sum(int(it.partition("h")[2].partition("v")[0]) for it in runs)
+        )
 
     def test_the_page_gets_the_legal_text_whole(self):
         blocks = page_of(layout.blocks_of(layout.Paper(read_text(USUAL["second"].text)), TEMPLATE))
-        self.assertEqual([USUAL["second"].text], [it["text"] for it in blocks if it["is"] == "legal"])
+        self.assertEqual(
+            [USUAL["second"].text], [it["text"] for it in blocks if it["is"] == "legal"]
+        )
 
 
 class Pdf(unittest.TestCase):
@@ -379,10 +463,13 @@ class TheSetup(unittest.TestCase):
             return read_papers(Path(file.name))
 
     def test_little_is_enough(self):
-        papers = self.read('spool = "/tmp/x"\n[[printer]]\nname = "yard"\nto = "tcp:192.0.2.50:9100"\n')
+        papers = self.read(
+            'spool = "/tmp/x"\n[[printer]]\nname = "yard"\nto = "tcp:192.0.2.50:9100"\n'
+        )
         printer = papers.printers[0]
         self.assertEqual(
-            ("yard", "escpos80", 48, (("cp858", 19),), True), (papers.by_itself, printer.form, printer.columns, printer.pages, printer.has_status)
+            ("yard", "escpos80", 48, (("cp858", 19),), True),
+            (papers.by_itself, printer.form, printer.columns, printer.pages, printer.has_status),
         )
 
     def test_each_way(self):
@@ -394,7 +481,9 @@ class TheSetup(unittest.TestCase):
             ("cups:desk@127.0.0.1:631", "cups", "desk", "127.0.0.1:631"),
             ("file:/srv/papers", "file", "/srv/papers", ""),
         ):
-            printer = self.read(f'spool = "/tmp/x"\n[[printer]]\nname = "a"\nto = "{to}"\n').printers[0]
+            printer = self.read(
+                f'spool = "/tmp/x"\n[[printer]]\nname = "a"\nto = "{to}"\n'
+            ).printers[0]
             self.assertEqual((way, place, detail), (printer.way, printer.place, printer.detail))
 
     def test_each_mistake_is_named(self):
@@ -412,13 +501,19 @@ class TheSetup(unittest.TestCase):
             (yard.replace("tcp:192.0.2.50:9100", "192.0.2.50"), "printer 1: to: write"),
             (yard.replace(":9100", ":99999"), "printer 1: to: write"),
             (yard + 'form = "a4"', "form: such a printer gets ESC/POS"),
-            (yard.replace("tcp:192.0.2.50:9100", "cups:desk") + 'form = "escpos80"', "form: a queue of CUPS gets PDF"),
+            (
+                yard.replace("tcp:192.0.2.50:9100", "cups:desk") + 'form = "escpos80"',
+                "form: a queue of CUPS gets PDF",
+            ),
             (yard + 'form = "a3"', "form: write"),
             (yard + "columns = 20", "columns: write a whole number from 30 to 96"),
             (yard + 'code_pages = ["latin"]', "code_pages: write code pages"),
             (yard + 'code_pages = ["cp858=300"]', "code_pages: write code pages"),
             (yard + "status = 1", "status: write true or false"),
-            (yard.replace("tcp:192.0.2.50:9100", "file:/x") + 'form = "escpos58"\nstatus = true', "status: a file answers nothing"),
+            (
+                yard.replace("tcp:192.0.2.50:9100", "file:/x") + 'form = "escpos58"\nstatus = true',
+                "status: a file answers nothing",
+            ),
             (yard + "speed = 1", "speed: there is no such key"),
         ]
         for text, wanted in rows:
@@ -435,11 +530,15 @@ class TheCommand(unittest.TestCase):
         self.folder = Path(folder.name)
         (self.folder / "out").mkdir()
         self.setup = self.folder / "paper.toml"
-        self.setup.write_text(f'spool = "{folder.name}/spool"\n[[printer]]\nname = "box"\nto = "file:{folder.name}/out"\nform = "escpos80"\n')
+        self.setup.write_text(
+            f'spool = "{folder.name}/spool"\n[[printer]]\nname = "box"\nto = "file:{folder.name}/out"\nform = "escpos80"\n'
+        )
 
     def run_with(self, letters, *words_given):
         given = mock.Mock(isatty=lambda: False, buffer=io.BytesIO(letters.encode()))
-        with mock.patch("sys.stdin", given), contextlib.redirect_stdout(io.StringIO()) as out, contextlib.redirect_stderr(io.StringIO()) as err:
+        with mock.patch("sys.stdin", given), contextlib.redirect_stdout(
+            io.StringIO()
+        ) as out, contextlib.redirect_stderr(io.StringIO()) as err:
             status = main(["--setup", str(self.setup), *words_given])
         return status, out.getvalue(), err.getvalue()
 
@@ -448,18 +547,30 @@ class TheCommand(unittest.TestCase):
         self.assertEqual(0, self.run_with(it.text, "--printer", "box", "--goods", "Kies")[0])
         self.assertEqual(0, self.run_with("", "--printer", "box", "--reprint", "2")[0])
         made = [it.read_bytes() for it in sorted((self.folder / "out").iterdir())]
-        self.assertEqual(([0, 2], [1, 1]), ([marks(it) for it in made], [it.count(b"Kies\n") for it in made]))
+        self.assertEqual(
+            ([0, 2], [1, 1]), ([marks(it) for it in made], [it.count(b"Kies\n") for it in made])
+        )
 
     def test_what_is_refused_is_not_printed(self):
         it, keys = USUAL["second"], {1: "K1", 2: "K2"}
         export = self.folder / "journal.csv"
         header = "number,key,kind,plate,moment,gross_kg,preset_kg,interval_kg,max_kg,serial,digest,previous\n"
         digests = {1: it.digests[1], 2: it.digest}
-        export.write_text(header + "".join(f"{number},{key},,,,,,,,,{digests[number]},\n" for number, key in keys.items()))
+        export.write_text(
+            header
+            + "".join(
+                f"{number},{key},,,,,,,,,{digests[number]},\n" for number, key in keys.items()
+            )
+        )
         falsified = it.text.replace("8140", "8120").replace("10200", "10220")
         rows = [
             (falsified, ("--key", "K2"), 3, "the digest of number 2 isn't that of its fields"),
-            (falsified, ("--against", str(export)), 3, "the digest of number 2 isn't that of its fields"),
+            (
+                falsified,
+                ("--against", str(export)),
+                3,
+                "the digest of number 2 isn't that of its fields",
+            ),
             (it.text, ("--against", str(self.folder / "none")), 3, "is no export of the journal"),
             (it.text.replace("AB-12", "ab-12"), (), 3, "doesn't have the form of a slip or ticket"),
             ("", (), 3, "nothing came on standard input"),
@@ -501,14 +612,22 @@ class TheCommand(unittest.TestCase):
             spool.was_cut(job, "cut")
         spool.begin(job, False)
         status, _, err = self.run_with("", "--printer", "box")
-        self.assertEqual((1, True), (status, "failed at box: the program ended in the middle" in err))
+        self.assertEqual(
+            (1, True), (status, "failed at box: the program ended in the middle" in err)
+        )
 
     def test_nobody_s_modules_are_taken_but_the_system_s(self):
         (self.folder / "qrcode.py").write_text("raise SystemExit('another module')")
         (self.folder / "sitecustomize.py").write_text("raise SystemExit('another module')")
         for name in ("weighbridge-paper", "weighbridge-counter"):
             words = [Path(__file__).resolve().parents[1] / name, "--help"]
-            found = subprocess.run(words, cwd=self.folder, env={"PYTHONPATH": str(self.folder)}, capture_output=True, text=True)
+            found = subprocess.run(
+                words,
+                cwd=self.folder,
+                env={"PYTHONPATH": str(self.folder)},
+                capture_output=True,
+                text=True,
+            )
             self.assertEqual((0, ""), (found.returncode, found.stderr))
 
     def test_words_that_are_refused(self):
@@ -524,7 +643,11 @@ class Words(unittest.TestCase):
 
         for path in (Path(__file__).resolve().parent.parent / "web" / "lang").glob("*.json"):
             found = json.loads(path.read_text(encoding="utf-8"))
-            self.assertEqual(set(devices.TROUBLES), {it.removeprefix("trouble_") for it in found if it.startswith("trouble_")}, path)
+            self.assertEqual(
+                set(devices.TROUBLES),
+                {it.removeprefix("trouble_") for it in found if it.startswith("trouble_")},
+                path,
+            )
 
 
 if __name__ == "__main__":

@@ -29,7 +29,17 @@ N      10200 kg
 
 
 def other(letter):
-    return "7" if letter == "8" else "8" if letter.isdigit() else "\n" if letter == " " else "a" if letter == "b" else "b"
+    return (
+        "7"
+        if letter == "8"
+        else "8"
+        if letter.isdigit()
+        else "\n"
+        if letter == " "
+        else "a"
+        if letter == "b"
+        else "b"
+    )
 
 
 def is_taken(sample, changed):
@@ -44,9 +54,14 @@ class TheText(unittest.TestCase):
     def test_each_kind_is_read(self):
         for it in ALL:
             text = read_text(it.text)
-            self.assertEqual((it.text, it.plate, it.kind, it.number), (text.letters, text.plate, text.own.kind, text.own.number))
+            self.assertEqual(
+                (it.text, it.plate, it.kind, it.number),
+                (text.letters, text.plate, text.own.kind, text.own.number),
+            )
             self.assertEqual([], check_digests(text, it.keys, it.digests))
-        self.assertEqual([10200, 9999998], [read_text(it["second"].text).net for it in (USUAL, LONGEST)])
+        self.assertEqual(
+            [10200, 9999998], [read_text(it["second"].text).net for it in (USUAL, LONGEST)]
+        )
 
     def test_that_of_the_formats_page_by_its_keys_alone(self):
         self.assertEqual([], check_digests(read_text(TICKET), {1: "K1", 2: "K2"}, {}))
@@ -55,21 +70,31 @@ class TheText(unittest.TestCase):
         count = 0
         for it in ALL:
             for at, letter in enumerate(it.text):
-                self.assertFalse(is_taken(it, it.text[:at] + other(letter) + it.text[at + 1 :]), f"{it.kind}: letter {at}")
+                self.assertFalse(
+                    is_taken(it, it.text[:at] + other(letter) + it.text[at + 1 :]),
+                    f"{it.kind}: letter {at}",
+                )
                 count += 1
         self.assertGreater(count, 2000)
 
     def test_each_single_letter_more_or_less_is_refused(self):
         for it in ALL:
             for at in range(len(it.text)):
-                for changed in (it.text[:at] + it.text[at + 1 :], it.text[:at] + it.text[at] + it.text[at:]):
+                for changed in (
+                    it.text[:at] + it.text[at + 1 :],
+                    it.text[:at] + it.text[at] + it.text[at:],
+                ):
                     self.assertFalse(is_taken(it, changed), f"{it.kind}: letter {at}")
 
     def test_a_line_more_or_less_or_elsewhere_is_refused_by_its_form(self):
         for it in ALL:
             lines = it.text.removesuffix("\n").split("\n")
             for at, line in enumerate(lines):
-                for changed in (lines[:at] + lines[at + 1 :], lines[:at] + [line] + lines[at:], lines[:at] + ["PAID"] + lines[at:]):
+                for changed in (
+                    lines[:at] + lines[at + 1 :],
+                    lines[:at] + [line] + lines[at:],
+                    lines[:at] + ["PAID"] + lines[at:],
+                ):
                     with self.assertRaises(NoText, msg=f"{it.kind}: line {at}"):
                         read_text("\n".join(changed) + "\n")
 
@@ -89,17 +114,26 @@ class TheText(unittest.TestCase):
 
     def test_weights_that_no_service_stores(self):
         rows = [
-            (TICKET.replace("8140", "8141").replace("10200", "10199"), "no multiple of its interval"),
+            (
+                TICKET.replace("8140", "8141").replace("10200", "10199"),
+                "no multiple of its interval",
+            ),
             (TICKET.replace("N      10200", "N      10220"), "its weights give 10200 kg"),
             (TICKET.replace("FIRST NO 1", "FIRST NO 3"), "its First doesn't stand before it"),
-            (TICKET.replace("2025-03-10 08:00:00", "2025-03-11 08:00:00"), "its First doesn't stand before it"),
+            (
+                TICKET.replace("2025-03-10 08:00:00", "2025-03-11 08:00:00"),
+                "its First doesn't stand before it",
+            ),
             (TICKET.replace("E 20 kg", "E 3 kg"), "interval, Max or moment"),
             (TICKET.replace("MAX 60000", "MAX 600000"), "interval, Max or moment"),
             (TICKET.replace("03-10", "02-30"), "no such moment"),
             (TICKET.replace("N      10200", "N 1     0200"), "no such weight"),
             (TICKET.replace("G       8140", "G           "), "no such weight"),
             (TICKET.replace("TICKET 2", "TICKET 3"), "line 1 is 'WEIGHING TICKET 3'"),
-            (USUAL["single"].text.replace("18340", " 8140").replace("10200", "    0"), "isn't below its gross"),
+            (
+                USUAL["single"].text.replace("18340", " 8140").replace("10200", "    0"),
+                "isn't below its gross",
+            ),
         ]
         for changed, wanted in rows:
             with self.assertRaises(NoText) as caught:
@@ -109,7 +143,11 @@ class TheText(unittest.TestCase):
     def test_where_a_digest_can_not_be_made_again_it_is_said(self):
         far = Sample("second", number=9)
         rows = [
-            ({}, {}, ["number 8 can't be made again: its key", "number 9 can't be made again: its key"]),
+            (
+                {},
+                {},
+                ["number 8 can't be made again: its key", "number 9 can't be made again: its key"],
+            ),
             ({9: "K2"}, {}, ["number 8 can't be made again: its key"]),
             (far.keys, {}, ["number 8 can't be made again: that of number 7"]),
             (far.keys, far.digests, []),
@@ -122,7 +160,11 @@ class TheText(unittest.TestCase):
 
     def test_another_key_or_digest_before_is_refused(self):
         it = USUAL["second"]
-        for keys, digests in ((it.keys | {2: "K3"}, {}), (it.keys, {1: "3" * 64}), ({}, {2: "3" * 64})):
+        for keys, digests in (
+            (it.keys | {2: "K3"}, {}),
+            (it.keys, {1: "3" * 64}),
+            ({}, {2: "3" * 64}),
+        ):
             with self.assertRaises(NoText):
                 check_digests(read_text(it.text), keys, digests)
 
@@ -130,7 +172,9 @@ class TheText(unittest.TestCase):
 class TheLayout(unittest.TestCase):
     def blocks(self, sample, language="en", is_original=True, **given):
         template = layout.Template(("Kieswerk",), ("Thanks",), language, BERLIN)
-        return layout.blocks_of(layout.Paper(read_text(sample.text), layout.given_of(given), is_original), template)
+        return layout.blocks_of(
+            layout.Paper(read_text(sample.text), layout.given_of(given), is_original), template
+        )
 
     def test_what_is_large_is_of_the_legal_text_alone(self):
         for language in words.LANGUAGES:
@@ -139,14 +183,30 @@ class TheLayout(unittest.TestCase):
                 text = read_text(it.text)
                 kind = words.word("ticket" if text.is_ticket else "slip", language)
                 shown = text.net if text.net is not None else text.own.gross
-                wanted = [f"{kind} {it.number}", it.plate] + ([] if shown is None else [words.kg(shown, language)])
-                self.assertEqual(wanted, [it.text for it in made if isinstance(it, layout.Line) and it.look in ("title", "large")])
+                wanted = [f"{kind} {it.number}", it.plate] + (
+                    [] if shown is None else [words.kg(shown, language)]
+                )
+                self.assertEqual(
+                    wanted,
+                    [
+                        it.text
+                        for it in made
+                        if isinstance(it, layout.Line) and it.look in ("title", "large")
+                    ],
+                )
 
     def test_a_further_print_is_marked_at_both_ends_and_an_original_nowhere(self):
-        for kind, mark in (("first", "COPY"), ("second", "DUPLICATE"), ("single", "DUPLICATE"), ("void", "DUPLICATE")):
+        for kind, mark in (
+            ("first", "COPY"),
+            ("second", "DUPLICATE"),
+            ("single", "DUPLICATE"),
+            ("void", "DUPLICATE"),
+        ):
             made = self.blocks(USUAL[kind], is_original=False)
             self.assertEqual((layout.Mark(mark), layout.Mark(mark)), (made[0], made[-1]))
-            self.assertEqual([], [it for it in self.blocks(USUAL[kind]) if isinstance(it, layout.Mark)])
+            self.assertEqual(
+                [], [it for it in self.blocks(USUAL[kind]) if isinstance(it, layout.Mark)]
+            )
         self.assertEqual("DUPLIKAT · DUPLICATE", self.blocks(USUAL["void"], "de", False)[0].text)
 
     def test_the_legal_text_is_wrapped_between_characters_and_put_together_again(self):
@@ -157,19 +217,27 @@ class TheLayout(unittest.TestCase):
                 self.assertLessEqual(max(map(len, lines)), columns)
 
     def test_free_lines_are_one_line_each_and_harmless(self):
-        given = layout.given_of({"goods": "  Kies\n0/16\x1b@ ", "order": "", "driver": "x" * 99, "key": "K1"})
+        given = layout.given_of(
+            {"goods": "  Kies\n0/16\x1b@ ", "order": "", "driver": "x" * 99, "key": "K1"}
+        )
         self.assertEqual((("goods", "Kies 0/16 @"), ("driver", "x" * 60)), given)
         given = layout.given_of({"goods": "N" + "\u0335\u0336" * 29, "driver": "Zu\u0308rich"})
         self.assertEqual((("goods", "N\u0335\u0336"), ("driver", "Zürich")), given)
 
     def test_numbers_and_moments_as_the_language_writes_them(self):
         self.assertEqual(
-            ["9,999,999 kg", "9.999.999 kg", "9\u202f999\u202f999 kg", "9.999.999 kg"], [words.kg(9999999, it) for it in words.LANGUAGES]
+            ["9,999,999 kg", "9.999.999 kg", "9\u202f999\u202f999 kg", "9.999.999 kg"],
+            [words.kg(9999999, it) for it in words.LANGUAGES],
         )
         at = datetime.datetime(2025, 10, 26, 0, 30, tzinfo=datetime.timezone.utc)
         self.assertEqual("26 Oct 2025 02:30:00 CEST +02:00", words.local(at, BERLIN, "en"))
-        self.assertEqual("26.10.2025 02:30:00 CET +01:00", words.local(at + datetime.timedelta(hours=1), BERLIN, "de"))
-        self.assertEqual("26/10/2025 06:15:00 +05:45", words.local(at, zoneinfo.ZoneInfo("Asia/Kathmandu"), "fr"))
+        self.assertEqual(
+            "26.10.2025 02:30:00 CET +01:00",
+            words.local(at + datetime.timedelta(hours=1), BERLIN, "de"),
+        )
+        self.assertEqual(
+            "26/10/2025 06:15:00 +05:45", words.local(at, zoneinfo.ZoneInfo("Asia/Kathmandu"), "fr")
+        )
         self.assertEqual("2025-10-26 00:30:00 UTC", words.utc(at))
 
     def test_each_word_is_in_each_language(self):
@@ -179,7 +247,9 @@ class TheLayout(unittest.TestCase):
 
 class Kinds(unittest.TestCase):
     def test_the_samples_have_each_kind(self):
-        self.assertEqual(["SLIP", "TICKET", "TICKET", "SLIP"], [USUAL[it].text.split()[1] for it in KINDS])
+        self.assertEqual(
+            ["SLIP", "TICKET", "TICKET", "SLIP"], [USUAL[it].text.split()[1] for it in KINDS]
+        )
         self.assertEqual(415, max(len(it.text) for it in ALL))
 
 

@@ -26,7 +26,12 @@ class Transport:
 
 class Writer:
     def __init__(self):
-        self.transport, self.written, self.is_closed, self.takes = Transport(), b"", False, asyncio.Event()
+        self.transport, self.written, self.is_closed, self.takes = (
+            Transport(),
+            b"",
+            False,
+            asyncio.Event(),
+        )
         self.takes.set()
 
     def write(self, data):
@@ -55,7 +60,9 @@ class Ports(unittest.IsolatedAsyncioTestCase):
         self.played.reading(3)
         self.played.fanout.settle()
         self.reader, self.writer = asyncio.StreamReader(), Writer()
-        self.task = asyncio.ensure_future(Client(self.terminal, self.reader, self.writer, may_change).run(asyncio.Lock()))
+        self.task = asyncio.ensure_future(
+            Client(self.terminal, self.reader, self.writer, may_change).run(asyncio.Lock())
+        )
         self.addCleanup(self.task.cancel)
 
     async def readings(self, count=1):
@@ -82,7 +89,10 @@ class Ports(unittest.IsolatedAsyncioTestCase):
         value = "S S      18340 kg"
         self.assertEqual([value], await self.asked("SI"))
         self.assertEqual([value], await self.asked("S"))
-        self.assertEqual(["TA A       5000 kg", "S S      13340 kg", "TAC A"], await self.asked("TA 5000 kg", "SI", "TAC"))
+        self.assertEqual(
+            ["TA A       5000 kg", "S S      13340 kg", "TAC A"],
+            await self.asked("TA 5000 kg", "SI", "TAC"),
+        )
         self.assertEqual(['I4 A "WB01"'], await self.asked("@"))
         self.assertEqual(["ES", "ES", "ES"], await self.asked("si", "", f"TA {'0' * 34}5 kg"))
 
@@ -158,7 +168,9 @@ class Ports(unittest.IsolatedAsyncioTestCase):
         self.reader.feed_data(b"TA 3000 kg\r\nTAC\r\nTA 1")
         self.reader.feed_eof()
         await self.readings(8)
-        self.assertEqual((b"TA A       3000 kg\r\nTAC A\r\n", True), (self.writer.written, self.writer.is_closed))
+        self.assertEqual(
+            (b"TA A       3000 kg\r\nTAC A\r\n", True), (self.writer.written, self.writer.is_closed)
+        )
 
 
 if __name__ == "__main__":

@@ -44,14 +44,18 @@ class ManyAskers(unittest.IsolatedAsyncioTestCase):
     async def test_few_have_a_place_at_the_office_at_once(self):
         office = SlowOffice()
         routes = routes_over(office)
-        await asyncio.gather(*(routes.hand_on(make_mocked_request("GET", "/indication")) for _ in range(40)))
+        await asyncio.gather(
+            *(routes.hand_on(make_mocked_request("GET", "/indication")) for _ in range(40))
+        )
         self.assertEqual((40, MOST_ASKING), (office.all, office.most))
 
     async def test_many_searches_hold_up_no_value(self):
         lists = SimpleNamespace(search=lambda words: time.sleep(0.005) or [])
         routes = routes_over(SlowOffice())
         routes.counter.books = SimpleNamespace(lists=lists, is_whole=lambda: True)
-        searches = asyncio.gather(*(routes.search(make_mocked_request("GET", f"/search?q={it}")) for it in range(60)))
+        searches = asyncio.gather(
+            *(routes.search(make_mocked_request("GET", f"/search?q={it}")) for it in range(60))
+        )
         longest, before = 0.0, time.monotonic()
         while not searches.done():
             await asyncio.sleep(0)
@@ -72,7 +76,13 @@ class ManyAskers(unittest.IsolatedAsyncioTestCase):
         office = SlowOffice()
         books = Books(office, zoneinfo.ZoneInfo("UTC"), Counter())
         books.is_empty = lambda: True
-        with mock.patch.multiple("weighbridge_counter.books", LOOK_EVERY=0.001, EMPTY_FOR=0.0, NOT_SOONER_THAN=0.0, PROBE_EVERY=math.inf):
+        with mock.patch.multiple(
+            "weighbridge_counter.books",
+            LOOK_EVERY=0.001,
+            EMPTY_FOR=0.0,
+            NOT_SOONER_THAN=0.0,
+            PROBE_EVERY=math.inf,
+        ):
             with self.assertRaises(asyncio.TimeoutError):
                 await asyncio.wait_for(books.run(), 0.6)
         self.assertIn(office.all, (2, 3))
@@ -87,7 +97,9 @@ class AKey(unittest.IsolatedAsyncioTestCase):
 
         routes = routes_over(SimpleNamespace(ask=ask))
         routes.counter.books = Books(routes.counter.office, zoneinfo.ZoneInfo("UTC"), Counter())
-        answer = await routes.key(make_mocked_request("GET", f"/keys/{key}", match_info={"key": key}))
+        answer = await routes.key(
+            make_mocked_request("GET", f"/keys/{key}", match_info={"key": key})
+        )
         return answer.status, json.loads(answer.text)
 
     async def test_the_column_of_keys_is_asked_and_nothing_else(self):
@@ -109,7 +121,9 @@ class AtTheOffice(unittest.IsolatedAsyncioTestCase):
 
         async def answer(reader, writer):
             self.came.append(await reader.read(1000))
-            writer.write(b"HTTP/1.1 404 X\r\nContent-Type: text/plain\r\nContent-Length: 2\r\n\r\nno")
+            writer.write(
+                b"HTTP/1.1 404 X\r\nContent-Type: text/plain\r\nContent-Length: 2\r\n\r\nno"
+            )
             writer.close()
 
         listener = await asyncio.start_server(answer, "127.0.0.1", 0)
@@ -117,7 +131,12 @@ class AtTheOffice(unittest.IsolatedAsyncioTestCase):
         self.office = Office(listener.sockets[0].getsockname())
 
     async def test_an_end_of_a_line_in_a_target_begins_no_request(self):
-        for target in ("/tickets/1 HTTP/1.1\r\n\r\nPOST /purge", "/tickets/1\n", "/tickets/ 1", "/tickets/é"):
+        for target in (
+            "/tickets/1 HTTP/1.1\r\n\r\nPOST /purge",
+            "/tickets/1\n",
+            "/tickets/ 1",
+            "/tickets/é",
+        ):
             with self.assertRaises(NoAnswer):
                 await self.office.ask("GET", target)
         self.assertEqual([], self.came)
@@ -129,8 +148,12 @@ class AtTheOffice(unittest.IsolatedAsyncioTestCase):
         routes = routes_over(self.office)
         routes.counter.terminal = SimpleNamespace(is_in_doubt=lambda: False)
         with contextlib.redirect_stderr(io.StringIO()) as said:
-            answer = await routes.guarded(make_mocked_request("GET", "/x%1b", headers={"Host": "127.0.0.1"}), breaks)
-        self.assertEqual((500, 1, False), (answer.status, said.getvalue().count("\n"), "\x1b" in said.getvalue()))
+            answer = await routes.guarded(
+                make_mocked_request("GET", "/x%1b", headers={"Host": "127.0.0.1"}), breaks
+            )
+        self.assertEqual(
+            (500, 1, False), (answer.status, said.getvalue().count("\n"), "\x1b" in said.getvalue())
+        )
         self.assertLess(len(said.getvalue()), 400)
 
     async def test_a_tare_nested_too_deep_is_none(self):

@@ -29,9 +29,21 @@ status: 0 ended by a signal, 1 an address or a file can't be used, 2 the words o
 
 
 def words_of(given: list[str]) -> argparse.Namespace:
-    words = argparse.ArgumentParser("weighbridge-counter", description=ABOUT, epilog=EXAMPLE, formatter_class=argparse.RawDescriptionHelpFormatter)
-    words.add_argument("setup", metavar="SETUP", type=Path, help="the setup, a TOML file; its example says each key")
-    words.add_argument("--check", dest="only_check", action="store_true", help="read the setup and end")
+    words = argparse.ArgumentParser(
+        "weighbridge-counter",
+        description=ABOUT,
+        epilog=EXAMPLE,
+        formatter_class=argparse.RawDescriptionHelpFormatter,
+    )
+    words.add_argument(
+        "setup",
+        metavar="SETUP",
+        type=Path,
+        help="the setup, a TOML file; its example says each key",
+    )
+    words.add_argument(
+        "--check", dest="only_check", action="store_true", help="read the setup and end"
+    )
     return words.parse_args(given)
 
 

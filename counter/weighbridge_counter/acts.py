@@ -65,8 +65,16 @@ async def in_time(lock: asyncio.Lock) -> AsyncIterator[None]:
 
 
 class Acts:
-    def __init__(self, terminal: Terminal, office: Office, files: Files, interval: int, counts: Counter[str]) -> None:
-        self.terminal, self.office, self.files, self.interval, self.counts = terminal, office, files, interval, counts
+    def __init__(
+        self, terminal: Terminal, office: Office, files: Files, interval: int, counts: Counter[str]
+    ) -> None:
+        self.terminal, self.office, self.files, self.interval, self.counts = (
+            terminal,
+            office,
+            files,
+            interval,
+            counts,
+        )
         self.one_at_a_time, self.one_with_tare = asyncio.Lock(), asyncio.Lock()
         self.intends = False  # whether the file says that a tare will be set, and it isn't yet
         self.tasks: set[asyncio.Task[None]] = set()
@@ -123,7 +131,9 @@ class Acts:
             self.counts["office_no_answer"] += 1
             self._tell(self.on_answer, 0, "")
             return NO_ANSWER
-        name = "stored" if answer.status == 201 else answer.text.partition("\n")[0].replace(" ", "_")
+        name = (
+            "stored" if answer.status == 201 else answer.text.partition("\n")[0].replace(" ", "_")
+        )
         self.counts[f"office_{name}"] += 1
         self._tell(self.on_answer, answer.status, answer.text)
         if answer.status == 201:
@@ -137,11 +147,20 @@ class Acts:
             take(*what, **more)
         except Exception as fault:
             self.counts["answers_not_taken"] += 1
-            tell(f"the client gets an answer of the office, but the counter couldn't process it here: {repr(fault)[:200]}")
+            tell(
+                f"the client gets an answer of the office, but the counter couldn't process it here: {repr(fault)[:200]}"
+            )
 
     # ---- a tare that belongs to one weighing
 
-    async def _weigh_with_tare(self, target: str, body: bytes, tare: str, asked: Mapping[str, str], told: "asyncio.Future[Told]") -> None:
+    async def _weigh_with_tare(
+        self,
+        target: str,
+        body: bytes,
+        tare: str,
+        asked: Mapping[str, str],
+        told: "asyncio.Future[Told]",
+    ) -> None:
         """Set the tare with `TA`, pass the weighing on, and clear the tare with `TAC`.
 
         The file warns the counter's next start that a tare may be left, so it is on the disk before anything is set. Nobody waits for the disk at the
@@ -157,7 +176,9 @@ class Acts:
         self.intends = True
         try:
             await self.files.write(ACT_FILE, {"kg": int(tare)}, INTEND_WITHIN)
-            async with in_time(self.one_at_a_time), self.terminal.turn(BEGIN_WITHIN, may_settle=True) as turn:
+            async with in_time(self.one_at_a_time), self.terminal.turn(
+                BEGIN_WITHIN, may_settle=True
+            ) as turn:
                 refusal = await self._set_tare(turn, tare)
                 if refusal is not None:
                     told.set_result(refusal)
@@ -172,7 +193,11 @@ class Acts:
                 self.files.keep(ACT_FILE, None)
 
     def _tare_in_force(self) -> Told:
-        return not_sent(503, "no_terminal") if self.terminal.fanout.tare is None else not_sent(409, "tare_set")
+        return (
+            not_sent(503, "no_terminal")
+            if self.terminal.fanout.tare is None
+            else not_sent(409, "tare_set")
+        )
 
     async def _set_tare(self, turn: Turn, tare: str) -> Told | None:
         """Set the tare. Return why it isn't set, or None if it is. Raises NotSent."""
@@ -234,6 +259,10 @@ class Acts:
         if not tare:
             return False
         kept = None if self.intends else self.files.read(ACT_FILE)
-        if isinstance(kept, dict) and isinstance(kept.get("kg"), int) and abs(tare - kept["kg"]) < self.interval:
+        if (
+            isinstance(kept, dict)
+            and isinstance(kept.get("kg"), int)
+            and abs(tare - kept["kg"]) < self.interval
+        ):
             return True
         return before is not None and tare != before

@@ -23,11 +23,19 @@ REST = 4  # times as long as an export took the office does other things before 
 
 
 class Books:
-    def __init__(self, office: Office, zone: zoneinfo.ZoneInfo, counts: Counter[str], journal: Journal | None = None) -> None:
+    def __init__(
+        self,
+        office: Office,
+        zone: zoneinfo.ZoneInfo,
+        counts: Counter[str],
+        journal: Journal | None = None,
+    ) -> None:
         self.office, self.zone, self.counts = office, zone, counts
         self.lists, self.journal = Lists(zone), journal or Journal()
         self.places = 0  # texts that passed
-        self.state = "ok"  # of the office: ok, store (its journal can't be read or written), no_answer
+        self.state = (
+            "ok"  # of the office: ok, store (its journal can't be read or written), no_answer
+        )
         self.wants_export = True
         self.tried_at = self.read_at = self.probed_at = 0.0
         self.export_seconds = self.rest_until = 0.0
@@ -59,7 +67,10 @@ class Books:
             self.lists = Lists(self.zone)
         entry, is_new = self.lists.passed(text, place)
         if is_another:
-            self._begin_again(SHORTER if entry.number < known.last else changed_by(known, serial_of_text(text)), known)
+            self._begin_again(
+                SHORTER if entry.number < known.last else changed_by(known, serial_of_text(text)),
+                known,
+            )
             self.on_lists()
         if is_another or (is_new and self.lists.is_of_export):
             self.journal.keep(self.lists.known(place))
@@ -69,7 +80,12 @@ class Books:
 
     def _begin_again(self, why: str, known: Known) -> None:
         self.counts["lists_begun_again"] += 1
-        self.journal.is_another(why, known, self.lists.last, datetime.datetime.now(self.zone).isoformat(timespec="seconds"))
+        self.journal.is_another(
+            why,
+            known,
+            self.lists.last,
+            datetime.datetime.now(self.zone).isoformat(timespec="seconds"),
+        )
 
     def answered(self, status: int, text: str) -> None:
         """What the office's answer says of it, and of these lists."""
@@ -86,7 +102,11 @@ class Books:
             empty_since = (empty_since or now) if self.is_empty() else None
             is_quiet = empty_since is not None and now - empty_since > EMPTY_FOR
             is_due = self.wants_export or now - self.read_at > READ_EVERY
-            if is_due and (is_quiet or not self.read_at) and now > max(self.tried_at + NOT_SOONER_THAN, self.rest_until):
+            if (
+                is_due
+                and (is_quiet or not self.read_at)
+                and now > max(self.tried_at + NOT_SOONER_THAN, self.rest_until)
+            ):
                 await self.read_anew()
             elif now - self.probed_at > PROBE_EVERY:
                 await self.probe()
@@ -100,7 +120,9 @@ class Books:
             if answer.status != 200:
                 return
             known = self.lists.known(place) if self.lists.is_of_export else self.journal.kept
-            read, why = await asyncio.get_running_loop().run_in_executor(None, self._read, answer.text, known)
+            read, why = await asyncio.get_running_loop().run_in_executor(
+                None, self._read, answer.text, known
+            )
         except NoAnswer:
             self.state = "no_answer"
             return
@@ -144,7 +166,11 @@ class Books:
     async def _export(self) -> tuple[Answer, int]:
         async with self.one_export:
             await asyncio.sleep(self.rest_until - time.monotonic())
-            self.next_export, began, place = None, time.monotonic(), self.places  # a caller that comes from now on gets a later export
+            self.next_export, began, place = (
+                None,
+                time.monotonic(),
+                self.places,
+            )  # a caller that comes from now on gets a later export
             try:
                 return await self.office.ask("GET", "/journal.csv", within=EXPORT_WITHIN), place
             finally:
@@ -154,7 +180,9 @@ class Books:
         """Is the office there, is its journal open, and is there a ticket that didn't pass? It costs the office next to nothing."""
         self.probed_at = time.monotonic()
         try:
-            answer = await self.office.ask("GET", f"/tickets/{self.lists.last + 1}", within=PROBE_WITHIN)
+            answer = await self.office.ask(
+                "GET", f"/tickets/{self.lists.last + 1}", within=PROBE_WITHIN
+            )
         except NoAnswer:
             self.state = "no_answer"
             return

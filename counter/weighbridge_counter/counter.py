@@ -30,7 +30,9 @@ GONE_AFTER = 0.5  # seconds without a value after which pages get a sign of life
 
 
 class Counter:
-    def __init__(self, setup: Setup, find: Callable[[tuple[str, int]], Service | None] = find_service) -> None:
+    def __init__(
+        self, setup: Setup, find: Callable[[tuple[str, int]], Service | None] = find_service
+    ) -> None:
         self.setup, self.find = setup, find
         self.terminal = Terminal(setup.terminal, setup.wait)
         self.counts = self.terminal.fanout.counts
@@ -38,7 +40,9 @@ class Counter:
         self.files = Files(setup.state)
         self.acts = Acts(self.terminal, self.office, self.files, setup.interval, self.counts)
         self.books = Books(self.office, setup.zone, self.counts, Journal(self.files))
-        self.printing = Printing(papers_of(setup), lambda number: self.books.lists.digest_of(number))
+        self.printing = Printing(
+            papers_of(setup), lambda number: self.books.lists.digest_of(number)
+        )
         self.pages = Pages()
         self.tares = Tares(self.files, lambda: self.now().date(), setup.tare_days, setup.max)
         self.zero = Zero(self.files, self.now)
@@ -71,7 +75,12 @@ class Counter:
 
     async def run(self) -> None:
         await asyncio.gather(
-            self.terminal.run(), self.books.run(), self._tell_regularly(), self._look_for_another(), self.printing.run(), self.files.run()
+            self.terminal.run(),
+            self.books.run(),
+            self._tell_regularly(),
+            self._look_for_another(),
+            self.printing.run(),
+            self.files.run(),
         )
 
     def now(self) -> datetime.datetime:
@@ -104,7 +113,14 @@ class Counter:
         since = value.at - self.told_weight_at
         if (looks != self.told_weight and since >= FASTEST) or since >= SLOWEST:
             self.told_weight, self.told_weight_at = looks, value.at
-            self.pages.tell_weight({"state": value.state, "net": value.kg, "tare": self.terminal.fanout.tare, "at": round(value.at * 1000)})
+            self.pages.tell_weight(
+                {
+                    "state": value.state,
+                    "net": value.kg,
+                    "tare": self.terminal.fanout.tare,
+                    "at": round(value.at * 1000),
+                }
+            )
 
     def _terminal_is_up(self) -> None:
         self.answers_at_office = False
@@ -121,7 +137,9 @@ class Counter:
             self.off_zero.forget()
             self.books.wants_export = self.books.wants_export or self.has_looked
         self.has_looked = True
-        program = await loop.run_in_executor(None, program_of, service) if service is not None else {}
+        program = (
+            await loop.run_in_executor(None, program_of, service) if service is not None else {}
+        )
         self.service, self.program = service, program
         self._keep_going(self.books.probe())
         self.tell_state()
@@ -142,7 +160,14 @@ class Counter:
         if entry.kind != "void":
             self.bridge = "weighed"
         lists = self.books.lists
-        self.pages.tell("entry", {"entry": lists.shown(entry.number), "on_site": lists.on_site(), "weighed_near": lists.near.shown()})
+        self.pages.tell(
+            "entry",
+            {
+                "entry": lists.shown(entry.number),
+                "on_site": lists.on_site(),
+                "weighed_near": lists.near.shown(),
+            },
+        )
 
     def _miss_entries(self) -> None:
         """Ask for an export, because a text doesn't follow the newest entry of the lists."""
@@ -156,7 +181,9 @@ class Counter:
             said = (await asyncio.shield(asyncio.ensure_future(self.terminal.command("Z"))))[0]
             if said == "Z A":
                 self.zero.was_set(by)
-                await self.files.taken(NOTED_WITHIN)  # so that a counter killed after its answer still knows it
+                await self.files.taken(
+                    NOTED_WITHIN
+                )  # so that a counter killed after its answer still knows it
             return said
         finally:
             self.tell_state()
@@ -248,5 +275,7 @@ class Counter:
         while True:
             self.tell_state()
             if not self.terminal.fanout.is_fresh(GONE_AFTER):
-                self.pages.tell("alive", self.milliseconds())  # so that a page tells a silent scale from a counter that is gone
+                self.pages.tell(
+                    "alive", self.milliseconds()
+                )  # so that a page tells a silent scale from a counter that is gone
             await asyncio.sleep(STATE_EVERY)

@@ -84,12 +84,16 @@ class Fanout:
         self.counts: Counter[str] = Counter()
         self.on_value: Callable[[Value], None] = lambda value: None
         self.on_first_value: Callable[[], None] = lambda: None
-        self.on_zero: Callable[[str], None] = lambda reply: None  # gets the answer to each `Z`, whichever client sent it
+        self.on_zero: Callable[
+            [str], None
+        ] = lambda reply: None  # gets the answer to each `Z`, whichever client sent it
         self.link = "down"  # down; waits: connected, no value yet; up
         self.value: Value | None = None
         self.period = 0.1
         self.tare: int | None = None  # in kg; None where it isn't known
-        self.doubtful_tare: int | None = None  # the tare before a command that had no reply, until it is known again
+        self.doubtful_tare: int | None = (
+            None  # the tare before a command that had no reply, until it is known again
+        )
         self.is_settled = False  # whether a new connection was asked for what isn't known of it, and cleared of what was left
         self.holder: Turn | None = None
         self.queue: deque[Turn] = deque()
@@ -155,12 +159,24 @@ class Fanout:
                 self._call_back(question)
         elif self.swallow and now - self.said_at > SILENT_REPLY_WITHIN:
             self.reset()
-        if self.link == "up" and self.question is None and not self.swallow and now - self.said_at > REPEAT_AFTER and self.is_fresh(2 * self.period):
+        if (
+            self.link == "up"
+            and self.question is None
+            and not self.swallow
+            and now - self.said_at > REPEAT_AFTER
+            and self.is_fresh(2 * self.period)
+        ):
             self._say("SIR")
 
     # ---- what is asked
 
-    def take_turn(self, granted: Callable[[bool], None], patience: float = PATIENCE, first: bool = False, may_settle: bool = False) -> Turn:
+    def take_turn(
+        self,
+        granted: Callable[[bool], None],
+        patience: float = PATIENCE,
+        first: bool = False,
+        may_settle: bool = False,
+    ) -> Turn:
         turn = Turn(granted, self.clock() + patience, may_settle)
         if self.holder is None:
             self.holder = turn
@@ -230,7 +246,13 @@ class Fanout:
     def _take_value(self, value: Value) -> None:
         if self.value is not None:
             gap = value.at - self.value.at
-            self.period = gap if gap > SILENT_PERIOD else self.period + 0.1 * (min(gap, 0.5) - self.period) if self.period <= SILENT_PERIOD else 0.1
+            self.period = (
+                gap
+                if gap > SILENT_PERIOD
+                else self.period + 0.1 * (min(gap, 0.5) - self.period)
+                if self.period <= SILENT_PERIOD
+                else 0.1
+            )
         self.value = value
         self.counts[f"readings_{value.state}"] += 1
         is_first, self.link = self.link == "waits", "up"
@@ -269,7 +291,12 @@ class Fanout:
             self._say(question.line)
 
     def _end_waiting(self, question: Question) -> None:
-        if question.ended_after is not None and question.waits and question.readings >= question.ended_after and not self.swallow:
+        if (
+            question.ended_after is not None
+            and question.waits
+            and question.readings >= question.ended_after
+            and not self.swallow
+        ):
             self.swallow += 1
             self._say("I4")
 
@@ -277,7 +304,10 @@ class Fanout:
         assert question.sent_at is not None
         limit = SILENT_REPLY_WITHIN if self.period > SILENT_PERIOD else REPLY_WITHIN
         if question.waits and question.ended_after is None:
-            return now - self.heard_at > limit or question.readings > self.wait_readings + READINGS_TO_ANSWER
+            return (
+                now - self.heard_at > limit
+                or question.readings > self.wait_readings + READINGS_TO_ANSWER
+            )
         return now - max(question.sent_at, self.said_at) > limit
 
     def _call_back(self, question: Question) -> None:

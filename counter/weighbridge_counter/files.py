@@ -72,7 +72,9 @@ class Thread:
     """Runs one call after another in a thread of its own. The program can end while a call hangs there."""
 
     def __init__(self) -> None:
-        self.asked: queue.SimpleQueue[tuple[Callable[[], None], Callable[[Exception | None], None]]] = queue.SimpleQueue()
+        self.asked: queue.SimpleQueue[
+            tuple[Callable[[], None], Callable[[Exception | None], None]]
+        ] = queue.SimpleQueue()
         self.is_running = False
 
     async def __call__(self, work: Callable[[], None]) -> None:
@@ -153,7 +155,9 @@ class Files:
         except (OSError, asyncio.TimeoutError):
             task.add_done_callback(lambda it: it.exception())
             self.keep(name, before)
-            raise NoFile(f"{self.path(name)}: {self.faults.get(name, 'the disk takes too long')}") from None
+            raise NoFile(
+                f"{self.path(name)}: {self.faults.get(name, 'the disk takes too long')}"
+            ) from None
 
     async def run(self) -> None:
         """Write the files that are behind. If that fails, try again each second."""

@@ -38,7 +38,13 @@ class Known:
     serial: str | None = None
 
     def digest(self, number: int) -> str | None:
-        return self.digests[number] if number in self.digests else digest_of_row(self.rows[number]) if number in self.rows else None
+        return (
+            self.digests[number]
+            if number in self.digests
+            else digest_of_row(self.rows[number])
+            if number in self.rows
+            else None
+        )
 
 
 def why_another(known: Known, rows: Mapping[int, str]) -> str | None:
@@ -57,9 +63,17 @@ def why_another(known: Known, rows: Mapping[int, str]) -> str | None:
     if last < known.last:
         return SHORTER
     if has_common:
-        is_gone = any(number > first and number not in rows for it in (known.rows, known.digests) for number in it)
+        is_gone = any(
+            number > first and number not in rows
+            for it in (known.rows, known.digests)
+            for number in it
+        )
         return CHANGED if is_gone or (known.first is not None and first < known.first) else None
-    return None if follows(known, rows[first], first) else changed_by(known, serial_of_row(rows[first]))
+    return (
+        None
+        if follows(known, rows[first], first)
+        else changed_by(known, serial_of_row(rows[first]))
+    )
 
 
 def changed_by(known: Known, serial: str) -> str:
@@ -88,7 +102,9 @@ class Journal:
         """Record and log that another journal is in use, so that the lists start again from it."""
         self.begun += 1
         self.told = {"why": why, "before": known.last, "now": last, "at": at}
-        tell(f"the journal: {WORDS[why].format(**self.told)}. The lists start again. If nobody planned that, check the service's --file")
+        tell(
+            f"the journal: {WORDS[why].format(**self.told)}. The lists start again. If nobody planned that, check the service's --file"
+        )
 
     def seen(self) -> None:
         self.told = None
@@ -97,20 +113,36 @@ class Journal:
     def keep(self, known: Known) -> None:
         """Remember where the journal begins and ends."""
         digest = known.digest(known.last) or ""
-        self.kept = Known({}, {known.last: digest} if known.last else {}, known.first, known.last, known.serial)
+        self.kept = Known(
+            {}, {known.last: digest} if known.last else {}, known.first, known.last, known.serial
+        )
         if self.files is not None:
-            what = {"first": known.first, "last": known.last, "digest": digest, "serial": known.serial} if known.last else None
+            what = (
+                {"first": known.first, "last": known.last, "digest": digest, "serial": known.serial}
+                if known.last
+                else None
+            )
             self.files.keep(FILE, {"known": what, "told": self.told})
 
 
 def is_told(it: object) -> bool:
-    return isinstance(it, dict) and it.get("why") in WORDS and isinstance(it.get("before"), int) and isinstance(it.get("now"), int)
+    return (
+        isinstance(it, dict)
+        and it.get("why") in WORDS
+        and isinstance(it.get("before"), int)
+        and isinstance(it.get("now"), int)
+    )
 
 
 def known_in(it: object) -> Known:
     if not isinstance(it, dict):
         return Known()
     first, last, digest, serial = (it.get(name) for name in ("first", "last", "digest", "serial"))
-    if not (isinstance(last, int) and isinstance(digest, str) and isinstance(first, int | None) and isinstance(serial, str | None)):
+    if not (
+        isinstance(last, int)
+        and isinstance(digest, str)
+        and isinstance(first, int | None)
+        and isinstance(serial, str | None)
+    ):
         return Known()
     return Known({}, {last: digest}, first, last, serial)

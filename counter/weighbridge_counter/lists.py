@@ -6,7 +6,17 @@ from typing import Any
 
 from .journal import Known
 from .near import Near
-from .slips import Entry, digest_of_row, digest_of_text, entry_of_row, entry_of_text, rows_of, serial_of_row, serial_of_text, slip_of_row
+from .slips import (
+    Entry,
+    digest_of_row,
+    digest_of_text,
+    entry_of_row,
+    entry_of_text,
+    rows_of,
+    serial_of_row,
+    serial_of_text,
+    slip_of_row,
+)
 
 MOST_TEXTS = 2000  # that are kept as they passed
 MOST_TODAY = 1000
@@ -46,10 +56,26 @@ class Lists:
 
     def known(self, until: int) -> Known:
         """Return what these lists know of the journal, from their export and the first `until` texts that passed. Another thread may read the result."""
-        texts = {number: text for number, text in self.texts.items() if self.places[number] <= until}
-        last = max(next(reversed(self.rows), 0), max(texts, default=0))  # an export's rows are in the order of their numbers
-        serial = serial_of_text(texts[last]) if last in texts else serial_of_row(self.rows[last]) if last else None
-        return Known(self.rows, {number: digest_of_text(text) for number, text in texts.items()}, self.first, last, serial)
+        texts = {
+            number: text for number, text in self.texts.items() if self.places[number] <= until
+        }
+        last = max(
+            next(reversed(self.rows), 0), max(texts, default=0)
+        )  # an export's rows are in the order of their numbers
+        serial = (
+            serial_of_text(texts[last])
+            if last in texts
+            else serial_of_row(self.rows[last])
+            if last
+            else None
+        )
+        return Known(
+            self.rows,
+            {number: digest_of_text(text) for number, text in texts.items()},
+            self.first,
+            last,
+            serial,
+        )
 
     def with_texts_of(self, older: "Lists") -> None:
         """Keep the texts of `older` that passed, if their entries are in these lists too."""
@@ -59,7 +85,11 @@ class Lists:
 
     def passed_since(self, place: int) -> list[tuple[int, str]]:
         """Return the texts that passed after a place, each with its own place, in the order in which they passed."""
-        return sorted((self.places[number], text) for number, text in self.texts.items() if self.places[number] > place)
+        return sorted(
+            (self.places[number], text)
+            for number, text in self.texts.items()
+            if self.places[number] > place
+        )
 
     def contradicts(self, text: str) -> bool:
         """Return True if a text is from another journal.
@@ -121,7 +151,12 @@ class Lists:
         net = None
         if entry.kind == "single" and entry.gross is not None and entry.preset is not None:
             net = entry.gross - entry.preset
-        elif entry.kind == "second" and first is not None and entry.gross is not None and first.gross is not None:
+        elif (
+            entry.kind == "second"
+            and first is not None
+            and entry.gross is not None
+            and first.gross is not None
+        ):
             net = abs(entry.gross - first.gross)
         return {
             "number": number,
@@ -141,7 +176,10 @@ class Lists:
         day = now.astimezone(self.zone).date()
         found: list[dict[str, Any]] = []
         for number in range(self.last, max(0, self.last - MOST_TODAY), -1):
-            if number in self.entries and self.entries[number].at.astimezone(self.zone).date() == day:
+            if (
+                number in self.entries
+                and self.entries[number].at.astimezone(self.zone).date() == day
+            ):
                 found.append(self.shown(number))
         return found
 
@@ -149,8 +187,17 @@ class Lists:
         """Entries by number, or by a part of their plate; the newest first."""
         words = words.upper().replace(" ", "")
         bare = words.replace("-", "")
-        hits = [int(words)] if words.isdecimal() and len(words) < 11 and int(words) in self.entries else []
+        hits = (
+            [int(words)]
+            if words.isdecimal() and len(words) < 11 and int(words) in self.entries
+            else []
+        )
         if bare:
-            numbers = [number for plate, all in self.by_plate.items() if bare in plate.replace("-", "") for number in all]
+            numbers = [
+                number
+                for plate, all in self.by_plate.items()
+                if bare in plate.replace("-", "")
+                for number in all
+            ]
             hits += [it for it in sorted(numbers, reverse=True)[:MOST_HITS] if it not in hits]
         return [self.shown(number) for number in hits[:MOST_HITS]]

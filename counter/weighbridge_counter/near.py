@@ -7,7 +7,9 @@ and the clerk withdraws it then.
 import string
 
 LETTERS = string.ascii_uppercase + string.digits
-MOST_ON_SITE = 500  # number of vehicles on site, the newest ones, for which the counter looks up neighbours
+MOST_ON_SITE = (
+    500  # number of vehicles on site, the newest ones, for which the counter looks up neighbours
+)
 MOST_TOLD = 2000  # number of plates that the pages get. A page treats any other plate as never weighed, and asks once too often
 
 
@@ -29,17 +31,28 @@ def is_near(one: str, other: str) -> bool:
     """Return True if one plate is a neighbour of the other. This doesn't build all neighbours."""
     if one == other or abs(len(one) - len(other)) > 1:
         return False
-    at = next((it for it, (a, b) in enumerate(zip(one, other)) if a != b), min(len(one), len(other)))
+    at = next(
+        (it for it, (a, b) in enumerate(zip(one, other)) if a != b), min(len(one), len(other))
+    )
     rest, rest_of_other = one[at:], other[at:]
     is_turned = rest[1:2] + rest[:1] == rest_of_other[:2] and rest[2:] == rest_of_other[2:]
-    return is_turned or rest[1:] == rest_of_other[1:] or rest[1:] == rest_of_other or rest == rest_of_other[1:]
+    return (
+        is_turned
+        or rest[1:] == rest_of_other[1:]
+        or rest[1:] == rest_of_other
+        or rest == rest_of_other[1:]
+    )
 
 
 class Near:
     def __init__(self) -> None:
         self.weighed: set[str] = set()
         self.on_site: dict[str, None] = {}
-        self.found: dict[str, set[str]] = {}  # by plate on site: its neighbours that were weighed before, once they have been looked up
+        self.found: dict[
+            str, set[str]
+        ] = (
+            {}
+        )  # by plate on site: its neighbours that were weighed before, once they have been looked up
 
     def takes(self, kind: str, plate: str) -> None:
         """Process an entry of the journal."""

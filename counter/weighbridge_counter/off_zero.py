@@ -20,12 +20,20 @@ class OffZero:
         """Forget everything, because the service was started. Its zero is another one, and earlier refusals don't count."""
         self.at: float | None = None  # of the last weight
         self.gross: int | None = None  # the last weight
-        self.since: float | None = None  # the moment from which the bridge has been light, stable and off zero
+        self.since: float | None = (
+            None  # the moment from which the bridge has been light, stable and off zero
+        )
         self.asked: int | None = None  # what the bridge shows, if the clerk must set zero
-        self.light: int | None = None  # the last stable weight of the light bridge; -20 e if it was below that
+        self.light: int | None = (
+            None  # the last stable weight of the light bridge; -20 e if it was below that
+        )
         self.is_loaded = False
-        self.refused_from: int | None = None  # the service refused zero at this weight as too great, so also at a greater one
-        self.refused_to: int | None = None  # the service refused zero at this weight as too small, so also at a smaller one
+        self.refused_from: int | None = (
+            None  # the service refused zero at this weight as too great, so also at a greater one
+        )
+        self.refused_to: int | None = (
+            None  # the service refused zero at this weight as too small, so also at a smaller one
+        )
 
     # ---- what comes
 
@@ -70,7 +78,9 @@ class OffZero:
     # ---- what the pages get
 
     def _is_refused(self, gross: int) -> bool:
-        return (self.refused_from is not None and gross >= self.refused_from) or (self.refused_to is not None and gross <= self.refused_to)
+        return (self.refused_from is not None and gross >= self.refused_from) or (
+            self.refused_to is not None and gross <= self.refused_to
+        )
 
     def shown(self) -> dict[str, int | bool | None]:
         """Return what a page shows about zero.

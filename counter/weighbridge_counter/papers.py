@@ -32,15 +32,23 @@ def papers_of(setup: Setup) -> Papers:
     if setup.papers is not None:
         return setup.papers
     language = setup.language if setup.language in LANGUAGES else "en"
-    return Papers(setup.state / "papers", Template((setup.company, *setup.address), (), language, setup.zone))
+    return Papers(
+        setup.state / "papers", Template((setup.company, *setup.address), (), language, setup.zone)
+    )
 
 
 class Printing:
     def __init__(self, papers: Papers, digest_of: Callable[[int], str | None]) -> None:
         self.papers, self.digest_of = papers, digest_of
-        self.spool = Spool(papers.spool, is_opened=False)  # opened later, because a disk that takes nothing must not stop weighing
-        self.notes = ThreadPoolExecutor(1, "papers")  # one after another, in the order in which they were asked for
-        self.something, self.is_over = [threading.Event() for _ in papers.printers], threading.Event()
+        self.spool = Spool(
+            papers.spool, is_opened=False
+        )  # opened later, because a disk that takes nothing must not stop weighing
+        self.notes = ThreadPoolExecutor(
+            1, "papers"
+        )  # one after another, in the order in which they were asked for
+        self.something, self.is_over = [
+            threading.Event() for _ in papers.printers
+        ], threading.Event()
         self.threads: list[threading.Thread] = []
         self.tasks: set[asyncio.Task[None]] = set()
         self.refused: int | None = None  # the number of the last text that wasn't the office's
@@ -65,7 +73,11 @@ class Printing:
 
         for printer, something in zip(self.papers.printers, self.something):
             worker = Worker(self.spool, printer, tell)
-            self.threads.append(threading.Thread(target=self._work, args=(worker, something), name=printer.name, daemon=True))
+            self.threads.append(
+                threading.Thread(
+                    target=self._work, args=(worker, something), name=printer.name, daemon=True
+                )
+            )
             self.threads[-1].start()
         changed.set()
         probing = asyncio.ensure_future(self._probe())
@@ -115,7 +127,11 @@ class Printing:
         Raises OSError, and logs the fault once. Once a note is written, logs that the fault is over.
         """
         loop = asyncio.get_running_loop()
-        slow = loop.call_later(SLOW_AFTER, self._fails, f"{self.spool.folder}: the disk takes longer than {SLOW_AFTER:g} s: look at it")
+        slow = loop.call_later(
+            SLOW_AFTER,
+            self._fails,
+            f"{self.spool.folder}: the disk takes longer than {SLOW_AFTER:g} s: look at it",
+        )
         try:
             found = await loop.run_in_executor(self.notes, work)
         except OSError as fault:
@@ -159,7 +175,9 @@ class Printing:
         try:
             text = read_text(letters)
             own = text.own.number
-            self._check(text, {own: asked["key"]} if "key" in asked else {}, self.digest_of(own - 1))
+            self._check(
+                text, {own: asked["key"]} if "key" in asked else {}, self.digest_of(own - 1)
+            )
         except NoText as fault:
             tell(f"a text of the office isn't printed: {fault}")
             numbers = [int(it) for it in letters.split()[2:3] if re.fullmatch("[0-9]{1,10}", it)]
@@ -208,7 +226,10 @@ class Printing:
         def note() -> dict[str, Any]:
             paper = self.spool.take(text)
             is_original, given = self.spool.elsewhere(paper)
-            return {"is_original": is_original, "blocks": page_of(blocks_of(Paper(text, given, is_original), self.papers.template))}
+            return {
+                "is_original": is_original,
+                "blocks": page_of(blocks_of(Paper(text, given, is_original), self.papers.template)),
+            }
 
         return await self._noted(note)
 
@@ -228,7 +249,11 @@ class Printing:
         }
 
     def faults(self) -> bool:
-        return bool(self.fault) or self.refused is not None or any(it["why"] or it["state"] == "failed" for it in self.jobs)
+        return (
+            bool(self.fault)
+            or self.refused is not None
+            or any(it["why"] or it["state"] == "failed" for it in self.jobs)
+        )
 
 
 def shown(job: Job) -> dict[str, Any]:

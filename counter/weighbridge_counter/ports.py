@@ -22,8 +22,19 @@ CHANGES = ("Z", "T", "TA", "TAC")
 
 
 class Client:
-    def __init__(self, terminal: Terminal, reader: asyncio.StreamReader, writer: asyncio.StreamWriter, may_change: bool) -> None:
-        self.terminal, self.reader, self.writer, self.may_change = terminal, reader, writer, may_change
+    def __init__(
+        self,
+        terminal: Terminal,
+        reader: asyncio.StreamReader,
+        writer: asyncio.StreamWriter,
+        may_change: bool,
+    ) -> None:
+        self.terminal, self.reader, self.writer, self.may_change = (
+            terminal,
+            reader,
+            writer,
+            may_change,
+        )
         self.lines: asyncio.Queue[tuple[str, float] | None] = asyncio.Queue(MOST_LINES)
         self.wish: Wish | None = None
         self.seen: Value | None = None
@@ -72,7 +83,12 @@ class Client:
                 for it in lines:
                     self._hurry()
                     line = it[:-1] if it.endswith(b"\r") else it
-                    await self.lines.put((line.decode("latin-1") if len(line) <= LONGEST_LINE else "", self.terminal.clock()))
+                    await self.lines.put(
+                        (
+                            line.decode("latin-1") if len(line) <= LONGEST_LINE else "",
+                            self.terminal.clock(),
+                        )
+                    )
         except OSError:
             pass
         self.is_at_end = True
@@ -130,7 +146,9 @@ class Client:
                     return value
                 left -= 1
                 if wish.is_hurried and until is None:
-                    until = self.terminal.clock() + max(ENDED_AFTER, 3 * self.terminal.fanout.period)
+                    until = self.terminal.clock() + max(
+                        ENDED_AFTER, 3 * self.terminal.fanout.period
+                    )
             return None
         finally:
             self.wish = None

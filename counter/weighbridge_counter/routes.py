@@ -50,8 +50,12 @@ def as_json(what: Any, status: int = 200) -> web.Response:
     return web.json_response(what, status=status, headers=NO_STORE)
 
 
-def as_text(body: bytes, status: int, kind: str = "text/plain; charset=utf-8", **fields: str) -> web.Response:
-    return web.Response(status=status, body=body, headers={"Content-Type": kind, **NO_STORE, **fields})
+def as_text(
+    body: bytes, status: int, kind: str = "text/plain; charset=utf-8", **fields: str
+) -> web.Response:
+    return web.Response(
+        status=status, body=body, headers={"Content-Type": kind, **NO_STORE, **fields}
+    )
 
 
 class Routes:
@@ -121,10 +125,18 @@ class Routes:
                 raise
             return as_json({"why": "no_file"}, 503)
         except web.HTTPException as fault:
-            name = {404: "no_route", 405: "wrong_method", 413: "too_large"}.get(fault.status, "malformed")
+            name = {404: "no_route", 405: "wrong_method", 413: "too_large"}.get(
+                fault.status, "malformed"
+            )
             return as_text(f"fault {fault.status} {name}\n".encode(), fault.status)
-        except Exception as fault:  # a line for each, and no control characters: who sends such requests fills no log by them
-            print(f"counter: {request.method} {request.rel_url.raw_path[:100]}: {repr(fault)[:200]}", file=sys.stderr, flush=True)
+        except (
+            Exception
+        ) as fault:  # a line for each, and no control characters: who sends such requests fills no log by them
+            print(
+                f"counter: {request.method} {request.rel_url.raw_path[:100]}: {repr(fault)[:200]}",
+                file=sys.stderr,
+                flush=True,
+            )
             return as_text(b"fault 500 internal\n", 500)
 
     # ---- the page
@@ -145,13 +157,19 @@ class Routes:
         return as_json({"now": self.counter.milliseconds()})
 
     async def events(self, request: web.Request) -> web.StreamResponse:
-        response = web.StreamResponse(headers={"Content-Type": "text/event-stream", "X-Accel-Buffering": "no", **NO_STORE})
+        response = web.StreamResponse(
+            headers={"Content-Type": "text/event-stream", "X-Accel-Buffering": "no", **NO_STORE}
+        )
         await response.prepare(request)
         transport = request.transport
         if transport is None:
             return response
-        transport.get_extra_info("socket").setsockopt(socket.SOL_SOCKET, socket.SO_SNDBUF, SMALL_BUFFER)
-        page, lists = Page(), await self.in_turn(self.counter.lists)  # from here on nothing else comes between
+        transport.get_extra_info("socket").setsockopt(
+            socket.SOL_SOCKET, socket.SO_SNDBUF, SMALL_BUFFER
+        )
+        page, lists = Page(), await self.in_turn(
+            self.counter.lists
+        )  # from here on nothing else comes between
         page.put(b"retry: 500\n\n")
         for name, what in (
             ("hello", self.counter.hello()),
@@ -185,7 +203,9 @@ class Routes:
 
     async def weigh(self, request: web.Request) -> web.StreamResponse:
         told = await self.counter.acts.carry_out(request.path, await request.read())
-        return as_text(told.body, told.status, **({} if told.is_sent else {"X-Counter": "not_sent"}))
+        return as_text(
+            told.body, told.status, **({} if told.is_sent else {"X-Counter": "not_sent"})
+        )
 
     async def in_turn(self, think: Callable[[], T]) -> T:
         """What takes milliseconds is done once between two looks at what came, so that no weight waits for many of it."""
@@ -200,7 +220,9 @@ class Routes:
 
     async def hand_on(self, request: web.Request) -> web.StreamResponse:
         try:
-            answer = await self.ask_office(request.rel_url.raw_path)  # as it was written: request.path has %0D%0A as an end of a line
+            answer = await self.ask_office(
+                request.rel_url.raw_path
+            )  # as it was written: request.path has %0D%0A as an end of a line
         except NoAnswer:
             return as_text(b"counter no_answer\n", 502)
         return as_text(answer.body, answer.status, answer.kind)
@@ -208,7 +230,9 @@ class Routes:
     # ---- the terminal
 
     async def zero(self, request: web.Request) -> web.StreamResponse:
-        return await self.said(lambda: self.counter.set_zero(request.headers.get("X-Remote-User", "")))
+        return await self.said(
+            lambda: self.counter.set_zero(request.headers.get("X-Remote-User", ""))
+        )
 
     async def clear_tare(self, request: web.Request) -> web.StreamResponse:
         return await self.said(self.counter.clear_tare)
@@ -257,7 +281,11 @@ class Routes:
             return as_json({"why": "no_printer"}, 422)
         found, status = await self.text_to_print(int(request.match_info["number"]))
         try:
-            return as_json({"job": await self.counter.printing.print(found["text"], printer)}, 202) if status == 200 else as_json(found, status)
+            return (
+                as_json({"job": await self.counter.printing.print(found["text"], printer)}, 202)
+                if status == 200
+                else as_json(found, status)
+            )
         except NoText:
             return as_json({"why": "refused 17 damaged"}, 409)
 
@@ -270,19 +298,32 @@ class Routes:
         """What the page prints itself, noted as printed."""
         found, status = await self.text_to_print(int(request.match_info["number"]))
         try:
-            return as_json(await self.counter.printing.for_browser(found["text"])) if status == 200 else as_json(found, status)
+            return (
+                as_json(await self.counter.printing.for_browser(found["text"]))
+                if status == 200
+                else as_json(found, status)
+            )
         except NoText:
             return as_json({"why": "refused 17 damaged"}, 409)
 
     async def print_again(self, request: web.Request) -> web.StreamResponse:
-        return as_json({}, 200 if await self.counter.printing.again(int(request.match_info["job"])) else 404)
+        return as_json(
+            {}, 200 if await self.counter.printing.again(int(request.match_info["job"])) else 404
+        )
 
     async def drop_job(self, request: web.Request) -> web.StreamResponse:
-        return as_json({}, 200 if await self.counter.printing.drop(int(request.match_info["job"])) else 404)
+        return as_json(
+            {}, 200 if await self.counter.printing.drop(int(request.match_info["job"])) else 404
+        )
 
     async def search(self, request: web.Request) -> web.StreamResponse:
         words = request.query.get("q", "")[:40]
-        return as_json({"hits": await self.in_turn(lambda: self.counter.books.lists.search(words)), "whole": self.counter.books.is_whole()})
+        return as_json(
+            {
+                "hits": await self.in_turn(lambda: self.counter.books.lists.search(words)),
+                "whole": self.counter.books.is_whole(),
+            }
+        )
 
     async def key(self, request: web.Request) -> web.StreamResponse:
         """Answer if an entry of the journal has the key. This asks for an export, and stores nothing."""
@@ -310,7 +351,9 @@ class Routes:
     async def keep_tare(self, request: web.Request) -> web.StreamResponse:
         try:
             wish = json.loads(await request.read())
-            await self.counter.tares.keep(request.match_info["plate"], wish["kg"], request.headers.get("X-Remote-User", ""))
+            await self.counter.tares.keep(
+                request.match_info["plate"], wish["kg"], request.headers.get("X-Remote-User", "")
+            )
         except (ValueError, KeyError, TypeError, RecursionError):
             return as_json({"why": 'send {"kg": a whole number}'}, 422)
         except BadTare as fault:
@@ -330,4 +373,6 @@ class Routes:
         return as_json(health, 200 if health["can_weigh"] else 503)
 
     async def metrics(self, request: web.Request) -> web.StreamResponse:
-        return as_text(metrics_of(self.counter).encode(), 200, "text/plain; version=0.0.4; charset=utf-8")
+        return as_text(
+            metrics_of(self.counter).encode(), 200, "text/plain; version=0.0.4; charset=utf-8"
+        )

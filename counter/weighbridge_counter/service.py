@@ -34,12 +34,17 @@ class Service:
 
 
 def boot_of() -> str:
-    return str(uuid.UUID(os.environ.get(BOOT) or (PROC / "sys/kernel/random/boot_id").read_text().strip()))
+    return str(
+        uuid.UUID(os.environ.get(BOOT) or (PROC / "sys/kernel/random/boot_id").read_text().strip())
+    )
 
 
 def listener_user(address: tuple[str, int]) -> int | None:
     """The user whose process listens on the address; None if nobody does, or it can't be seen."""
-    wanted = "%s:%04X" % ("".join(f"{int(it):02X}" for it in reversed(address[0].split("."))), address[1])
+    wanted = "%s:%04X" % (
+        "".join(f"{int(it):02X}" for it in reversed(address[0].split("."))),
+        address[1],
+    )
     try:
         rows = [it.split() for it in (PROC / "self/net/tcp").read_text().splitlines()[1:]]
     except OSError:
@@ -56,7 +61,13 @@ def find_service(terminal: tuple[str, int]) -> Service | None:
         if not folder.name.isdigit():
             continue
         try:
-            words = (folder / "cmdline").read_bytes().decode("utf-8", "replace").rstrip("\0").split("\0")
+            words = (
+                (folder / "cmdline")
+                .read_bytes()
+                .decode("utf-8", "replace")
+                .rstrip("\0")
+                .split("\0")
+            )
             if "serve" not in words or wanted not in words or folder.stat().st_uid != user:
                 continue
             ticks = int((folder / "stat").read_text().rpartition(")")[2].split()[19])
@@ -70,8 +81,12 @@ def is_safe(path: Path) -> bool:
     """Whether nobody but root and this user can put another program there."""
     for it in (path, *path.parents):
         found = it.stat()
-        shared = found.st_mode & (stat.S_IWOTH if found.st_gid in (0, os.getegid()) else stat.S_IWOTH | stat.S_IWGRP)
-        if found.st_uid not in (0, os.geteuid()) or (shared and (it == path or not found.st_mode & stat.S_ISVTX)):
+        shared = found.st_mode & (
+            stat.S_IWOTH if found.st_gid in (0, os.getegid()) else stat.S_IWOTH | stat.S_IWGRP
+        )
+        if found.st_uid not in (0, os.geteuid()) or (
+            shared and (it == path or not found.st_mode & stat.S_ISVTX)
+        ):
             return False
     return True
 
@@ -86,8 +101,17 @@ def program_of(service: Service) -> dict[str, str | bool]:
         program = path.resolve(strict=True)
         if not is_safe(program):
             raise PermissionError(program)
-        said = subprocess.run([program, "--version"], capture_output=True, text=True, timeout=VERSION_WITHIN, stdin=subprocess.DEVNULL).stdout
-        changed = path.stat().st_mtime > service.started_at() or path.stat().st_ctime > service.started_at()
+        said = subprocess.run(
+            [program, "--version"],
+            capture_output=True,
+            text=True,
+            timeout=VERSION_WITHIN,
+            stdin=subprocess.DEVNULL,
+        ).stdout
+        changed = (
+            path.stat().st_mtime > service.started_at()
+            or path.stat().st_ctime > service.started_at()
+        )
     except (OSError, RuntimeError, subprocess.SubprocessError):  # RuntimeError: links in a circle
         return {"path": str(path), "version": "", "changed_since": False}
     return {"path": str(path), "version": said.strip(), "changed_since": changed}

@@ -46,7 +46,9 @@ def languages(web: Path) -> dict[str, str]:
         try:
             found[path.stem] = str(json.loads(path.read_text(encoding="utf-8"))["name"])
         except (OSError, ValueError, KeyError, TypeError) as fault:
-            raise SetupFault(f"{path}: it is no file of words: {fault}: compare it with en.json") from None
+            raise SetupFault(
+                f"{path}: it is no file of words: {fault}: compare it with en.json"
+            ) from None
     return found
 
 
@@ -56,7 +58,9 @@ def read_setup(path: Path, web: Path) -> Setup:
     ports = tables_in(table, "port", path)
     reader, known = Reader(table, str(path)), languages(web)
     setup = Setup(
-        state=Path(reader.text("state", None, "write the folder in which the counter keeps its files")),
+        state=Path(
+            reader.text("state", None, "write the folder in which the counter keeps its files")
+        ),
         listen=reader.address("listen", "127.0.0.1:8090"),
         terminal=reader.address("terminal", "127.0.0.1:4001"),
         office=reader.address("office", "127.0.0.1:8080"),
@@ -69,12 +73,16 @@ def read_setup(path: Path, web: Path) -> Setup:
         max=reader.number("max", 60000, 500, 500000),
         wait=reader.number("wait", 20, 1, 600),
         tare_days=reader.number("tare_days", 90, 1, 3660),
-        hosts=reader.texts("hosts", 'write the names that browsers ask for, as ["weighbridge.example"]'),
+        hosts=reader.texts(
+            "hosts", 'write the names that browsers ask for, as ["weighbridge.example"]'
+        ),
         ports=tuple(port_of(it) for it in ports),
         papers=papers_of(reader),
     )
     if setup.interval not in INTERVALS:
-        raise reader.fault("interval", "write 1, 2, 5, 10, 20 or 50, as after --interval of the service")
+        raise reader.fault(
+            "interval", "write 1, 2, 5, 10, 20 or 50, as after --interval of the service"
+        )
     reader.end()
     refuse_twice(setup, path)
     return setup
@@ -84,14 +92,26 @@ def papers_of(reader: Reader) -> Papers | None:
     """The printers, if a file of them is named."""
     if "papers" not in reader.table:
         return None
-    return read_papers(Path(reader.text("papers", None, "write the file of the printers, as /etc/weighbridge-paper.toml, or take the key out")))
+    return read_papers(
+        Path(
+            reader.text(
+                "papers",
+                None,
+                "write the file of the printers, as /etc/weighbridge-paper.toml, or take the key out",
+            )
+        )
+    )
 
 
 def port_of(reader: Reader) -> Port:
     name = reader.text("name", None, "write a name of small letters, digits and _, as till_1")
     if not re.fullmatch("[a-z0-9_]{1,20}", name):
         raise reader.fault("name", "write a name of small letters, digits and _, as till_1")
-    port = Port(name, reader.address("listen", None), reader.choice("may", "read", ("read", "change")) == "change")
+    port = Port(
+        name,
+        reader.address("listen", None),
+        reader.choice("may", "read", ("read", "change")) == "change",
+    )
     reader.end()
     return port
 
@@ -100,13 +120,19 @@ def refuse_twice(setup: Setup, path: Path) -> None:
     """No address and no name may be there twice."""
     known = {setup.listen: "listen", setup.terminal: "terminal"}
     if setup.office in known:
-        raise SetupFault(f"{path}: office: it is the address of {known[setup.office]}: take the one after --office of the service")
+        raise SetupFault(
+            f"{path}: office: it is the address of {known[setup.office]}: take the one after --office of the service"
+        )
     known[setup.office] = "office"
     names: set[str] = set()
     for at, port in enumerate(setup.ports, 1):
         if port.listen in known:
-            raise SetupFault(f"{path}: port {at}: listen: it is the address of {known[port.listen]}: take another port")
+            raise SetupFault(
+                f"{path}: port {at}: listen: it is the address of {known[port.listen]}: take another port"
+            )
         if port.name in names:
-            raise SetupFault(f"{path}: port {at}: name: there is a port {port.name} already: take another name")
+            raise SetupFault(
+                f"{path}: port {at}: name: there is a port {port.name} already: take another name"
+            )
         known[port.listen] = f"port {at}"
         names.add(port.name)

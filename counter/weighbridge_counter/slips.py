@@ -5,11 +5,28 @@ import hashlib
 import re
 from dataclasses import dataclass
 
-FIELDS = ("number", "key", "kind", "plate", "moment", "gross_kg", "preset_kg", "interval_kg", "max_kg", "serial", "digest", "previous")
+FIELDS = (
+    "number",
+    "key",
+    "kind",
+    "plate",
+    "moment",
+    "gross_kg",
+    "preset_kg",
+    "interval_kg",
+    "max_kg",
+    "serial",
+    "digest",
+    "previous",
+)
 HEADER = ",".join(FIELDS)
-ZEROS = "0" * 64  # the previous digest of a journal's first entry, and of the first after a purge of all
+ZEROS = (
+    "0" * 64
+)  # the previous digest of a journal's first entry, and of the first after a purge of all
 HEAD = re.compile(r"WEIGHING (?:SLIP|TICKET) (\d+)\nPLATE (\S+)\n")
-BLOCK = re.compile(r"^(FIRST|SECOND|SINGLE|VOID) NO (\d+)\nAT (.{19})\n(?:G +(\d+) kg\n)?(?:PT +(\d+) kg\n)?", re.M)
+BLOCK = re.compile(
+    r"^(FIRST|SECOND|SINGLE|VOID) NO (\d+)\nAT (.{19})\n(?:G +(\d+) kg\n)?(?:PT +(\d+) kg\n)?", re.M
+)
 
 
 class NoText(Exception):
@@ -30,7 +47,9 @@ class Entry:
 
 
 def moment_of(text: str) -> datetime.datetime:
-    return datetime.datetime.strptime(text, "%Y-%m-%d %H:%M:%S").replace(tzinfo=datetime.timezone.utc)
+    return datetime.datetime.strptime(text, "%Y-%m-%d %H:%M:%S").replace(
+        tzinfo=datetime.timezone.utc
+    )
 
 
 def number_or_none(text: str | None) -> int | None:
@@ -44,12 +63,27 @@ def entry_of_text(text: str) -> Entry:
         raise NoText(text[:40])
     own, partner = blocks[-1], blocks[0] if len(blocks) > 1 else None
     first = int(partner[2]) if partner is not None else None
-    return Entry(int(head[1]), own[1].lower(), head[2], moment_of(own[3]), number_or_none(own[4]), number_or_none(own[5]), first)
+    return Entry(
+        int(head[1]),
+        own[1].lower(),
+        head[2],
+        moment_of(own[3]),
+        number_or_none(own[4]),
+        number_or_none(own[5]),
+        first,
+    )
 
 
 def entry_of_row(row: str) -> Entry:
     parts = fields_of(row)
-    return Entry(int(parts[0]), parts[2], parts[3], moment_of(parts[4]), number_or_none(parts[5]), number_or_none(parts[6]))
+    return Entry(
+        int(parts[0]),
+        parts[2],
+        parts[3],
+        moment_of(parts[4]),
+        number_or_none(parts[5]),
+        number_or_none(parts[6]),
+    )
 
 
 def rows_of(export: str) -> list[str]:

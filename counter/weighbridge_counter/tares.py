@@ -34,7 +34,9 @@ class Tares:
         async with self.one_at_a_time:
             if plate not in self.kept and len(self.kept) >= MOST:
                 raise BadTare(f"there are {MOST} already: drop one")
-            await self._replace({**self.kept, plate: {"kg": kg, "until": until.isoformat(), "by": by}})
+            await self._replace(
+                {**self.kept, plate: {"kg": kg, "until": until.isoformat(), "by": by}}
+            )
 
     async def drop(self, plate: str) -> None:
         async with self.one_at_a_time:
@@ -42,7 +44,9 @@ class Tares:
 
     def shown(self) -> dict[str, dict[str, Any]]:
         today = self.today().isoformat()
-        return {plate: {**tare, "is_over": tare["until"] < today} for plate, tare in self.kept.items()}
+        return {
+            plate: {**tare, "is_over": tare["until"] < today} for plate, tare in self.kept.items()
+        }
 
     async def _replace(self, kept: dict[str, dict[str, Any]]) -> None:
         """Replace the kept tares once the disk has the new ones. Raises NoFile, and changes nothing then."""

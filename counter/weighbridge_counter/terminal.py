@@ -15,7 +15,9 @@ STOOD_STILL = 0.7  # seconds: who slept so long can't say how old a line is that
 DOUBTED = 0.3  # seconds after that in which what is found may be as old
 RETRY_AFTER = 0.2  # seconds
 WITHOUT_VALUE = 2.2  # seconds: so long a value is waited for
-RESET_AT_THE_END = struct.pack("ii", 1, 0)  # SO_LINGER: whatever ends the connection, also a kill, is a reset
+RESET_AT_THE_END = struct.pack(
+    "ii", 1, 0
+)  # SO_LINGER: whatever ends the connection, also a kill, is a reset
 Listener = Callable[[Value], None]
 
 
@@ -80,7 +82,12 @@ class Unconnected:
 
 
 class Terminal:
-    def __init__(self, address: tuple[str, int], wait_readings: int, clock: Callable[[], float] = time.monotonic) -> None:
+    def __init__(
+        self,
+        address: tuple[str, int],
+        wait_readings: int,
+        clock: Callable[[], float] = time.monotonic,
+    ) -> None:
         self.address, self.clock = address, clock
         self.fanout = Fanout(Unconnected(), clock, wait_readings)
         self.fanout.on_value = self._hand_on
@@ -176,7 +183,9 @@ class Terminal:
     # ---- commands
 
     @asynccontextmanager
-    async def turn(self, patience: float = PATIENCE, first: bool = False, may_settle: bool = False) -> AsyncIterator[Turn]:
+    async def turn(
+        self, patience: float = PATIENCE, first: bool = False, may_settle: bool = False
+    ) -> AsyncIterator[Turn]:
         """The terminal for an act of one command or more. Raises NotSent if others keep it for too long."""
         granted: asyncio.Future[bool] = asyncio.get_running_loop().create_future()
 
@@ -192,9 +201,13 @@ class Terminal:
         finally:
             self.fanout.give_back(turn)
 
-    async def ask(self, turn: Turn, line: str, patience: float = PATIENCE, wish: Wish | None = None) -> tuple[str, ...]:
+    async def ask(
+        self, turn: Turn, line: str, patience: float = PATIENCE, wish: Wish | None = None
+    ) -> tuple[str, ...]:
         """The lines of the reply. Raises NotSent or Unanswered."""
-        answered: asyncio.Future[tuple[Outcome, tuple[str, ...]]] = asyncio.get_running_loop().create_future()
+        answered: asyncio.Future[
+            tuple[Outcome, tuple[str, ...]]
+        ] = asyncio.get_running_loop().create_future()
 
         def done(outcome: Outcome, lines: tuple[str, ...]) -> None:
             if not answered.done():
@@ -212,7 +225,9 @@ class Terminal:
             raise Unanswered(line)
         return lines
 
-    async def command(self, line: str, patience: float = PATIENCE, wish: Wish | None = None) -> tuple[str, ...]:
+    async def command(
+        self, line: str, patience: float = PATIENCE, wish: Wish | None = None
+    ) -> tuple[str, ...]:
         until = self.clock() + patience
         async with self.turn(patience) as turn:
             return await self.ask(turn, line, until - self.clock(), wish)

@@ -35,7 +35,9 @@ class Zero:
         """When the service was started, or when that was noticed."""
         if service is None:
             return self._moment()
-        return datetime.fromtimestamp(service.started_at(), self.now().tzinfo).isoformat(timespec="seconds")
+        return datetime.fromtimestamp(service.started_at(), self.now().tzinfo).isoformat(
+            timespec="seconds"
+        )
 
     def was_set(self, by: str) -> None:
         self.is_set, self.at, self.by, self.reason = True, self._moment(), by, "set"
@@ -48,4 +50,6 @@ class Zero:
         return self.now().isoformat(timespec="seconds")
 
     def _keep(self) -> None:
-        self.files.keep(FILE, {"service": self.service, "is_set": self.is_set, "at": self.at, "by": self.by})
+        self.files.keep(
+            FILE, {"service": self.service, "is_set": self.is_set, "at": self.at, "by": self.by}
+        )

@@ -35,23 +35,59 @@ status: 0 printed, 1 not printed yet: a line says why, and it waits, 2 the words
 
 
 def words_of(given: list[str]) -> argparse.Namespace:
-    words = argparse.ArgumentParser("weighbridge-paper", description=ABOUT, epilog=EXAMPLE, formatter_class=argparse.RawDescriptionHelpFormatter)
+    words = argparse.ArgumentParser(
+        "weighbridge-paper",
+        description=ABOUT,
+        epilog=EXAMPLE,
+        formatter_class=argparse.RawDescriptionHelpFormatter,
+    )
     words.add_argument(
-        "--setup", metavar="FILE", type=Path, default=Path("/etc/weighbridge-paper.toml"), help="the printers; /etc/weighbridge-paper.toml"
+        "--setup",
+        metavar="FILE",
+        type=Path,
+        default=Path("/etc/weighbridge-paper.toml"),
+        help="the printers; /etc/weighbridge-paper.toml",
     )
     words.add_argument("--printer", metavar="NAME", help="one of the setup")
     for name in FREE_LINES:
-        words.add_argument(f"--{name}", metavar="TEXT", default="", help="a free line, which is no part of the weighing")
-    words.add_argument("--key", metavar="KEY", help="the key under which it was weighed, to make its digest again")
-    words.add_argument("--against", metavar="EXPORT", type=Path, help="an export of the journal, to make its digests again")
-    words.add_argument("--within", metavar="SECONDS", type=float, default=30.0, help="how long to try; 30")
-    words.add_argument("--reprint", metavar="NUMBER", type=int, help="a further print of a number that was printed here")
-    words.add_argument("--list", dest="is_list", action="store_true", help="what waits and what failed")
+        words.add_argument(
+            f"--{name}",
+            metavar="TEXT",
+            default="",
+            help="a free line, which is no part of the weighing",
+        )
+    words.add_argument(
+        "--key", metavar="KEY", help="the key under which it was weighed, to make its digest again"
+    )
+    words.add_argument(
+        "--against",
+        metavar="EXPORT",
+        type=Path,
+        help="an export of the journal, to make its digests again",
+    )
+    words.add_argument(
+        "--within", metavar="SECONDS", type=float, default=30.0, help="how long to try; 30"
+    )
+    words.add_argument(
+        "--reprint",
+        metavar="NUMBER",
+        type=int,
+        help="a further print of a number that was printed here",
+    )
+    words.add_argument(
+        "--list", dest="is_list", action="store_true", help="what waits and what failed"
+    )
     words.add_argument("--again", metavar="JOB", type=int, help="a job that failed waits again")
-    words.add_argument("--drop", metavar="JOB", type=int, help="a job that waits or failed is printed no more")
-    words.add_argument("--check", dest="only_check", action="store_true", help="read the setup and end")
+    words.add_argument(
+        "--drop", metavar="JOB", type=int, help="a job that waits or failed is printed no more"
+    )
+    words.add_argument(
+        "--check", dest="only_check", action="store_true", help="read the setup and end"
+    )
     asked = words.parse_args(given)
-    if asked.printer is None and not (asked.is_list or asked.only_check or asked.again is not None or asked.drop is not None):
+    if asked.printer is None and not (
+        asked.is_list or asked.only_check or asked.again is not None or asked.drop is not None
+    ):
         words.error("--printer is missing: name one of the setup")
     return asked
 
@@ -65,7 +101,9 @@ def text_asked_for(asked: argparse.Namespace, spool: Spool) -> Text | None:
     if asked.reprint is not None:
         found = spool.text_of(asked.reprint)
         if found is None:
-            raise NoText(f"number {asked.reprint} was never printed here: get its text from the office, GET /tickets/{asked.reprint}")
+            raise NoText(
+                f"number {asked.reprint} was never printed here: get its text from the office, GET /tickets/{asked.reprint}"
+            )
         return found
     if sys.stdin.isatty():
         return None
@@ -89,9 +127,13 @@ def known_of(asked: argparse.Namespace, text: Text) -> tuple[dict[int, str], dic
             for row in (it.split(",") for it in rows if it):
                 keys[int(row[number])], digests[int(row[number])] = row[key], row[digest]
         except (OSError, ValueError, IndexError):
-            raise NoText(f"{asked.against} is no export of the journal, so it can't be checked against it") from None
+            raise NoText(
+                f"{asked.against} is no export of the journal, so it can't be checked against it"
+            ) from None
         if missing := [it.number for it in text.weighings if it.number not in keys]:
-            raise NoText(f"number {missing[0]} isn't in {asked.against}: it was purged, or never stored")
+            raise NoText(
+                f"number {missing[0]} isn't in {asked.against}: it was purged, or never stored"
+            )
     if asked.key is not None:
         keys[text.own.number] = asked.key
     return keys, digests
@@ -101,9 +143,15 @@ def print_text(asked: argparse.Namespace, printer: Printer, spool: Spool) -> int
     text = text_asked_for(asked, spool)
     waiting = [it.id for it in spool.jobs("waits", "begun") if it.printer == printer.name]
     if text is None and not waiting:
-        say("nothing came on standard input, and nothing waits: the weighing before may have been refused")
+        say(
+            "nothing came on standard input, and nothing waits: the weighing before may have been refused"
+        )
         return 3
-    job = waiting[-1] if text is None else spool.put(spool.take(text, given_of(vars(asked))), printer.name)
+    job = (
+        waiting[-1]
+        if text is None
+        else spool.put(spool.take(text, given_of(vars(asked))), printer.name)
+    )
     until: float = time.monotonic() + asked.within
     worker = Worker(spool, printer)
     while True:
@@ -149,7 +197,9 @@ def carry_out(asked: argparse.Namespace, papers: Papers) -> int:
         return 0
     printer = papers.printer(asked.printer)
     if printer is None:
-        say(f"{asked.setup}: there is no printer {asked.printer}: it has {', '.join(it.name for it in papers.printers) or 'none'}")
+        say(
+            f"{asked.setup}: there is no printer {asked.printer}: it has {', '.join(it.name for it in papers.printers) or 'none'}"
+        )
         return 2
     return print_text(asked, printer, spool)
 

@@ -61,7 +61,9 @@ class Wire:
 
     def __init__(self, handle: int, has_status: bool) -> None:
         self.handle, self.has_status, self.has_begun = handle, has_status, False
-        self.is_behind = False  # whether GS r was answered, also while something else was waited for
+        self.is_behind = (
+            False  # whether GS r was answered, also while something else was waited for
+        )
         os.set_blocking(handle, False)
 
     def trouble(self, name: str) -> Trouble:
@@ -90,7 +92,9 @@ class Wire:
             except BlockingIOError:
                 continue
             except OSError as fault:
-                raise self.trouble("cut" if fault.errno != errno.EIO or self.has_begun else "gone") from None
+                raise self.trouble(
+                    "cut" if fault.errno != errno.EIO or self.has_begun else "gone"
+                ) from None
             if not byte:
                 raise self.trouble("cut" if self.has_begun else "gone")
             self.is_behind = self.is_behind or escpos.is_behind(byte[0])
@@ -170,13 +174,18 @@ def wire_to(printer: Printer) -> Iterator[Wire]:
         except ImportError:
             raise Trouble("no_module", False) from None
         try:
-            with serial.Serial(printer.place, int(printer.detail), xonxoff=True, exclusive=True) as port:
+            with serial.Serial(
+                printer.place, int(printer.detail), xonxoff=True, exclusive=True
+            ) as port:
                 yield Wire(port.fileno(), printer.has_status)
         except serial.SerialException:
             raise Trouble("gone", False) from None
     else:
         try:
-            handle = os.open(printer.place, (os.O_RDWR if printer.has_status else os.O_WRONLY) | os.O_NOCTTY | os.O_NONBLOCK)
+            handle = os.open(
+                printer.place,
+                (os.O_RDWR if printer.has_status else os.O_WRONLY) | os.O_NOCTTY | os.O_NONBLOCK,
+            )
         except OSError:
             raise Trouble("gone", False) from None
         try:
@@ -198,7 +207,11 @@ class Queue:
     def _run(self, program: str, *words: str, data: bytes = b"") -> str:
         try:
             it = subprocess.run(
-                [program, *self.server, *words], input=data, capture_output=True, timeout=LP_WITHIN, env={**os.environ, "LC_ALL": "C"}
+                [program, *self.server, *words],
+                input=data,
+                capture_output=True,
+                timeout=LP_WITHIN,
+                env={**os.environ, "LC_ALL": "C"},
             )
         except FileNotFoundError:
             raise Trouble("no_program", False) from None
@@ -210,12 +223,25 @@ class Queue:
 
     def look(self) -> None:
         """Raises Trouble if the queue isn't there, is stopped or takes nothing."""
-        if " disabled " in self._run("lpstat", "-p", self.name) or "not accepting" in self._run("lpstat", "-a", self.name):
+        if " disabled " in self._run("lpstat", "-p", self.name) or "not accepting" in self._run(
+            "lpstat", "-a", self.name
+        ):
             raise Trouble("queue_stopped", False)
 
     def print(self, data: bytes, title: str, tell: Tell, give_up: GiveUp) -> bool:
         """Hands a PDF over, and waits until it left the queue. False: CUPS has it still, and prints it when it can."""
-        said = self._run("lp", "-d", self.name, "-t", title, "-o", f"media={self.media(data)}", "-o", "print-scaling=none", data=data)
+        said = self._run(
+            "lp",
+            "-d",
+            self.name,
+            "-t",
+            title,
+            "-o",
+            f"media={self.media(data)}",
+            "-o",
+            "print-scaling=none",
+            data=data,
+        )
         found = re.search(r"request id is (\S+)", said)
         if found is None:
             raise Trouble("gone", True)
@@ -232,7 +258,10 @@ class Queue:
 
     def _has(self, request: str) -> bool:
         try:
-            return any(line.split(" ")[0] == request for line in self._run("lpstat", "-o", self.name).split("\n"))
+            return any(
+                line.split(" ")[0] == request
+                for line in self._run("lpstat", "-o", self.name).split("\n")
+            )
         except Trouble:
             return True
 

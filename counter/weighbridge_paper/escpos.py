@@ -23,7 +23,19 @@ DOTS_OF_MODULE = 6  # of the QR code: 0.75 mm at 8 dots a millimetre
 
 # code page to number of ESC t
 PAGES = {
-    **{"cp437": 0, "cp850": 2, "cp860": 3, "cp863": 4, "cp865": 5, "cp857": 13, "cp737": 14, "iso8859_7": 15, "cp1252": 16, "cp866": 17, "cp852": 18},
+    **{
+        "cp437": 0,
+        "cp850": 2,
+        "cp860": 3,
+        "cp863": 4,
+        "cp865": 5,
+        "cp857": 13,
+        "cp737": 14,
+        "iso8859_7": 15,
+        "cp1252": 16,
+        "cp866": 17,
+        "cp852": 18,
+    },
     **{
         "cp858": 19,
         "cp775": 33,
@@ -71,7 +83,9 @@ class Letters:
             return letter if letter.isprintable() else " "
         if any(has(page, letter) for page, _ in self.pages):
             return letter
-        bare = "".join(it for it in unicodedata.normalize("NFKD", letter) if not unicodedata.combining(it))
+        bare = "".join(
+            it for it in unicodedata.normalize("NFKD", letter) if not unicodedata.combining(it)
+        )
         alike = ALIKE.get(letter, bare if bare != letter else "")
         return self.plain(alike) if alike else "?"
 
@@ -112,8 +126,12 @@ class Roll:
 
     def _plain(self, block: layout.Block) -> layout.Block:
         """The block with what its printer has for each letter, so that its lines are as long as they will be. The legal text stays as it is."""
-        fields = {"Legal": ("wrapped",), "Code": ("name",), "Pair": ("name", "value")}.get(type(block).__name__, ("text",))
-        return dataclasses.replace(block, **{it: self.letters.plain(getattr(block, it)) for it in fields})
+        fields = {"Legal": ("wrapped",), "Code": ("name",), "Pair": ("name", "value")}.get(
+            type(block).__name__, ("text",)
+        )
+        return dataclasses.replace(
+            block, **{it: self.letters.plain(getattr(block, it)) for it in fields}
+        )
 
     def _lines(self, lines: Sequence[str], before: bytes = b"", after: bytes = b"") -> None:
         self.made += [before, *(self.letters.of(it) + b"\n" for it in lines), after]
@@ -121,14 +139,20 @@ class Roll:
     def _put(self, block: layout.Block) -> None:
         columns = self.columns
         if isinstance(block, layout.Mark):
-            self._lines([it.center(columns) for it in layout.filled(block.text, columns)], WHITE_ON_BLACK + BOLD, NOT_BOLD + BLACK_ON_WHITE)
+            self._lines(
+                [it.center(columns) for it in layout.filled(block.text, columns)],
+                WHITE_ON_BLACK + BOLD,
+                NOT_BOLD + BLACK_ON_WHITE,
+            )
         elif isinstance(block, layout.Line):
             self._line(block)
         elif isinstance(block, layout.Pair):
             bold = (BOLD, NOT_BOLD) if block.is_bold else (b"", b"")
             self._lines(layout.paired(block.name, block.value, columns), *bold)
         elif isinstance(block, layout.Rule):
-            self._lines(["-" * columns, *(layout.filled(block.text, columns) if block.text else [])])
+            self._lines(
+                ["-" * columns, *(layout.filled(block.text, columns) if block.text else [])]
+            )
         elif isinstance(block, layout.Legal):
             lines = layout.wrapped(block.letters, columns)
             self._lines(lines)
@@ -140,16 +164,26 @@ class Roll:
     def _line(self, line: layout.Line) -> None:
         if line.look in ("title", "large"):
             most = LARGEST if line.look == "large" else 2
-            times = next((it for it in range(most, 1, -1) if len(line.text) * it <= self.columns), 1)
+            times = next(
+                (it for it in range(most, 1, -1) if len(line.text) * it <= self.columns), 1
+            )
             size = bytes([(times - 1) * 16 + max(times, 2) - 1])
-            self._lines(layout.filled(line.text, self.columns // times), b"\x1d!" + size + BOLD, b"\x1d!\x00" + NOT_BOLD)
+            self._lines(
+                layout.filled(line.text, self.columns // times),
+                b"\x1d!" + size + BOLD,
+                b"\x1d!\x00" + NOT_BOLD,
+            )
             return
         bold = (BOLD, NOT_BOLD) if line.look == "bold" else (b"", b"")
         before, after = (CENTRED, LEFT) if line.is_centred else (b"", b"")
         self._lines(layout.filled(line.text, self.columns), before + bold[0], bold[1] + after)
 
     def _code(self, code: layout.Code) -> None:
-        rows = [[it for it in row for _ in range(DOTS_OF_MODULE)] for row in modules_of(code.text) for _ in range(DOTS_OF_MODULE)]
+        rows = [
+            [it for it in row for _ in range(DOTS_OF_MODULE)]
+            for row in modules_of(code.text)
+            for _ in range(DOTS_OF_MODULE)
+        ]
         self.made += [CENTRED, raster(rows)]
         self._lines(layout.filled(code.name, self.columns), b"", LEFT)
 
@@ -161,7 +195,9 @@ def raster(rows: Sequence[Sequence[bool]]) -> bytes:
     for row in rows:
         bits = int("".join("1" if it else "0" for it in row).ljust(width * 8, "0"), 2)
         data += bits.to_bytes(width, "big")
-    return b"\x1dv0\x00" + width.to_bytes(2, "little") + len(rows).to_bytes(2, "little") + bytes(data)
+    return (
+        b"\x1dv0\x00" + width.to_bytes(2, "little") + len(rows).to_bytes(2, "little") + bytes(data)
+    )
 
 
 # ---- status

@@ -81,7 +81,7 @@ class Paper:
 
 
 def code_of(text: Text) -> str:
-    """Number and digest, as `clients/verify.py --known` takes them. A digest is chained, so that of a Second stands for its First too."""
+    """Number and digest, as `inspect/verify.py --known` takes them. A digest is chained, so that of a Second stands for its First too."""
     return f"{text.own.number} {text.own.digest}"
 
 
@@ -98,7 +98,10 @@ def blocks_of(paper: Paper, template: Template) -> list[Block]:
     if paper.given:
         made.append(Rule(words.word("given", language)))
         made += [Pair(words.word(name, language), value) for name, value in paper.given]
-    made += [Rule(words.word("legal", language)), Legal(text.letters, words.word("wrapped", language))]
+    made += [
+        Rule(words.word("legal", language)),
+        Legal(text.letters, words.word("wrapped", language)),
+    ]
     made += [Rule(), Code(code_of(text), words.word("code", language))]
     made += [Line(it, "plain", True) for it in template.footer]
     return made + marks
@@ -113,9 +116,15 @@ def headline(text: Text, language: str) -> list[Block]:
         Line(text.plate, "large"),
     ]
     if text.net is not None:
-        made += [Line(words.word("net", language), "small"), Line(words.kg(text.net, language), "large")]
+        made += [
+            Line(words.word("net", language), "small"),
+            Line(words.kg(text.net, language), "large"),
+        ]
     elif own.gross is not None:
-        made += [Line(words.word("gross", language), "small"), Line(words.kg(own.gross, language), "large")]
+        made += [
+            Line(words.word("gross", language), "small"),
+            Line(words.kg(own.gross, language), "large"),
+        ]
     else:
         made.append(Line(words.word("withdrawn", language), "bold"))
     return made
@@ -123,7 +132,9 @@ def headline(text: Text, language: str) -> list[Block]:
 
 def weighing(it: Weighing, template: Template) -> list[Block]:
     language = template.language
-    made: list[Block] = [Pair(words.word(it.kind, language), f"{words.word('number', language)} {it.number}", True)]
+    made: list[Block] = [
+        Pair(words.word(it.kind, language), f"{words.word('number', language)} {it.number}", True)
+    ]
     if it.gross is not None:
         made.append(Pair(words.word("gross", language), words.kg(it.gross, language)))
     if it.preset is not None:
@@ -182,7 +193,11 @@ def given_of(fields: Mapping[str, str]) -> tuple[tuple[str, str], ...]:
     """The free lines among the fields of a request, made harmless: one line each, of characters that are printed."""
     made = []
     for name in words.FREE_LINES:
-        value = " ".join("".join(it if it.isprintable() else " " for it in with_few_marks(fields.get(name, ""))).split())[:LONGEST_GIVEN]
+        value = " ".join(
+            "".join(
+                it if it.isprintable() else " " for it in with_few_marks(fields.get(name, ""))
+            ).split()
+        )[:LONGEST_GIVEN]
         if value:
             made.append((name, value))
     return tuple(made)

@@ -23,9 +23,21 @@ def block_of(block: layout.Block) -> dict[str, Any]:
     if isinstance(block, layout.Rule):
         return {"is": "rule", "text": block.text}
     if isinstance(block, layout.Legal):
-        return {"is": "legal", "text": block.letters, "narrow": "\n".join(layout.wrapped(block.letters, NARROW)) + "\n", "wrapped": block.wrapped}
+        return {
+            "is": "legal",
+            "text": block.letters,
+            "narrow": "\n".join(layout.wrapped(block.letters, NARROW)) + "\n",
+            "wrapped": block.wrapped,
+        }
     rows = modules_of(block.text)
-    return {"is": "code", "text": block.text, "name": block.name, "side": len(rows), "quiet": QUIET, "path": path_of(rows)}
+    return {
+        "is": "code",
+        "text": block.text,
+        "name": block.name,
+        "side": len(rows),
+        "quiet": QUIET,
+        "path": path_of(rows),
+    }
 
 
 def path_of(rows: Sequence[Sequence[bool]]) -> str:

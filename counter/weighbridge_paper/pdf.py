@@ -98,7 +98,12 @@ class Sheet:
 
     def _rule(self, canvas: Canvas, at: float) -> None:
         canvas.setLineWidth(0.5)
-        canvas.line(self.form.margin, at - self.form.plain * 0.4, self.form.width - self.form.margin, at - self.form.plain * 0.4)
+        canvas.line(
+            self.form.margin,
+            at - self.form.plain * 0.4,
+            self.form.width - self.form.margin,
+            at - self.form.plain * 0.4,
+        )
 
     def _string(self, text: str, font: str, size: float, to: str = "left") -> None:
         form = self.form
@@ -146,7 +151,11 @@ class Sheet:
             size = min(size, size * form.within / max(1.0, width_of(line.text, BOLD, size)))
             self._string(line.text, BOLD, size, to)
         else:
-            font, size = (BOLD, form.plain) if line.look == "bold" else (PLAIN, form.plain * (0.9 if line.look == "small" else 1))
+            font, size = (
+                (BOLD, form.plain)
+                if line.look == "bold"
+                else (PLAIN, form.plain * (0.9 if line.look == "small" else 1))
+            )
             self._texts(line.text, font, size, to)
 
     def _pair(self, pair: layout.Pair) -> None:
@@ -194,7 +203,12 @@ class Sheet:
             for down, row in enumerate(rows):
                 for right, is_dark in enumerate(row):
                     if is_dark:
-                        path.rect(left + right * form.module, at - (down + 1) * form.module, form.module, form.module)
+                        path.rect(
+                            left + right * form.module,
+                            at - (down + 1) * form.module,
+                            form.module,
+                            form.module,
+                        )
             canvas.drawPath(path, stroke=0, fill=1)
 
         self.pieces.append((side, draw))

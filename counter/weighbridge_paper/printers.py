@@ -13,7 +13,11 @@ from .words import LANGUAGES
 COLUMNS = {"escpos80": 48, "escpos58": 32}
 NARROWEST, WIDEST = 30, 96
 MOST_LINES, LONGEST_LINE = 8, 100  # of a header or footer
-LINES = {"tcp": r"tcp:([^\s:]+):(\d{1,5})", "usb": r"usb:(/\S+)", "serial": r"serial:(/[^\s:]+):(\d{3,7})"}
+LINES = {
+    "tcp": r"tcp:([^\s:]+):(\d{1,5})",
+    "usb": r"usb:(/\S+)",
+    "serial": r"serial:(/[^\s:]+):(\d{3,7})",
+}
 QUEUES = {"cups": r"cups:([^\s/#@]+)(?:@([^\s:]+:\d{1,5}))?", "file": r"file:(/\S*)"}
 HOW_TO = 'write "tcp:192.0.2.50:9100", "usb:/dev/usb/lp0", "serial:/dev/ttyS0:19200", "cups:QUEUE", "cups:QUEUE@127.0.0.1:631" or "file:/FOLDER"'
 
@@ -52,14 +56,24 @@ def read_papers(path: Path) -> Papers:
     table = table_of(path)
     tables = tables_in(table, "printer", path)
     reader = Reader(table, str(path))
-    spool = Path(reader.text("spool", None, "write the folder in which papers wait, as /var/lib/weighbridge-counter/papers"))
+    spool = Path(
+        reader.text(
+            "spool",
+            None,
+            "write the folder in which papers wait, as /var/lib/weighbridge-counter/papers",
+        )
+    )
     template = template_of(reader, Template((), (), "en", zone_of(reader)))
     printers = tuple(printer_of(it, template) for it in tables)
     names = [it.name for it in printers]
     for at, name in enumerate(names, 1):
         if name in names[: at - 1]:
-            raise SetupFault(f"{path}: printer {at}: name: there is a printer {name} already: take another name")
-    by_itself = reader.text("by_itself", names[0] if names else "none", 'write the name of a printer, or "none"')
+            raise SetupFault(
+                f"{path}: printer {at}: name: there is a printer {name} already: take another name"
+            )
+    by_itself = reader.text(
+        "by_itself", names[0] if names else "none", 'write the name of a printer, or "none"'
+    )
     if by_itself not in (*names, "none"):
         raise reader.fault("by_itself", f'write {" or ".join(names)}, or "none"')
     reader.end()
@@ -67,13 +81,22 @@ def read_papers(path: Path) -> Papers:
 
 
 def template_of(reader: Reader, of_all: Template) -> Template:
-    what = f"write at most {MOST_LINES} lines of at most {LONGEST_LINE} characters, as a list of texts"
+    what = (
+        f"write at most {MOST_LINES} lines of at most {LONGEST_LINE} characters, as a list of texts"
+    )
     found = {}
     for key, default in (("header", of_all.header), ("footer", of_all.footer)):
         found[key] = reader.texts(key, what) if key in reader.table else default
-        if len(found[key]) > MOST_LINES or any(len(it) > LONGEST_LINE or not it.isprintable() for it in found[key]):
+        if len(found[key]) > MOST_LINES or any(
+            len(it) > LONGEST_LINE or not it.isprintable() for it in found[key]
+        ):
             raise reader.fault(key, what)
-    return Template(found["header"], found["footer"], reader.choice("language", of_all.language, LANGUAGES), of_all.zone)
+    return Template(
+        found["header"],
+        found["footer"],
+        reader.choice("language", of_all.language, LANGUAGES),
+        of_all.zone,
+    )
 
 
 def printer_of(reader: Reader, of_all: Template) -> Printer:
@@ -92,7 +115,10 @@ def printer_of(reader: Reader, of_all: Template) -> Printer:
         reader.end()
         return Printer(name, way, place, detail, form, template)
     columns = reader.number("columns", COLUMNS[form], NARROWEST, WIDEST)
-    pages = tuple(page_of(reader, it) for it in reader.texts("code_pages", 'write a list, as ["cp858"]') or ("cp858",))
+    pages = tuple(
+        page_of(reader, it)
+        for it in reader.texts("code_pages", 'write a list, as ["cp858"]') or ("cp858",)
+    )
     has_status, is_cut = reader.flag("status", way != "file"), reader.flag("cut", True)
     if has_status and way == "file":
         raise reader.fault("status", "a file answers nothing: write false, or take it out")

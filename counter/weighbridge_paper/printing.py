@@ -19,13 +19,17 @@ def data_of(paper: layout.Paper, printer: Printer) -> bytes:
     from .pdf import Sheet  # reportlab is large, and a printer for ESC/POS needs none
 
     own = paper.text.own
-    return Sheet(FORMS[printer.form]).pdf_of(blocks, f"{own.serial} {own.number}", " ".join(printer.template.header[:1]))
+    return Sheet(FORMS[printer.form]).pdf_of(
+        blocks, f"{own.serial} {own.number}", " ".join(printer.template.header[:1])
+    )
 
 
 class Worker:
     """Prints at one printer. `on_change` is called when something becomes of a job."""
 
-    def __init__(self, spool: Spool, printer: Printer, on_change: Callable[[], None] = lambda: None) -> None:
+    def __init__(
+        self, spool: Spool, printer: Printer, on_change: Callable[[], None] = lambda: None
+    ) -> None:
         self.spool, self.printer, self.on_change = spool, printer, on_change
 
     def turn(self, give_up: GiveUp = lambda: False) -> bool:
@@ -76,13 +80,19 @@ class Worker:
             self.on_change()
         return True
 
-    def _hand_over(self, job: Job, begin: Callable[[], bytes], tell: Callable[[str], None], give_up: GiveUp) -> str:
+    def _hand_over(
+        self, job: Job, begin: Callable[[], bytes], tell: Callable[[str], None], give_up: GiveUp
+    ) -> str:
         printer = self.printer
         if printer.way == "cups":
             queue = Queue(printer)
             queue.look()
             own = job.text.own
-            return "" if queue.print(begin(), f"{own.serial} {own.number}", tell, give_up) else "handed_over"
+            return (
+                ""
+                if queue.print(begin(), f"{own.serial} {own.number}", tell, give_up)
+                else "handed_over"
+            )
         if printer.way == "file":
             put_in_folder(Path(printer.place), name_of(job, printer), begin())
             return ""

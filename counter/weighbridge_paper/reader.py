@@ -60,7 +60,11 @@ class Reader:
     def address(self, key: str, default: str | None) -> Address:
         what = f'write an address of this machine and a port, as "{default or "127.0.0.1:4101"}"'
         found = re.fullmatch(r"(127(?:\.\d{1,3}){3}):(\d{1,5})", self.text(key, default, what))
-        if found is None or any(int(it) > 255 for it in found[1].split(".")) or not 0 < int(found[2]) < 65536:
+        if (
+            found is None
+            or any(int(it) > 255 for it in found[1].split("."))
+            or not 0 < int(found[2]) < 65536
+        ):
             raise self.fault(key, what)
         return found[1], int(found[2])
 
@@ -90,7 +94,9 @@ def tables_in(table: dict[str, Any], name: str, path: Path) -> list[Reader]:
     """The tables below lines [[name]], each with its place."""
     found = table.pop(name, [])
     if not isinstance(found, list) or not all(isinstance(it, dict) for it in found):
-        raise SetupFault(f"{path}: {name}: write each {name} as a table of its own, below a line [[{name}]]")
+        raise SetupFault(
+            f"{path}: {name}: write each {name} as a table of its own, below a line [[{name}]]"
+        )
     return [Reader(it, f"{path}: {name} {at}") for at, it in enumerate(found, 1)]
 
 

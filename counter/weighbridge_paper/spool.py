@@ -71,7 +71,10 @@ class Spool:
     def _make(self, database: sqlite3.Connection) -> None:
         for it in TABLES.split(";"):
             database.execute(it)
-        database.execute("DELETE FROM job WHERE state IN ('printed', 'dropped') AND at < ?", (moment(-KEPT_DAYS),))
+        database.execute(
+            "DELETE FROM job WHERE state IN ('printed', 'dropped') AND at < ?",
+            (moment(-KEPT_DAYS),),
+        )
 
     @contextlib.contextmanager
     def _open(self) -> Iterator[sqlite3.Connection]:
@@ -80,7 +83,9 @@ class Spool:
         if not self.is_made:
             self.folder.mkdir(mode=0o700, parents=True, exist_ok=True)
         try:
-            with contextlib.closing(sqlite3.connect(path, timeout=BUSY_WITHIN, isolation_level=None)) as database:
+            with contextlib.closing(
+                sqlite3.connect(path, timeout=BUSY_WITHIN, isolation_level=None)
+            ) as database:
                 database.execute("PRAGMA synchronous = EXTRA")
                 database.execute("BEGIN IMMEDIATE")
                 if not self.is_made:
@@ -89,7 +94,9 @@ class Spool:
                 database.execute("COMMIT")
                 self.is_made = True
         except sqlite3.Error as fault:
-            raise OSError(f"{path}: {fault}: look at the disk; if the file is broken, move it away") from None
+            raise OSError(
+                f"{path}: {fault}: look at the disk; if the file is broken, move it away"
+            ) from None
 
     # ---- papers
 
@@ -98,7 +105,10 @@ class Spool:
         with self._open() as database:
             words = (found := paper_id(database, text), found)
             return (
-                database.execute("SELECT 1 FROM paper WHERE id = ? AND (is_spent OR EXISTS (SELECT 1 FROM job WHERE paper = ?))", words).fetchone()
+                database.execute(
+                    "SELECT 1 FROM paper WHERE id = ? AND (is_spent OR EXISTS (SELECT 1 FROM job WHERE paper = ?))",
+                    words,
+                ).fetchone()
                 is not None
             )
 
@@ -113,13 +123,17 @@ class Spool:
             found = paper_id(database, text)
             assert found is not None
             if given:
-                database.execute("UPDATE paper SET given = ? WHERE id = ?", (json.dumps(given), found))
+                database.execute(
+                    "UPDATE paper SET given = ? WHERE id = ?", (json.dumps(given), found)
+                )
             return found
 
     def text_of(self, number: int) -> Text | None:
         """The newest text of a number, for a further print."""
         with self._open() as database:
-            row = database.execute("SELECT letters FROM paper WHERE number = ? ORDER BY id DESC LIMIT 1", (number,)).fetchone()
+            row = database.execute(
+                "SELECT letters FROM paper WHERE number = ? ORDER BY id DESC LIMIT 1", (number,)
+            ).fetchone()
         return None if row is None else stored(row[0])
 
     # ---- jobs
@@ -127,16 +141,24 @@ class Spool:
     def put(self, paper: int, printer: str) -> int:
         """The job of a paper at a printer: one that waits there already is taken for it, so that many presses make one paper."""
         with self._open() as database:
-            row = database.execute("SELECT id FROM job WHERE (paper, printer, state) = (?, ?, 'waits')", (paper, printer)).fetchone()
+            row = database.execute(
+                "SELECT id FROM job WHERE (paper, printer, state) = (?, ?, 'waits')",
+                (paper, printer),
+            ).fetchone()
             if row is not None:
                 return int(row[0])
-            made = database.execute("INSERT INTO job (paper, printer, state, at) VALUES (?, ?, 'waits', ?)", (paper, printer, moment())).lastrowid
+            made = database.execute(
+                "INSERT INTO job (paper, printer, state, at) VALUES (?, ?, 'waits', ?)",
+                (paper, printer, moment()),
+            ).lastrowid
             assert made is not None
             return made
 
     def next(self, printer: str) -> Job | None:
         with self._open() as database:
-            row = database.execute(f"{JOB} WHERE state = 'waits' AND printer = ? ORDER BY job.id LIMIT 1", (printer,)).fetchone()
+            row = database.execute(
+                f"{JOB} WHERE state = 'waits' AND printer = ? ORDER BY job.id LIMIT 1", (printer,)
+            ).fetchone()
         return None if row is None else job_of(row)
 
     def job(self, number: int) -> Job | None:
@@ -148,7 +170,12 @@ class Spool:
         """The oldest of them; all, if it isn't said how many."""
         places = ",".join("?" * len(states))
         with self._open() as database:
-            return [job_of(it) for it in database.execute(f"{JOB} WHERE state IN ({places}) ORDER BY job.id LIMIT ?", (*states, most))]
+            return [
+                job_of(it)
+                for it in database.execute(
+                    f"{JOB} WHERE state IN ({places}) ORDER BY job.id LIMIT ?", (*states, most)
+                )
+            ]
 
     def begin(self, job: int, is_original: bool) -> bool:
         """Notes that a paper is printed now, and as what. False if another one became the original meanwhile, or the job waits no more."""
@@ -156,7 +183,10 @@ class Spool:
             row = database.execute(f"{JOB} WHERE job.id = ? AND state = 'waits'", (job,)).fetchone()
             if row is None or (is_original and job_of(row).is_original is False):
                 return False
-            database.execute("UPDATE job SET state = 'begun', why = '', is_original = ?, at = ? WHERE id = ?", (is_original, moment(), job))
+            database.execute(
+                "UPDATE job SET state = 'begun', why = '', is_original = ?, at = ? WHERE id = ?",
+                (is_original, moment(), job),
+            )
             if is_original:
                 database.execute("UPDATE paper SET is_spent = 1 WHERE id = ?", (row[1],))
             return True
@@ -165,10 +195,12 @@ class Spool:
         """Nothing came out: it waits again, as what it was."""
         with self._open() as database:
             database.execute(
-                "UPDATE paper SET is_spent = 0 WHERE id = (SELECT paper FROM job WHERE id = ? AND state = 'begun' AND is_original)", (job,)
+                "UPDATE paper SET is_spent = 0 WHERE id = (SELECT paper FROM job WHERE id = ? AND state = 'begun' AND is_original)",
+                (job,),
             )
             database.execute(
-                "UPDATE job SET state = 'waits', is_original = 0, why = ?, at = ? WHERE id = ? AND state = 'begun'", (why, moment(), job)
+                "UPDATE job SET state = 'waits', is_original = 0, why = ?, at = ? WHERE id = ? AND state = 'begun'",
+                (why, moment(), job),
             )
 
     def was_cut(self, job: int, why: str) -> None:
@@ -195,21 +227,34 @@ class Spool:
 
     def drop(self, job: int) -> bool:
         """One that waits, or failed, is printed no more."""
-        return self._becomes(job, "dropped", "", "waits") or self._becomes(job, "dropped", "", "failed")
+        return self._becomes(job, "dropped", "", "waits") or self._becomes(
+            job, "dropped", "", "failed"
+        )
 
     def _becomes(self, job: int, state: str, why: str, before: str) -> bool:
         with self._open() as database:
             words = (state, why, moment(), job, before)
-            return database.execute("UPDATE job SET state = ?, why = ?, at = ?, tries = 0 WHERE id = ? AND state = ?", words).rowcount == 1
+            return (
+                database.execute(
+                    "UPDATE job SET state = ?, why = ?, at = ?, tries = 0 WHERE id = ? AND state = ?",
+                    words,
+                ).rowcount
+                == 1
+            )
 
     # ---- other ways
 
     def elsewhere(self, paper: int) -> tuple[bool, tuple[tuple[str, str], ...]]:
         """Notes a print that somebody else makes, as a browser. Whether it is the original, and what the clerk gave."""
         with self._open() as database:
-            is_spent, given = database.execute("SELECT is_spent, given FROM paper WHERE id = ?", (paper,)).fetchone()
+            is_spent, given = database.execute(
+                "SELECT is_spent, given FROM paper WHERE id = ?", (paper,)
+            ).fetchone()
             words = (paper, BROWSER, not is_spent, moment())
-            database.execute("INSERT INTO job (paper, printer, state, is_original, at) VALUES (?, ?, 'printed', ?, ?)", words)
+            database.execute(
+                "INSERT INTO job (paper, printer, state, is_original, at) VALUES (?, ?, 'printed', ?, ?)",
+                words,
+            )
             database.execute("UPDATE paper SET is_spent = 1 WHERE id = ?", (paper,))
         return not is_spent, given_in(given)
 
@@ -228,7 +273,9 @@ def refuse_strange_root(folder: Path) -> None:
     """Files that root makes in another user's folder would keep that user out, or be made where that user's links lead."""
     for it in (folder.absolute(), *folder.absolute().parents):
         if os.geteuid() == 0 and os.path.lexists(it) and (owner := it.lstat().st_uid) != 0:
-            raise PermissionError(f"{it} belongs to the user {owner}: run this as that user, by runuser -u")
+            raise PermissionError(
+                f"{it} belongs to the user {owner}: run this as that user, by runuser -u"
+            )
 
 
 def cut(database: sqlite3.Connection, why: str, which: str, value: int | str) -> None:
@@ -241,7 +288,10 @@ def cut(database: sqlite3.Connection, why: str, which: str, value: int | str) ->
 
 def paper_id(database: sqlite3.Connection, text: Text) -> int | None:
     own = text.own
-    row = database.execute("SELECT id FROM paper WHERE (serial, number, digest) = (?, ?, ?)", (own.serial, own.number, own.digest)).fetchone()
+    row = database.execute(
+        "SELECT id FROM paper WHERE (serial, number, digest) = (?, ?, ?)",
+        (own.serial, own.number, own.digest),
+    ).fetchone()
     return None if row is None else int(row[0])
 
 
@@ -259,8 +309,12 @@ def stored(letters: str) -> Text:
     try:
         return read_text(letters)
     except NoText as fault:
-        raise OSError(f"papers.db has a text that was changed: {fault}: move the file away") from None
+        raise OSError(
+            f"papers.db has a text that was changed: {fault}: move the file away"
+        ) from None
 
 
 def moment(days: int = 0) -> str:
-    return (datetime.datetime.now(datetime.timezone.utc) + datetime.timedelta(days)).strftime("%Y-%m-%d %H:%M:%S")
+    return (datetime.datetime.now(datetime.timezone.utc) + datetime.timedelta(days)).strftime(
+        "%Y-%m-%d %H:%M:%S"
+    )

@@ -66,13 +66,19 @@ def read_text(letters: str) -> Text:
         raise NoText(f"it has more than {LONGEST} bytes")
     head, blocks = HEAD.match(letters), list(BLOCK.finditer(letters))
     if head is None or not blocks:
-        raise NoText(f"it doesn't have the form of a slip or ticket; it begins with {letters.split(chr(10))[0][:40]!r}")
+        raise NoText(
+            f"it doesn't have the form of a slip or ticket; it begins with {letters.split(chr(10))[0][:40]!r}"
+        )
     net = NET.match(letters, blocks[-1].end())
-    found = Text(letters, head[3], tuple(weighing_of(it) for it in blocks), kg_of(net[1]) if net else None)
+    found = Text(
+        letters, head[3], tuple(weighing_of(it) for it in blocks), kg_of(net[1]) if net else None
+    )
     if (wrong := fault_of(found)) is not None:
         raise NoText(wrong)
     if letters != written(found):
-        raise NoText(f"it doesn't have the office's form: {first_difference(letters, written(found))}")
+        raise NoText(
+            f"it doesn't have the office's form: {first_difference(letters, written(found))}"
+        )
     return found
 
 
@@ -85,11 +91,23 @@ def kg_of(text: str) -> int:
 
 def weighing_of(block: re.Match[str]) -> Weighing:
     try:
-        at = datetime.datetime.strptime(block[3], "%Y-%m-%d %H:%M:%S").replace(tzinfo=datetime.timezone.utc)
+        at = datetime.datetime.strptime(block[3], "%Y-%m-%d %H:%M:%S").replace(
+            tzinfo=datetime.timezone.utc
+        )
     except ValueError:
         raise NoText(f"there is no such moment: {block[3]}") from None
     gross, preset = (kg_of(block[it]) if block[it] else None for it in (4, 5))
-    return Weighing(block[1].lower(), int(block[2]), at, gross, preset, int(block[6]), int(block[7]), block[8], block[9])
+    return Weighing(
+        block[1].lower(),
+        int(block[2]),
+        at,
+        gross,
+        preset,
+        int(block[6]),
+        int(block[7]),
+        block[8],
+        block[9],
+    )
 
 
 def fault_of(text: Text) -> str | None:
@@ -98,18 +116,31 @@ def fault_of(text: Text) -> str | None:
     if kinds not in (("first",), ("void",), ("single",), ("first", "second")):
         return f"no slip and no ticket has these entries: {', '.join(kinds)}"
     for it in text.weighings:
-        if not 0 < it.number <= LAST_NUMBER or it.interval not in INTERVALS or not 0 < it.max <= MOST_MAX or it.at.timestamp() > LAST_MOMENT:
+        if (
+            not 0 < it.number <= LAST_NUMBER
+            or it.interval not in INTERVALS
+            or not 0 < it.max <= MOST_MAX
+            or it.at.timestamp() > LAST_MOMENT
+        ):
             return f"number {it.number} has a number, interval, Max or moment that no entry has"
-        if (it.gross is None) != (it.kind == "void") or (it.preset is None) != (it.kind != "single"):
+        if (it.gross is None) != (it.kind == "void") or (it.preset is None) != (
+            it.kind != "single"
+        ):
             return f"number {it.number} has a weight too many, or one too few"
         if not all(0 < kg <= MOST_KG for kg in (it.gross, it.preset) if kg is not None):
             return f"number {it.number} has a weight that no entry has"
         if any(kg % it.interval for kg in (it.gross, it.preset) if kg is not None):
             return f"number {it.number} has a weight that is no multiple of its interval of {it.interval} kg"
-    if len(text.weighings) == 2 and (text.weighings[0].number >= own.number or text.weighings[0].at > own.at):
+    if len(text.weighings) == 2 and (
+        text.weighings[0].number >= own.number or text.weighings[0].at > own.at
+    ):
         return "its First doesn't stand before it"
     if text.net != (wanted := net_of(text.weighings)):
-        return f"its net is {text.net} kg, but its weights give {wanted} kg" if wanted is not None else "its net is none of its weights"
+        return (
+            f"its net is {text.net} kg, but its weights give {wanted} kg"
+            if wanted is not None
+            else "its net is none of its weights"
+        )
     if wanted is not None and own.kind == "single" and wanted <= 0:
         return "its preset tare isn't below its gross"
     return None
@@ -173,9 +204,15 @@ def check_digests(text: Text, keys: Mapping[int, str], digests: Mapping[int, str
             raise NoText(f"number {it.number} has another digest than is known of it")
         previous = known.get(it.number - 1, ZEROS if it.number == 1 else None)
         if it.number not in keys:
-            said.append(f"the digest of number {it.number} can't be made again: its key isn't known")
+            said.append(
+                f"the digest of number {it.number} can't be made again: its key isn't known"
+            )
         elif previous is None:
-            said.append(f"the digest of number {it.number} can't be made again: that of number {it.number - 1} isn't known")
+            said.append(
+                f"the digest of number {it.number} can't be made again: that of number {it.number - 1} isn't known"
+            )
         elif digest_of(it, text.plate, keys[it.number], previous) != it.digest:
-            raise NoText(f"the digest of number {it.number} isn't that of its fields: the text was changed, or its key is another")
+            raise NoText(
+                f"the digest of number {it.number} isn't that of its fields: the text was changed, or its key is another"
+            )
     return said

@@ -13,13 +13,28 @@ WORDS: dict[str, tuple[str, str, str, str]] = {
     "ticket": ("Weighing ticket", "Wiegeschein", "Bon de pesage", "Vale de pesaje"),
     "first": ("First weighing", "Erstwägung", "Première pesée", "Primera pesada"),
     "second": ("Second weighing", "Zweitwägung", "Deuxième pesée", "Segunda pesada"),
-    "single": ("Weighing with a preset tare", "Wägung mit Vorgabetara", "Pesée avec tare prédéterminée", "Pesada con tara predeterminada"),
+    "single": (
+        "Weighing with a preset tare",
+        "Wägung mit Vorgabetara",
+        "Pesée avec tare prédéterminée",
+        "Pesada con tara predeterminada",
+    ),
     "void": ("Withdrawal", "Stornierung", "Annulation", "Anulación"),
     "plate": ("Plate", "Kennzeichen", "Immatriculation", "Matrícula"),
     "net": ("Net", "Netto", "Net", "Neto"),
     "gross": ("Gross", "Brutto", "Brut", "Bruto"),
-    "preset": ("Preset tare (PT)", "Vorgabetara (PT)", "Tare prédéterminée (PT)", "Tara predeterminada (PT)"),
-    "withdrawn": ("The weighing is withdrawn", "Die Wägung ist storniert", "La pesée est annulée", "La pesada está anulada"),
+    "preset": (
+        "Preset tare (PT)",
+        "Vorgabetara (PT)",
+        "Tare prédéterminée (PT)",
+        "Tara predeterminada (PT)",
+    ),
+    "withdrawn": (
+        "The weighing is withdrawn",
+        "Die Wägung ist storniert",
+        "La pesée est annulée",
+        "La pesada está anulada",
+    ),
     "number": ("No", "Nr.", "Nº", "N.º"),
     "given": (
         "Given by the clerk. No part of the weighing.",
@@ -36,7 +51,12 @@ WORDS: dict[str, tuple[str, str, str, str]] = {
         "La pesée, lettre pour lettre. Ce texte fait foi.",
         "La pesada, letra por letra. Este texto da fe.",
     ),
-    "wrapped": ("> goes on the line above", "> setzt die Zeile darüber fort", "> continue la ligne au-dessus", "> continúa la línea de arriba"),
+    "wrapped": (
+        "> goes on the line above",
+        "> setzt die Zeile darüber fort",
+        "> continue la ligne au-dessus",
+        "> continúa la línea de arriba",
+    ),
     "code": ("Number and digest", "Nummer und Prüfsumme", "Numéro et empreinte", "Número y huella"),
     "duplicate": ("DUPLICATE", "DUPLIKAT", "DUPLICATA", "DUPLICADO"),
     "copy": ("COPY", "KOPIE", "COPIE", "COPIA"),
@@ -61,7 +81,10 @@ def kg(value: int, language: str) -> str:
 def local(at: datetime.datetime, zone: zoneinfo.ZoneInfo, language: str) -> str:
     """The moment in its zone, with the zone's name there and how far it is from UTC."""
     there = at.astimezone(zone)
-    day = {"en": f"{there.day} {MONTHS[there.month - 1]} {there.year:04}", "de": there.strftime("%d.%m.%Y")}.get(language, there.strftime("%d/%m/%Y"))
+    day = {
+        "en": f"{there.day} {MONTHS[there.month - 1]} {there.year:04}",
+        "de": there.strftime("%d.%m.%Y"),
+    }.get(language, there.strftime("%d/%m/%Y"))
     offset = there.strftime("%z")
     name = there.strftime("%Z")
     far = f"{offset[:3]}:{offset[3:5]}"

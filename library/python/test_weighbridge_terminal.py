@@ -26,8 +26,12 @@ class Weighing(unittest.TestCase):
         self.assertEqual(terminal.reading(2500), [])
         self.assertEqual(terminal.indication(), Indication("MOVING", 5000, 5000))
         self.assertEqual(terminal.send("S\r\n"), [])
-        self.assertEqual([terminal.reading(9170) for _ in range(4)], [[], [], [], ["S S      18340 kg"]])
-        self.assertEqual(terminal.send("TA 5000 kg\r\nSI\r\n"), ["TA A       5000 kg", "S S      13340 kg"])
+        self.assertEqual(
+            [terminal.reading(9170) for _ in range(4)], [[], [], [], ["S S      18340 kg"]]
+        )
+        self.assertEqual(
+            terminal.send("TA 5000 kg\r\nSI\r\n"), ["TA A       5000 kg", "S S      13340 kg"]
+        )
         self.assertEqual(terminal.indication(), Indication("STABLE", 18340, 13340))
         self.assertTrue(terminal.indication().is_stable)
 
@@ -139,7 +143,9 @@ class Setups(unittest.TestCase):
             {"interval_kg": 1, "max_kg": 500},
         ):
             self.assertEqual(Terminal(**parts).setup, Setup(**parts))
-        self.assertEqual(Terminal(Setup(serial="A1B2C3D4E5F6G7H8")).send("I4\n"), ['I4 A "A1B2C3D4E5F6G7H8"'])
+        self.assertEqual(
+            Terminal(Setup(serial="A1B2C3D4E5F6G7H8")).send("I4\n"), ['I4 A "A1B2C3D4E5F6G7H8"']
+        )
 
     def test_takes_either_a_setup_or_parts(self):
         with self.assertRaises(TypeError):
@@ -148,7 +154,14 @@ class Setups(unittest.TestCase):
             Terminal(retention=90)
 
     def test_refuses_values_of_other_types(self):
-        rows = [{"interval_kg": "20"}, {"max_kg": 60000.0}, {"window": b"4"}, {"serial": 7}, {"serial": b"WB01"}, {"setup": {"window": 4}}]
+        rows = [
+            {"interval_kg": "20"},
+            {"max_kg": 60000.0},
+            {"window": b"4"},
+            {"serial": 7},
+            {"serial": b"WB01"},
+            {"setup": {"window": 4}},
+        ]
         for parts in rows:
             with self.assertRaises(TypeError, msg=parts):
                 Terminal(**parts)
@@ -182,7 +195,9 @@ class Objects(unittest.TestCase):
         self.assertIs(terminal.indication().state, State.NO_LOAD)
         steady(terminal, 9170)
         self.assertIs(terminal.indication().state, State.STABLE)
-        self.assertEqual([str(it) for it in State], ["NO LOAD", "OVERLOAD", "UNDERLOAD", "MOVING", "STABLE"])
+        self.assertEqual(
+            [str(it) for it in State], ["NO LOAD", "OVERLOAD", "UNDERLOAD", "MOVING", "STABLE"]
+        )
         self.assertEqual(f"{State.NO_LOAD}", "NO LOAD")
 
     def test_keeps_the_lock_of_the_interpreter(self):

@@ -23,7 +23,16 @@ import operator
 import os
 from typing import Any, NamedTuple, Optional, Union
 
-__all__ = ["Indication", "Part", "Setup", "SetupError", "State", "Terminal", "VERSION", "__version__"]
+__all__ = [
+    "Indication",
+    "Part",
+    "Setup",
+    "SetupError",
+    "State",
+    "Terminal",
+    "VERSION",
+    "__version__",
+]
 __version__ = "2.1.1"
 
 # The library's file, which changes its number only if this module has to change with it.
@@ -36,19 +45,26 @@ BYTES_A_CALL = 65_536
 
 
 class _CSetup(ctypes.Structure):
-    _fields_ = [(name, ctypes.c_uint32) for name in ("interval_kg", "max_kg", "window", "band", "pace", "wait")] + [
-        ("serial", ctypes.c_char * SERIAL_BYTES)
-    ]
+    _fields_ = [
+        (name, ctypes.c_uint32)
+        for name in ("interval_kg", "max_kg", "window", "band", "pace", "wait")
+    ] + [("serial", ctypes.c_char * SERIAL_BYTES)]
 
 
 class _CIndication(ctypes.Structure):
-    _fields_ = [("state", ctypes.c_uint32), ("gross_kg", ctypes.c_int32), ("net_kg", ctypes.c_int32)]
+    _fields_ = [
+        ("state", ctypes.c_uint32),
+        ("gross_kg", ctypes.c_int32),
+        ("net_kg", ctypes.c_int32),
+    ]
 
 
 def _path() -> str:
     """The library that a variable names, or that lies beside this module, or else the system's."""
     beside = os.path.join(os.path.dirname(os.path.abspath(__file__)), FILE)
-    return os.environ.get("WEIGHBRIDGE_TERMINAL_LIBRARY") or (beside if os.path.exists(beside) else FILE)
+    return os.environ.get("WEIGHBRIDGE_TERMINAL_LIBRARY") or (
+        beside if os.path.exists(beside) else FILE
+    )
 
 
 def _load(path: str) -> ctypes.PyDLL:
@@ -56,7 +72,9 @@ def _load(path: str) -> ctypes.PyDLL:
     try:
         library = ctypes.PyDLL(path)
     except OSError as fault:
-        raise ImportError(f"{fault}; install libweighbridge-terminal2, or name the library by WEIGHBRIDGE_TERMINAL_LIBRARY") from None
+        raise ImportError(
+            f"{fault}; install libweighbridge-terminal2, or name the library by WEIGHBRIDGE_TERMINAL_LIBRARY"
+        ) from None
     types = {
         "version": (ctypes.c_uint32, []),
         "size": (ctypes.c_size_t, []),
@@ -67,7 +85,10 @@ def _load(path: str) -> ctypes.PyDLL:
         "bytes": (ctypes.c_size_t, [ctypes.c_void_p, ctypes.c_void_p, ctypes.c_size_t]),
         "hang_up": (ctypes.c_uint32, [ctypes.c_void_p]),
         "replies": (ctypes.c_size_t, [ctypes.c_void_p]),
-        "reply": (ctypes.c_size_t, [ctypes.c_void_p, ctypes.c_size_t, ctypes.c_void_p, ctypes.c_size_t]),
+        "reply": (
+            ctypes.c_size_t,
+            [ctypes.c_void_p, ctypes.c_size_t, ctypes.c_void_p, ctypes.c_size_t],
+        ),
         "indicate": (ctypes.c_uint32, [ctypes.c_void_p, ctypes.POINTER(_CIndication)]),
     }
     for name, (result, arguments) in types.items():
@@ -235,7 +256,9 @@ class Terminal:
         """Takes a reading of the load converter, in tenths of e from -2,000,000 to 2,000,000; None is a reading that failed, and so is any
         other number. Returns the replies at it, without their CR LF."""
         load = LOST if tenths is None else _whole("a reading", tenths)
-        _library.weighbridge_terminal_reading(self._at, load if -(2**63) <= load < 2**63 else LOST)
+        _library.weighbridge_terminal_reading(
+            self._at, load if -(2**63) <= load < 2**63 else LOST
+        )
         return self._replies()
 
     def lost(self) -> list[str]:
@@ -252,7 +275,9 @@ class Terminal:
         replies: list[str] = []
         taken = 0
         while taken < len(data):
-            taken += _library.weighbridge_terminal_bytes(self._at, ctypes.addressof(held) + taken, min(BYTES_A_CALL, len(data) - taken))
+            taken += _library.weighbridge_terminal_bytes(
+                self._at, ctypes.addressof(held) + taken, min(BYTES_A_CALL, len(data) - taken)
+            )
             replies += self._replies()
         return replies
 

@@ -1,7 +1,7 @@
 #!/usr/bin/env python3
 """Repairs flipped bits in a copy of a journal's log, at most one in each frame. Use it if the program refuses the log because it is damaged.
 
-  clients/mend_log.py /var/lib/weighbridge/journal.db /srv/mended
+  inspect/mend_log.py /var/lib/weighbridge/journal.db /srv/mended
 
 Every frame of a log has a checksum of everything before it. So this program goes to the first damaged place, which is the log's header or a frame,
 and turns over each bit there, one at a time. It repeats this at the next damaged place until each frame is whole. If more than eight places are
@@ -48,8 +48,12 @@ class Log(verify.Log):
 
     def is_end(self, at):
         """Return True if the log may end at byte `at`, because a frame there was never finished or is of an earlier log."""
-        frame = self.data[at:at + self.length]
-        return len(frame) < self.length or frame[8] == 0 or sum(a != b for a, b in zip(frame[8:16], self.salts)) > 1
+        frame = self.data[at : at + self.length]
+        return (
+            len(frame) < self.length
+            or frame[8] == 0
+            or sum(a != b for a, b in zip(frame[8:16], self.salts)) > 1
+        )
 
     def is_counted(self, at):
         """Return True if the commit with the frame at byte `at` counts nothing, or has what it counted.
@@ -57,19 +61,27 @@ class Log(verify.Log):
         It counts its zeros, and how far its numbers are below the number of the frame that counts.
         """
         begin = at
-        while begin > HEADER and not any(self.data[begin - self.length + 4:begin - self.length + 8]):
+        while begin > HEADER and not any(
+            self.data[begin - self.length + 4 : begin - self.length + 8]
+        ):
             begin -= self.length
-        if self.data[begin:begin + 4] != COUNT:
+        if self.data[begin : begin + 4] != COUNT:
             return True
         found, it, counted = 0, begin, FRAME_HEADER + 8
         while True:
-            frame = self.data[it:it + self.length]
-            found += frame[counted:].count(0) + int.from_bytes(COUNT, "big") - int.from_bytes(frame[:4], "big")
+            frame = self.data[it : it + self.length]
+            found += (
+                frame[counted:].count(0)
+                + int.from_bytes(COUNT, "big")
+                - int.from_bytes(frame[:4], "big")
+            )
             if any(frame[4:8]) or len(frame) < self.length:
                 break
             it, counted = it + self.length, FRAME_HEADER
         found += int.from_bytes(COUNT, "big") - int.from_bytes(frame[4:8], "big")
-        return found == int.from_bytes(self.data[begin + FRAME_HEADER:begin + FRAME_HEADER + 8], "big")
+        return found == int.from_bytes(
+            self.data[begin + FRAME_HEADER : begin + FRAME_HEADER + 8], "big"
+        )
 
     def first_damage(self):
         """Return the byte where the first frame that isn't whole begins. Return None if each frame up to the log's end is whole."""
@@ -88,8 +100,12 @@ class Log(verify.Log):
         if stop is not None:
             salts = self.frame(stop[0])[8:16]
             is_open = salts[0] == self.salts[0]
-            if (is_open and not self.is_torn(*stop)) or (not is_open and salts[0] != 0 and salts[1:] == self.salts[1:]):
-                return f"the frame from byte {stop[0]} isn't of this log, and no power cut leaves it"
+            if (is_open and not self.is_torn(*stop)) or (
+                not is_open and salts[0] != 0 and salts[1:] == self.salts[1:]
+            ):
+                return (
+                    f"the frame from byte {stop[0]} isn't of this log, and no power cut leaves it"
+                )
         return damage
 
 
@@ -105,7 +121,11 @@ def is_mended_at(log, at):
 
     If the log ends behind the frame, there needn't be a next one.
     """
-    return log.is_whole(at) and (log.is_whole(at + log.length) or log.is_end(at + log.length)) and log.is_counted(at)
+    return (
+        log.is_whole(at)
+        and (log.is_whole(at + log.length) or log.is_end(at + log.length))
+        and log.is_counted(at)
+    )
 
 
 def bits_of_header(data):
@@ -122,7 +142,7 @@ def bits_of_frame(log, at):
 
     If there is none, return each bit that makes the frame itself whole.
     """
-    frame = log.data[at:at + log.length]
+    frame = log.data[at : at + log.length]
     content, stored = frame[:8] + frame[FRAME_HEADER:], struct.unpack(">2I", frame[16:24])
     total = checksum(log.order, log.sum_before(at), content)
     found = []
@@ -133,7 +153,9 @@ def bits_of_frame(log, at):
         other = turned(frame[:FRAME_HEADER], bit)
         if other[8:16] == log.salts and struct.unpack(">2I", other[16:24]) == total:
             found.append(bit)
-    whole = [8 * at + bit for bit in sorted(found) if Log(turned(log.data, 8 * at + bit)).is_whole(at)]
+    whole = [
+        8 * at + bit for bit in sorted(found) if Log(turned(log.data, 8 * at + bit)).is_whole(at)
+    ]
     return [bit for bit in whole if is_mended_at(Log(turned(log.data, bit)), at)] or whole
 
 
@@ -152,7 +174,9 @@ def bits_by_checksum(order, content, first, second):
                 if (one * change) & 0xFFFFFFFF == first and (other * change) & 0xFFFFFFFF == second:
                     byte = bit // 8 if order == "<" else 3 - bit // 8
                     yield 8 * (4 * index + byte) + bit % 8
-        weights = [((one + other) & 0xFFFFFFFF, (one + 2 * other) & 0xFFFFFFFF) for one, other in weights]
+        weights = [
+            ((one + other) & 0xFFFFFFFF, (one + 2 * other) & 0xFFFFFFFF) for one, other in weights
+        ]
 
 
 class Stuck(Exception):
@@ -168,7 +192,9 @@ def ways(data, bits=()):
     if len(bits) == MOST_BITS:
         raise Stuck(f"more than {MOST_BITS} places are damaged")
     found = bits_of_frame(log, at) if at else bits_of_header(data)
-    made, stuck = [], Stuck(f"in {where_of(at)} 0 single bits could be the flipped one, and it has to be one")
+    made, stuck = [], Stuck(
+        f"in {where_of(at)} 0 single bits could be the flipped one, and it has to be one"
+    )
     for bit in found:
         try:
             made += ways(turned(data, bit), (*bits, bit))
@@ -201,16 +227,21 @@ def faults_of(files):
             journal = verify.Journal(path)
         except (ValueError, sqlite3.Error, Unreadable) as fault:
             return [str(fault)]
-        found = [*journal.faults_of_files(), *journal.faults_of_rows(), *journal.faults_of_chain(), *journal.faults_of_newest()]
+        found = [
+            *journal.faults_of_files(),
+            *journal.faults_of_rows(),
+            *journal.faults_of_chain(),
+            *journal.faults_of_newest(),
+        ]
         return [it.replace(path, "the copy") for it in found]
 
 
 def stands_again(log, at):
     """Return True if a later commit of the log wrote the page of the frame at byte `at` again."""
-    page, it, last = log.data[at:at + 4], at + log.length, 0
+    page, it, last = log.data[at : at + 4], at + log.length, 0
     while log.is_whole(it):
-        last = it if log.data[it:it + 4] == page else last
-        if any(log.data[it + 4:it + 8]) and last:
+        last = it if log.data[it : it + 4] == page else last
+        if any(log.data[it + 4 : it + 8]) and last:
             return True
         it += log.length
     return False
@@ -230,12 +261,21 @@ def flipped_bits(files):
     if found == [()]:
         sys.exit("nothing was written: no frame of the log is damaged")
     if len(found) > 1:
-        found = [it for it in found if not faults_of({**files, "-wal": with_bits(data, it)})] or found
+        found = [
+            it for it in found if not faults_of({**files, "-wal": with_bits(data, it)})
+        ] or found
     last = place_of(Log(with_bits(data, found[0])), found[0][-1])
-    if len(found) > 1 and len({it[:-1] for it in found}) == 1 and last and stands_again(Log(with_bits(data, found[0])), last):
+    if (
+        len(found) > 1
+        and len({it[:-1] for it in found}) == 1
+        and last
+        and stands_again(Log(with_bits(data, found[0])), last)
+    ):
         found = found[:1]
     if len(found) != 1:
-        sys.exit(f"nothing was written: in {where_of(last)} {len(found)} single bits could be the flipped one, and it has to be one")
+        sys.exit(
+            f"nothing was written: in {where_of(last)} {len(found)} single bits could be the flipped one, and it has to be one"
+        )
     return found[0]
 
 
@@ -250,10 +290,16 @@ def asked_program(program, copy):
     if program is None:
         return []
     try:
-        it = subprocess.run([program, "check", "--file", copy], capture_output=True, text=True, timeout=600)
+        it = subprocess.run(
+            [program, "check", "--file", copy], capture_output=True, text=True, timeout=600
+        )
     except (OSError, subprocess.SubprocessError) as fault:
         return [f"{program} can't be run: {fault}"]
-    return [] if it.returncode == 0 else [f"{program} check --file {copy}: {' '.join((it.stdout + it.stderr).split())}"]
+    return (
+        []
+        if it.returncode == 0
+        else [f"{program} check --file {copy}: {' '.join((it.stdout + it.stderr).split())}"]
+    )
 
 
 def read(path):
@@ -272,12 +318,16 @@ def mend(path, folder, program):
     """Write the repaired copy, and print what was done and what is still wrong. Return the exit status."""
     data = {end: read(path + end) for end in BESIDE if end == "-wal" or os.path.exists(path + end)}
     if not data.get(""):
-        sys.exit("nothing was written: the journal's file is missing or empty, and no bit of its log repairs that")
+        sys.exit(
+            "nothing was written: the journal's file is missing or empty, and no bit of its log repairs that"
+        )
     bits = flipped_bits(data)
     before, data["-wal"] = data["-wal"], with_bits(data["-wal"], bits)
     log = Log(data["-wal"])
     if (refusal := log.refusal(len(data[""]))) is not None:
-        sys.exit(f"nothing was written: {len(bits)} flipped bits are found, and the program still refuses the log: {refusal}")
+        sys.exit(
+            f"nothing was written: {len(bits)} flipped bits are found, and the program still refuses the log: {refusal}"
+        )
     os.mkdir(folder, 0o700)
     copy = os.path.join(folder, os.path.basename(path))
     try:
@@ -288,7 +338,9 @@ def mend(path, folder, program):
         raise
     for bit in bits:
         byte = bit // 8
-        print(f"{path}-wal: bit {bit % 8} of byte {byte}, in {where_of(place_of(log, bit))}, was flipped: {before[byte]:#04x} is {data['-wal'][byte]:#04x} in the copy")
+        print(
+            f"{path}-wal: bit {bit % 8} of byte {byte}, in {where_of(place_of(log, bit))}, was flipped: {before[byte]:#04x} is {data['-wal'][byte]:#04x} in the copy"
+        )
     print(f"damaged log, SHA-256 {hashlib.sha256(before).hexdigest()}")
     print(f"repaired log, SHA-256 {hashlib.sha256(data['-wal']).hexdigest()}")
     left = faults_of(data) + asked_program(program, copy)
@@ -300,10 +352,16 @@ def mend(path, folder, program):
 
 
 def main():
-    parser = argparse.ArgumentParser(description=__doc__, formatter_class=argparse.RawDescriptionHelpFormatter)
+    parser = argparse.ArgumentParser(
+        description=__doc__, formatter_class=argparse.RawDescriptionHelpFormatter
+    )
     parser.add_argument("journal", help="the journal's file, whose log is refused")
     parser.add_argument("folder", help="the folder to make for the repaired copy")
-    parser.add_argument("--program", default=shutil.which("weighbridge"), help="the program that checks the copy; weighbridge, if that is in the PATH")
+    parser.add_argument(
+        "--program",
+        default=shutil.which("weighbridge"),
+        help="the program that checks the copy; weighbridge, if that is in the PATH",
+    )
     words = parser.parse_args()
     try:
         return mend(words.journal, words.folder, words.program)

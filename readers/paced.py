@@ -28,7 +28,11 @@ class Told:
 
     def counts(self, counts):
         if self.failed:
-            print(f"{self.name}: readings are back, after {self.failed} lost ones", file=sys.stderr, flush=True)
+            print(
+                f"{self.name}: readings are back, after {self.failed} lost ones",
+                file=sys.stderr,
+                flush=True,
+            )
             self.failed = 0
         self.line(counts)
 
@@ -55,7 +59,8 @@ def from_middle(raw, bits):
 
 def print_readings(name, given, read):
     """Prints the counts that `read` gives at the pace, and `lost` where it raises Lost. It gives when it asked for them, too: held up for longer
-    than the time-out, as where this machine stood still, they are old. What took too long isn't made up for."""
+    than the time-out, as where this machine stood still, they are old. What took too long isn't made up for.
+    """
     told, due = Told(name), time.monotonic()
     while True:
         try:
@@ -72,8 +77,17 @@ def print_readings(name, given, read):
 def words(description):
     """The words that each reader has: what it is read from is added to them."""
     it = argparse.ArgumentParser(description=description)
-    it.add_argument("--pace", type=float, default=10, help="readings a second, a rate that the device keeps up with, and the service's --pace too (10)")
-    it.add_argument("--timeout", type=float, help="seconds after which a reading is lost: longer than the device takes (a period of the pace and 0.15)")
+    it.add_argument(
+        "--pace",
+        type=float,
+        default=10,
+        help="readings a second, a rate that the device keeps up with, and the service's --pace too (10)",
+    )
+    it.add_argument(
+        "--timeout",
+        type=float,
+        help="seconds after which a reading is lost: longer than the device takes (a period of the pace and 0.15)",
+    )
     return it
 
 
