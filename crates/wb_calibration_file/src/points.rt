@@ -11,8 +11,7 @@ ghost use Rattle.wb_calibration_file.specs.helpers.Behind.{IsBehindPoints};
 use arrayvec::{ArrayString, ArrayVec};
 use itoa::Buffer;
 use wb_calibration::{MOST_POINTS, Point};
-use wb_sources::number;
-use wb_text::split_at_first;
+use wb_input::{number, split_at_first};
 
 /// The points that are read at most: one more than a calibration has, so that its fault can be told.
 pub const MOST_READ: usize = MOST_POINTS + 1;

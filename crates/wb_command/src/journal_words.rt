@@ -1,5 +1,5 @@
 //! The words of what is asked of a journal's file.
-use crate::words::Asked;
+use crate::words::Invocation;
 use clap::{Arg, ArgAction, ArgMatches, Command};
 use std::alloc::{AllocError, Global};
 
@@ -89,24 +89,27 @@ pub(crate) fn file(alloc: Global, words: &ArgMatches<'_>) -> Result<Option<Strin
 }
 
 /// From which file into which a journal is to be brought over. Nothing if a file isn't named, which `clap` doesn't let through.
-pub(crate) fn migration_of(alloc: Global, words: &ArgMatches<'_>) -> Result<Asked, AllocError> {
+pub(crate) fn migration_of(
+    alloc: Global,
+    words: &ArgMatches<'_>,
+) -> Result<Invocation, AllocError> {
     let Some(from) = file(alloc, words)? else {
-        return Ok(Asked::Nothing);
+        return Ok(Invocation::Nothing);
     };
     match words.get_str("to") {
-        Some(to) => Ok(Asked::Migrate(from, String::from_str(alloc, to)?)),
-        None => Ok(Asked::Nothing),
+        Some(to) => Ok(Invocation::Migrate(from, String::from_str(alloc, to)?)),
+        None => Ok(Invocation::Nothing),
     }
 }
 
 /// What the words of an export ask for. Nothing if they name no file or neither table, which `clap` doesn't let through.
-pub(crate) fn export_of(alloc: Global, words: &ArgMatches<'_>) -> Result<Asked, AllocError> {
+pub(crate) fn export_of(alloc: Global, words: &ArgMatches<'_>) -> Result<Invocation, AllocError> {
     let Some(file) = file(alloc, words)? else {
-        return Ok(Asked::Nothing);
+        return Ok(Invocation::Nothing);
     };
     match words.get_str("what") {
-        Some("journal") => Ok(Asked::ExportJournal(file)),
-        Some("tickets") => Ok(Asked::ExportTickets(file)),
-        _ => Ok(Asked::Nothing),
+        Some("journal") => Ok(Invocation::ExportJournal(file)),
+        Some("tickets") => Ok(Invocation::ExportTickets(file)),
+        _ => Ok(Invocation::Nothing),
     }
 }

@@ -20,7 +20,7 @@ takes four readings of 9170 tenths of e and a request for the weight, and prints
 
 /// What the words of the command line ask for.
 #[derive(Drop)]
-pub enum Asked {
+pub enum Invocation {
     /// A trace is to be replayed with this instrument.
     Replay(Instrument),
     /// A bridge with this instrument is to be served.
@@ -42,52 +42,52 @@ pub enum Asked {
 }
 
 /// What these words ask for, the name of the program first.
-pub fn read_words(alloc: Global, words: &[String]) -> Result<Asked, AllocError> {
+pub fn read_words(alloc: Global, words: &[String]) -> Result<Invocation, AllocError> {
     let matches = match command(alloc)?.try_get_matches_from(words) {
         Ok(matches) => matches,
-        Err(error) => return Ok(Asked::WordsRefused(error)),
+        Err(error) => return Ok(Invocation::WordsRefused(error)),
     };
     match matches.subcommand() {
         Some((name, words)) => asked_of(alloc, name, words),
-        None => Ok(Asked::Nothing),
+        None => Ok(Invocation::Nothing),
     }
 }
 
 /// What the words of this subcommand ask for.
-fn asked_of(alloc: Global, name: &str, words: &ArgMatches<'_>) -> Result<Asked, AllocError> {
+fn asked_of(alloc: Global, name: &str, words: &ArgMatches<'_>) -> Result<Invocation, AllocError> {
     match name {
         "replay" => Ok(replay_of(words)),
         "serve" => serve_of(alloc, words),
         "check" => check_of(alloc, words),
         "export" => export_of(alloc, words),
         "migrate" => migration_of(alloc, words),
-        _ => Ok(Asked::Nothing),
+        _ => Ok(Invocation::Nothing),
     }
 }
 
-fn replay_of(words: &ArgMatches<'_>) -> Asked {
+fn replay_of(words: &ArgMatches<'_>) -> Invocation {
     match instrument(words) {
-        Some(Ok(instrument)) => Asked::Replay(instrument),
-        Some(Err(fault)) => Asked::SetupRefused(fault),
-        None => Asked::Nothing,
+        Some(Ok(instrument)) => Invocation::Replay(instrument),
+        Some(Err(fault)) => Invocation::SetupRefused(fault),
+        None => Invocation::Nothing,
     }
 }
 
-fn serve_of(alloc: Global, words: &ArgMatches<'_>) -> Result<Asked, AllocError> {
+fn serve_of(alloc: Global, words: &ArgMatches<'_>) -> Result<Invocation, AllocError> {
     match instrument(words) {
         Some(Ok(instrument)) => match service_of(alloc, words)? {
-            Some(service) => Ok(Asked::Serve(instrument, service)),
-            None => Ok(Asked::Nothing),
+            Some(service) => Ok(Invocation::Serve(instrument, service)),
+            None => Ok(Invocation::Nothing),
         },
-        Some(Err(fault)) => Ok(Asked::SetupRefused(fault)),
-        None => Ok(Asked::Nothing),
+        Some(Err(fault)) => Ok(Invocation::SetupRefused(fault)),
+        None => Ok(Invocation::Nothing),
     }
 }
 
-fn check_of(alloc: Global, words: &ArgMatches<'_>) -> Result<Asked, AllocError> {
+fn check_of(alloc: Global, words: &ArgMatches<'_>) -> Result<Invocation, AllocError> {
     match file(alloc, words)? {
-        Some(file) => Ok(Asked::Check(file)),
-        None => Ok(Asked::Nothing),
+        Some(file) => Ok(Invocation::Check(file)),
+        None => Ok(Invocation::Nothing),
     }
 }
 

@@ -3,8 +3,8 @@ use Rattle.std.specs.Prelude.{Bool, true, false, Option, IsSome, IsTrue}
 use Rattle.std.specs.declared.time.Instant.{Instant}
 use Rattle.wb_connections.specs.declared.source.Source.{Source}
 use Rattle.wb_connections.specs.declared.source.Source.TheVariants.{Stream, Device, Plain}
-use Rattle.wb_sources.specs.declared.sources.Converter.{Converter}
-use Rattle.wb_sources.specs.declared.sources.Converter.TheVariants.{Line, End, Fault}
+use Rattle.wb_input.specs.declared.sources.Converter.{Converter}
+use Rattle.wb_input.specs.declared.sources.Converter.TheVariants.{Line, End, Fault}
 use Rattle.wb_window.specs.declared.reading.Reading.TheVariants.{Load, Lost}
 
 -- the bytes of a connection, FIFO or device come in their own time; those of a plain file are all there

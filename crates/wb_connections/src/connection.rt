@@ -15,18 +15,18 @@ use std::io::{Read, Write};
 use std::net::{OpenStream, Shutdown, SocketAddr};
 use std::time::Instant;
 use std::{fmt, mem};
-use wb_sources::REQUEST_ROOM;
+use wb_input::REQUEST_ROOM;
 
 /// How requests are judged. A connection of the office asks nothing else of their bytes.
 pub trait Requests {
     /// A request with what it was judged as.
-    type Judged: Drop;
+    type Request: Drop;
 
     /// Judges a request once no further byte can change how it is judged. Before that it hands the bytes back.
-    fn once_whole(&self, bytes: Vec<u8>) -> Result<Self::Judged, Vec<u8>>;
+    fn once_whole(&self, bytes: Vec<u8>) -> Result<Self::Request, Vec<u8>>;
 
     /// Judges a request of which no more bytes come.
-    fn as_it_stands(&self, bytes: Vec<u8>) -> Self::Judged;
+    fn as_it_stands(&self, bytes: Vec<u8>) -> Self::Request;
 }
 
 /// What a socket didn't take at once of a response.
@@ -140,7 +140,7 @@ impl<S: Read + Write + OpenStream + Drop, J: Drop> Connection<S, J> {
     }
 
     /// A turn of it. It gives its request once that is judged.
-    pub(crate) fn turn<Q: Requests<Judged = J>>(
+    pub(crate) fn turn<Q: Requests<Request = J>>(
         &mut self,
         alloc: Global,
         requests: &Q,
@@ -199,7 +199,7 @@ impl<S: Read + Write + OpenStream + Drop, J: Drop> Connection<S, J> {
     }
 
     /// Reads what came of the request. It is judged once it is whole, or nothing more of it will come.
-    fn read<Q: Requests<Judged = J>>(
+    fn read<Q: Requests<Request = J>>(
         &mut self,
         alloc: Global,
         requests: &Q,
@@ -235,7 +235,7 @@ impl<S: Read + Write + OpenStream + Drop, J: Drop> Connection<S, J> {
     }
 
     /// Judges the request, if it is whole or as long as a request can be.
-    fn once_whole<Q: Requests<Judged = J>>(&mut self, alloc: Global, requests: &Q) -> Option<J> {
+    fn once_whole<Q: Requests<Request = J>>(&mut self, alloc: Global, requests: &Q) -> Option<J> {
         let bytes = mem::replace(&mut self.request, Vec::new(alloc));
         if bytes.len() >= REQUEST_ROOM {
             return Some(requests.as_it_stands(bytes));
@@ -250,7 +250,7 @@ impl<S: Read + Write + OpenStream + Drop, J: Drop> Connection<S, J> {
     }
 
     /// Judges the request if a byte came of it; otherwise the connection is closed.
-    fn as_it_stands<Q: Requests<Judged = J>>(&mut self, alloc: Global, requests: &Q) -> Option<J> {
+    fn as_it_stands<Q: Requests<Request = J>>(&mut self, alloc: Global, requests: &Q) -> Option<J> {
         if self.request.is_empty() {
             self.close(Why::NoRequest);
             return None;

@@ -4,8 +4,8 @@ ghost use Rattle.std.specs.declared.time.Instant.{Instant as Moment};
 ghost use Rattle.wb_connections.specs.Age.{Look, is_fresh, last_silence};
 ghost use Rattle.wb_connections.specs.Known.{IsKnown, is_live};
 ghost use Rattle.wb_connections.specs.declared.limits.TheConstants.{FRESH_SECONDS};
-ghost use Rattle.wb_sources.specs.Converted.{IsConverted};
-ghost use Rattle.wb_sources.specs.declared.sources.Converter.TheVariants.{Line};
+ghost use Rattle.wb_input.specs.Converted.{IsConverted};
+ghost use Rattle.wb_input.specs.declared.sources.Converter.TheVariants.{Line};
 ghost use Rattle.wb_window.specs.Reading.{IsReading};
 
 use crate::cause::Cause;
@@ -18,7 +18,7 @@ use std::io::Read;
 use std::net::{Net, OpenStream};
 use std::time::{Clock, Duration, Instant};
 use thiserror::Error;
-use wb_sources::Converter;
+use wb_input::Converter;
 use wb_window::Reading;
 
 /// A converter that can't be opened, with the cause.

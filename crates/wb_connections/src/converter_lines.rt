@@ -3,7 +3,7 @@ ghost use Rattle.std.specs.Prelude.{IfSome};
 ghost use Rattle.wb_window.specs.Reading.{IsReading};
 
 use crate::limits::{ENDLESS_LINE, LINE};
-use wb_sources::converter_line;
+use wb_input::converter_line;
 use wb_window::Reading;
 
 /// How many bytes are read at once: some fifty lines, so that what came during an exchange takes few reads.

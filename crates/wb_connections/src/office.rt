@@ -7,7 +7,7 @@ use std::alloc::{AllocError, Global};
 use std::io::{Read, Write};
 use std::net::{OpenListener, OpenStream, SocketAddr};
 use std::time::Instant;
-use wb_sources::REQUEST_ROOM;
+use wb_input::REQUEST_ROOM;
 
 /// The listener and its connections, with requests that are judged as `J`.
 #[derive(Drop)]
@@ -51,7 +51,7 @@ where
     }
 
     /// A turn of all connections: each is accepted, read, written and closed as far as goes without waiting.
-    pub fn step<Q: Requests<Judged = J>, R: Eprint>(
+    pub fn step<Q: Requests<Request = J>, R: Eprint>(
         &mut self,
         alloc: Global,
         requests: &Q,
@@ -135,7 +135,7 @@ where
     }
 
     /// Accepts all that wait, so that it is known when each came. More wait in the listener while each place has a whole request.
-    fn accept<Q: Requests<Judged = J>, R: Eprint>(
+    fn accept<Q: Requests<Request = J>, R: Eprint>(
         &mut self,
         alloc: Global,
         requests: &Q,
@@ -167,7 +167,7 @@ where
     }
 
     /// Reads one that was accepted, and keeps it. Where all places are taken, it gets that of one without a whole request.
-    fn admit<Q: Requests<Judged = J>, R: Eprint>(
+    fn admit<Q: Requests<Request = J>, R: Eprint>(
         &mut self,
         alloc: Global,
         requests: &Q,

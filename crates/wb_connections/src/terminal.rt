@@ -11,7 +11,7 @@ use std::alloc::{AllocError, Global};
 use std::io::{Read, Write};
 use std::net::{OpenListener, OpenStream, Shutdown, SocketAddr};
 use std::time::Instant;
-use wb_sources::{TERMINAL_ROOM, Taken};
+use wb_input::{TERMINAL_ROOM, Taken};
 
 /// A terminal that is connected.
 #[derive(Drop)]

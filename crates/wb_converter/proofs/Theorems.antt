@@ -3,7 +3,7 @@ use Rattle.std.proofs.Common.{◌≡◌, refl, ℤ, neg_ℤ, ◌≤ℤ◌, true,
 use Rattle.std.specs.Prelude.{int_le}
 use Rattle.std.proofs.lemmas.Int.{ints}
 use Rattle.std.specs.Fmt.{signed_decimal}
-use Rattle.wb_sources.specs.ConverterLines.{converter_reading}
+use Rattle.wb_input.specs.ConverterLines.{converter_reading}
 use Rattle.wb_window.specs.Reading.{greatest_load}
 use Rattle.wb_window.specs.declared.reading.Reading.TheVariants.{Load}
 use Rattle.wb_calibration_file.proofs.Numbers.{number-signed}

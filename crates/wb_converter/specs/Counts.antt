@@ -1,6 +1,6 @@
 -- A line of a reader of a load cell, without its end.
 use Rattle.std.specs.Prelude.{ℕ, List, Option, Some, None, ℤ, pos, neg_ℤ, int_le, ◌&&◌, if◌then◌else◌}
-use Rattle.wb_sources.specs.Number.{signed_number}
+use Rattle.wb_input.specs.Number.{signed_number}
 
 -- a number that fits in 32 bits
 abbrev pub within_32_bits : ℤ → Option ℤ

@@ -1,7 +1,7 @@
 -- Laws of what is handed on.
 use Rattle.std.specs.Prelude.{◌≡◌, ℤ, neg_ℤ, ◌≤ℤ◌, codes}
 use Rattle.std.specs.Fmt.{signed_decimal}
-use Rattle.wb_sources.specs.ConverterLines.{converter_reading}
+use Rattle.wb_input.specs.ConverterLines.{converter_reading}
 use Rattle.wb_window.specs.Reading.{greatest_load}
 use Rattle.wb_window.specs.declared.reading.Reading.TheVariants.{Load, Lost}
 

@@ -2,7 +2,7 @@
 ghost use Rattle.std.specs.Prelude.{◌≡◌};
 ghost use Rattle.wb_converter.specs.Counts.{counts_of, within_32_bits};
 
-use wb_sources::number;
+use wb_input::number;
 
 /// The counts of a line, without its LF or CR LF: a number of 1 to 18 digits, with or without a minus sign, that fits in 32 bits.
 /// None of any other line, as of `lost`.

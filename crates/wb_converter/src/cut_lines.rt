@@ -5,19 +5,19 @@ ghost use Rattle.wb_converter.specs.Cut.{fresh, pushed, taken_in};
 
 use arrayvec::ArrayVec;
 use std::marker::Model;
-use wb_text::split_at_first;
+use wb_input::split_at_first;
 
 /// The most bytes of a line without its LF; a longer one has no counts.
 const LINE: usize = 64;
 
 /// The beginning of a line whose end didn't come, seen as what is kept of it.
 #[derive(Drop)]
-pub struct Lines {
+pub struct CutLines {
     kept: ArrayVec<u8, LINE>,
     is_too_long: bool,
 }
 
-impl Model for Lines {
+impl Model for CutLines {
     ghost use Rattle.wb_converter.specs.Cut.{Cut};
 
     ghost Value = { Cut };
@@ -25,12 +25,12 @@ impl Model for Lines {
     ghost view = { λ l. record { kept = l.kept.items; too_long = l.is_too_long } };
 }
 
-impl Lines {
+impl CutLines {
     /// Before any byte came.
     pub fn new() -> Self
         ensures { result ≡ fresh }
     {
-        Lines {
+        CutLines {
             kept: ArrayVec::new(),
             is_too_long: false,
         }

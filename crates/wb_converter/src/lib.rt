@@ -23,7 +23,7 @@ mod weights;
 pub use answering::{answer, answer_to};
 pub use client::Clients;
 pub use counts::counts_line;
-pub use cut_lines::Lines;
+pub use cut_lines::CutLines;
 pub use filtering::Filtering;
 pub use outbox::{LINE_ROOM, Outbox};
 pub use per_interval::sensitivity;

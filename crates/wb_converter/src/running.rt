@@ -5,7 +5,7 @@ ghost use Rattle.wb_converter.specs.Statuses.{status_of_run};
 use crate::answering::{answer, answer_to};
 use crate::client::{Clients, is_waiting};
 use crate::counts::counts_line;
-use crate::cut_lines::Lines;
+use crate::cut_lines::CutLines;
 use crate::filtering::Filtering;
 use crate::outbox::LINE_ROOM;
 use arrayvec::ArrayString;
@@ -53,7 +53,7 @@ impl RunEnd {
 /// What is known of the input.
 #[derive(Drop)]
 struct Input {
-    lines: Lines,
+    lines: CutLines,
     /// The last readings, if a filter makes one value of them.
     filtering: Option<Filtering>,
     /// How many lines came.
@@ -81,7 +81,7 @@ where
         return RunEnd::Clock;
     };
     let mut state = Input {
-        lines: Lines::new(),
+        lines: CutLines::new(),
         filtering: match filter {
             Some(filter) => Some(Filtering::new(filter)),
             None => None,

@@ -2,7 +2,7 @@
 ghost use Rattle.std.specs.Prelude.{◌≡◌, ◌+◌, IfOk, vec_len};
 
 use crate::counts::counts_line;
-use crate::cut_lines::Lines;
+use crate::cut_lines::CutLines;
 use std::alloc::Global;
 use std::io::Read;
 use thiserror::Error;
@@ -42,7 +42,7 @@ pub fn read_counts<I: Read>(
 ) -> Result<Vec<i32>, SampleFault>
     ensures { IfOk result (λ counts. vec_len counts ≡ lines) }
 {
-    let mut cut = Lines::new();
+    let mut cut = CutLines::new();
     let mut counts = Vec::new(alloc);
     let mut room = [0u8; ROOM];
     for _ in 0..READS {
@@ -61,7 +61,7 @@ pub fn read_counts<I: Read>(
 /// Appends the counts of the lines whose end is among these bytes, as long as there are fewer than so many.
 fn push_counts(
     counts: &mut Vec<i32>,
-    cut: &mut Lines,
+    cut: &mut CutLines,
     bytes: &[u8],
     lines: u32,
 ) -> Result<(), SampleFault> {

@@ -10,4 +10,4 @@ mod making_words;
 mod words;
 
 pub use making_words::{Load, Sampling};
-pub use words::{Asked, REFUSED, Receiver, Running, read_words};
+pub use words::{ConverterInvocation, REFUSED, Receiver, Running, read_words};

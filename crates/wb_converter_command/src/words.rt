@@ -59,7 +59,7 @@ pub struct Running {
 
 /// What the words of the command line ask for. The first text is the file of the calibrations.
 #[derive(Drop)]
-pub enum Asked {
+pub enum ConverterInvocation {
     /// Lines are to be handed on, by a calibration with this filter if one is given.
     Run(Running),
     /// A point is to be taken.
@@ -77,46 +77,54 @@ pub enum Asked {
 }
 
 /// What these words ask for, the name of the program first.
-pub fn read_words(alloc: Global, words: &[String]) -> Result<Asked, AllocError> {
+pub fn read_words(alloc: Global, words: &[String]) -> Result<ConverterInvocation, AllocError> {
     let matches = match command(alloc)?.try_get_matches_from(words) {
         Ok(matches) => matches,
-        Err(error) => return Ok(Asked::WordsRefused(error)),
+        Err(error) => return Ok(ConverterInvocation::WordsRefused(error)),
     };
     match matches.subcommand() {
         Some((name, words)) => asked_of(alloc, name, words),
-        None => Ok(Asked::Nothing),
+        None => Ok(ConverterInvocation::Nothing),
     }
 }
 
 /// What the words of this subcommand ask for.
-fn asked_of(alloc: Global, name: &str, words: &ArgMatches<'_>) -> Result<Asked, AllocError> {
+fn asked_of(
+    alloc: Global,
+    name: &str,
+    words: &ArgMatches<'_>,
+) -> Result<ConverterInvocation, AllocError> {
     let Some(calibration) = text_of(alloc, words, "calibration")? else {
-        return Ok(Asked::Nothing);
+        return Ok(ConverterInvocation::Nothing);
     };
     match name {
         "run" => run_of(alloc, calibration, words),
         "point" => Ok(point_of(calibration, words)),
         "finish" => finish_of(alloc, calibration, words),
         "show" => Ok(show_of(calibration, words)),
-        _ => Ok(Asked::Nothing),
+        _ => Ok(ConverterInvocation::Nothing),
     }
 }
 
-fn run_of(alloc: Global, calibration: String, words: &ArgMatches<'_>) -> Result<Asked, AllocError> {
+fn run_of(
+    alloc: Global,
+    calibration: String,
+    words: &ArgMatches<'_>,
+) -> Result<ConverterInvocation, AllocError> {
     let receiver = match (
         text_of(alloc, words, "listen")?,
         text_of(alloc, words, "fifo")?,
     ) {
         (Some(address), _) => Receiver::Client(address),
         (None, Some(path)) => Receiver::Fifo(path),
-        (None, None) => return Ok(Asked::Nothing),
+        (None, None) => return Ok(ConverterInvocation::Nothing),
     };
     let filter = match filter_of(words) {
         FilterWords::Nothing => None,
         FilterWords::Wanted(filter) => Some(filter),
         FilterWords::Other => return refused(alloc),
     };
-    Ok(Asked::Run(Running {
+    Ok(ConverterInvocation::Run(Running {
         calibration,
         receiver,
         filter,
@@ -128,32 +136,32 @@ fn finish_of(
     alloc: Global,
     calibration: String,
     words: &ArgMatches<'_>,
-) -> Result<Asked, AllocError> {
+) -> Result<ConverterInvocation, AllocError> {
     match filter_of(words) {
-        FilterWords::Nothing => Ok(Asked::Finish(calibration, None)),
-        FilterWords::Wanted(filter) => Ok(Asked::Finish(calibration, Some(filter))),
+        FilterWords::Nothing => Ok(ConverterInvocation::Finish(calibration, None)),
+        FilterWords::Wanted(filter) => Ok(ConverterInvocation::Finish(calibration, Some(filter))),
         FilterWords::Other => refused(alloc),
     }
 }
 
 /// Words that are none of a filter are refused.
-fn refused(alloc: Global) -> Result<Asked, AllocError> {
+fn refused(alloc: Global) -> Result<ConverterInvocation, AllocError> {
     let error = command(alloc)?.error(ErrorKind::ValueValidation, FILTER_FORM)?;
-    Ok(Asked::WordsRefused(error))
+    Ok(ConverterInvocation::WordsRefused(error))
 }
 
-fn point_of(calibration: String, words: &ArgMatches<'_>) -> Asked {
+fn point_of(calibration: String, words: &ArgMatches<'_>) -> ConverterInvocation {
     match sampling_of(words) {
-        Some(sampling) => Asked::Point(calibration, sampling),
-        None => Asked::Nothing,
+        Some(sampling) => ConverterInvocation::Point(calibration, sampling),
+        None => ConverterInvocation::Nothing,
     }
 }
 
-fn show_of(calibration: String, words: &ArgMatches<'_>) -> Asked {
+fn show_of(calibration: String, words: &ArgMatches<'_>) -> ConverterInvocation {
     if words.get_flag("plot") {
-        Asked::Plot(calibration)
+        ConverterInvocation::Plot(calibration)
     } else {
-        Asked::Show(calibration)
+        ConverterInvocation::Show(calibration)
     }
 }
 

@@ -5,8 +5,8 @@ use std::fs::File;
 use std::io::{ErrorKind, Read};
 use std::os::fd::AsRawFd;
 use std::{fs, io};
-use wb_log::look;
 use wb_store::StoreFault;
+use wb_wal::look;
 
 /// What the name of a database's log has behind that of its file.
 pub(crate) const LOG: &str = "-wal";

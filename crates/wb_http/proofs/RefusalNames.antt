@@ -1,8 +1,8 @@
 -- The names of refusals are short.
 use Rattle.std.proofs.Common.{◌≤◌, length, arith}
-use Rattle.wb_events.specs.RefusalText.{refusal_name}
-use Rattle.wb_events.specs.declared.refusal.Refusal.{Refusal}
-use Rattle.wb_events.specs.declared.refusal.Refusal.TheVariants.{AlreadyOpen, BelowMin, ClockBack, Damaged, Gone, JournalFull, KeyReused, NoLoad, NoOpen, NoPreset, NoTicket, NotCleared, Overload, Store, TareActive, Underload, Unstable}
+use Rattle.wb_messages.specs.RefusalText.{refusal_name}
+use Rattle.wb_messages.specs.declared.refusal.Refusal.{Refusal}
+use Rattle.wb_messages.specs.declared.refusal.Refusal.TheVariants.{AlreadyOpen, BelowMin, ClockBack, Damaged, Gone, JournalFull, KeyReused, NoLoad, NoOpen, NoPreset, NoTicket, NotCleared, Overload, Store, TareActive, Underload, Unstable}
 
 pub name_short : (refusal : Refusal) → length (refusal_name refusal) ≤ 14
 name_short KeyReused = omega arith

@@ -7,8 +7,8 @@ use Rattle.wb_journal.specs.declared.kind.Kind.{Kind}
 use Rattle.wb_journal.specs.declared.kind.Kind.TheVariants.{First, Second, Single}
 use Rattle.wb_journal.specs.Key.{is_key_text}
 use Rattle.wb_journal.specs.Plate.{is_plate_text}
-use Rattle.wb_events.specs.declared.request.Request.{Request}
-use Rattle.wb_events.specs.declared.request.Request.TheVariants.{VoidOpen, Weigh}
+use Rattle.wb_messages.specs.declared.request.Request.{Request}
+use Rattle.wb_messages.specs.declared.request.Request.TheVariants.{VoidOpen, Weigh}
 
 -- the text that a name or a value writes; what isn't UTF-8 of it becomes U+FFFD
 abbrev pub decoded_text : List ℕ → List ℕ

@@ -1,8 +1,8 @@
 -- How a request's bytes are judged: of the faults in their order the first that holds answers; else what is asked.
 use Rattle.std.specs.Prelude.{◌≡◌, ℕ, Bool, true, false, ◌&&◌, ◌||◌, not, nat_lt, List, [], ◌∷◌, bytes_eq, find, length, if◌then◌else◌, Option, Some, None, is_none, option_map, ok_or, Result, Err}
 use Rattle.std.specs.Option.{option_and_then, option_or}
-use Rattle.wb_events.specs.declared.request.Request.{Request}
-use Rattle.wb_events.specs.declared.request.Request.TheVariants as request
+use Rattle.wb_messages.specs.declared.request.Request.{Request}
+use Rattle.wb_messages.specs.declared.request.Request.TheVariants as request
 use Rattle.wb_http.specs.declared.fault.HttpFault.{HttpFault}
 use Rattle.wb_http.specs.declared.fault.HttpFault.TheVariants.{BadField, HeadTooLarge, Malformed, NoLength, NoRoute, TooLarge, WrongMethod}
 use Rattle.wb_http.specs.declared.fault.Method.{Method}

@@ -3,13 +3,13 @@ use Rattle.std.specs.Prelude.{◌≡◌, ℕ, Bool, true, false, List, [], ◌++
 use Rattle.http.specs.StatusCode.{reason_phrase}
 use Rattle.httpdate.specs.Date.{date_text, unix_secs}
 use Rattle.httpdate.specs.declared.date.HttpDate.{HttpDate}
-use Rattle.wb_events.specs.declared.refusal.Refusal.{Refusal}
-use Rattle.wb_events.specs.declared.refusal.Refusal.TheVariants as refusal
-use Rattle.wb_events.specs.declared.request.Request.{Request}
-use Rattle.wb_events.specs.declared.request.Request.TheVariants as request
-use Rattle.wb_events.specs.Content.{Content, csv_content, damaged_content, purged_content, slip_content, sound_content, text_content, ticket_content}
-use Rattle.wb_events.specs.RefusalText as refusal_text
-use Rattle.wb_events.specs.Content.{content_or_refusal}
+use Rattle.wb_messages.specs.declared.refusal.Refusal.{Refusal}
+use Rattle.wb_messages.specs.declared.refusal.Refusal.TheVariants as refusal
+use Rattle.wb_messages.specs.declared.request.Request.{Request}
+use Rattle.wb_messages.specs.declared.request.Request.TheVariants as request
+use Rattle.wb_messages.specs.Content.{Content, csv_content, damaged_content, purged_content, slip_content, sound_content, text_content, ticket_content}
+use Rattle.wb_messages.specs.RefusalText as refusal_text
+use Rattle.wb_messages.specs.Content.{content_or_refusal}
 use Rattle.wb_http.specs.declared.fault.HttpFault.{HttpFault}
 use Rattle.wb_http.specs.declared.fault.HttpFault.TheVariants.{BadField, HeadTooLarge, Malformed, Memory, NoLength, NoRoute, TooLarge, WrongMethod}
 use Rattle.wb_http.specs.declared.fault.Method.{Method}

@@ -1,7 +1,7 @@
 -- The routes of the office.
 use Rattle.std.specs.Prelude.{ℕ, Bool, true, false, ◌&&◌, ◌==◌, not, nat_lt, nat_le, List, [], ◌∷◌, bytes_eq, codes, drop, length, take, if◌then◌else◌, Option, Some, None}
 use Rattle.std.specs.List.{before_first, list_any}
-use Rattle.wb_text.specs.Digits.{numeral_value}
+use Rattle.wb_input.specs.Digits.{numeral_value}
 use Rattle.wb_http.specs.declared.fault.Method.{Method}
 use Rattle.wb_http.specs.declared.fault.Method.TheVariants.{Get, Post}
 use Rattle.wb_http.specs.declared.routes.Route.{Route}

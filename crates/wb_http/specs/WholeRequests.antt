@@ -1,6 +1,6 @@
 -- When a request is whole: more bytes change nothing of how it is judged.
 use Rattle.std.specs.Prelude.{◌≡◌, ℕ, Bool, true, ◌||◌, not, nat_lt, List, ◌++◌, length, Option, Some, None, is_some, Result}
-use Rattle.wb_events.specs.declared.request.Request.{Request}
+use Rattle.wb_messages.specs.declared.request.Request.{Request}
 use Rattle.wb_http.specs.declared.fault.HttpFault.{HttpFault}
 use Rattle.wb_http.specs.HttpJudgement.{IsJudged, cut_short, first_fault, of_head}
 use Rattle.wb_http.specs.RequestBytes.{IsRead, Received}

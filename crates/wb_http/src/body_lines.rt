@@ -1,13 +1,13 @@
 //! The lines of short bodies.
 ghost use Rattle.arrayvec.specs.ArrayString.{array_string_len};
 ghost use Rattle.std.specs.Prelude.{◌≡◌, ◌≤◌, ◌++◌, codes, decimal, length};
-ghost use Rattle.wb_events.specs.RefusalText.{refusal_name, refusal_number};
+ghost use Rattle.wb_messages.specs.RefusalText.{refusal_name, refusal_number};
 ghost use Rattle.wb_http.specs.Response.{fault_body, fault_line_text, refused_line_text};
 
 use crate::fault::HttpFault;
 use arrayvec::ArrayString;
 use itoa::Buffer;
-use wb_events::Refusal;
+use wb_messages::Refusal;
 
 /// A line of a body, with its LF.
 pub(crate) type Line = ArrayString<64>;

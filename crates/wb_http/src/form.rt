@@ -9,8 +9,8 @@ use crate::fault::HttpFault;
 use form_urlencoded::{decode, raw_pairs};
 use std::alloc::{AllocError, Allocator};
 use std::borrow::CowStr;
-use wb_events::Request;
 use wb_journal::{Key, Kind, Plate};
+use wb_messages::Request;
 
 /// The weighing that a form asks for.
 pub(crate) fn weighing<A: Allocator + Copy + Drop>(

@@ -14,8 +14,8 @@ use crate::routes::Routes;
 use httparse::spans::EMPTY_HEADER_SPAN;
 use std::alloc::Allocator;
 use std::marker::Model;
-use wb_events::Request;
-use wb_sources::REQUEST_ROOM;
+use wb_input::REQUEST_ROOM;
+use wb_messages::Request;
 
 // The room of a source's request is as much as is read of one, a head's bytes and a body's.
 const _: () = prove!(REQUEST_ROOM == HEAD_LIMIT + BODY_LIMIT as usize);

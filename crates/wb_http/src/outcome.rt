@@ -1,6 +1,6 @@
 //! What became of a request.
 use crate::fault::HttpFault;
-use wb_events::{Answer, Refusal, Request};
+use wb_messages::{Answer, Refusal, Request};
 
 /// What became of a request, as it is told in a response.
 #[derive(Clone, Copy, Drop)]

@@ -1,7 +1,7 @@
 //! From the bytes of a request to what the office is asked.
 ghost use Rattle.httparse.specs.Spans.{IsHeaderWithin};
 ghost use Rattle.std.specs.Prelude.{◌≡◌, All, IsErrOf, IsUtf8, Result, length, ok_or, true};
-ghost use Rattle.wb_events.specs.declared.request.Request.{Request as Asked};
+ghost use Rattle.wb_messages.specs.declared.request.Request.{Request as Asked};
 ghost use Rattle.wb_http.specs.Form.{IsPlain};
 ghost use Rattle.wb_http.specs.HttpJudgement.{IsJudged, MayWantMemory, asked_by, has_form};
 ghost use Rattle.wb_http.specs.UnlessMemoryRefused.{IsOf};
@@ -15,7 +15,7 @@ use crate::head::{FIELD_LIMIT, Head, head_at, places_of};
 use crate::routes::{Route, Routes, route_of, ticket_number};
 use httparse::spans::EMPTY_HEADER_SPAN;
 use std::alloc::Allocator;
-use wb_events::Request;
+use wb_messages::Request;
 
 /// What a head asks: its route, and how many bytes its body has.
 #[derive(Clone, Copy, Debug)]

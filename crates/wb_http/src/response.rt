@@ -1,6 +1,6 @@
 //! The response to an outcome.
 ghost use Rattle.std.specs.Prelude.{◌≡◌, ◌≤◌, IsOk, OnErr, OnOk, [], false, length, vec_capacity};
-ghost use Rattle.wb_events.specs.Content.{content_of, content_or_refusal};
+ghost use Rattle.wb_messages.specs.Content.{content_of, content_or_refusal};
 ghost use Rattle.wb_http.specs.Response.{IsDateOf, IsResponse, has_export, is_csv, is_export, phrase_of_status, response_content, response_text, status_of_answer, status_of_refusal, response_to_answer, response_to_result};
 ghost use Rattle.wb_http.specs.helpers.ToldByParts.{told_by};
 
@@ -11,8 +11,8 @@ use crate::room::ResponseRoom;
 use http::StatusCode;
 use httpdate::HttpDate;
 use std::alloc::AllocError;
-use wb_events::{Answer, Refusal, Request};
 use wb_journal::Moment;
+use wb_messages::{Answer, Refusal, Request};
 
 /// Builds the response to an outcome at a moment in the room, in place of what was there. After a refusal the room is
 /// empty.

@@ -3,14 +3,14 @@ ghost use Rattle.matchit.specs.declared.error.InsertError.TheVariants.{OutOfMemo
 ghost use Rattle.std.specs.Prelude.{◌≡◌, [], IfErr, IfOk, IsUtf8, OnOk};
 ghost use Rattle.wb_http.specs.Router.{table};
 ghost use Rattle.wb_http.specs.Routes.{method_of, number_or_zero, path_of_target, route_of_path, route_of_target, number_of_ticket_path};
-ghost use Rattle.wb_text.specs.Digits.{numeral_value};
+ghost use Rattle.wb_input.specs.Digits.{numeral_value};
 
 use crate::fault::Method;
 use matchit::{InsertError, Router};
 use std::alloc::{AllocError, Global};
 use std::marker::Model;
 use std::str;
-use wb_text::digits;
+use wb_input::digits;
 
 /// The bytes of `/tickets/`, which come before a ticket's number.
 const TICKETS: usize = 9;

@@ -50,7 +50,7 @@ pub use Rattle.wb_store.specs.declared.fault.StoreFault.{StoreFault}
 pub use Rattle.wb_store.specs.declared.fault.StoreFault.TheVariants.{Closed, Disk, Foreign, Memory}
 pub use Rattle.wb_window.specs.Stability.{is_stable}
 pub use Rattle.wb_tables.specs.Purging.{entries_below, spent_by}
-pub use Rattle.wb_events.specs.Content.{Content, purged_content, ticket_content}
+pub use Rattle.wb_messages.specs.Content.{Content, purged_content, ticket_content}
 pub use Rattle.wb_office.specs.Answer.{IsBoundAt, Outcome, adds, office_answer, answer_by_verdict, asking, entries_after, entries_left, entry_content, finding_content, makes_a_ticket, if_sound, is_marked, nothing, outcome, outcome_of, purges, spent_by_outcome, spent_left, text_of_indication, ticket_answer, ticket_if_sound, ticket_of, tickets_answer, unless_damaged}
 pub use Rattle.wb_office.specs.Conditions.{clock_back, holds_of, is_damaged_entry, is_other, gross_is_above_preset, journal_full, key_gone, places, places_needed, asks_to_weigh}
 pub use Rattle.wb_office.specs.CourseOfRequests.{AreBounds, Journal, RequestTurn, added, added_by, added_in_turn, additions, after, after_turn, answer_in, answered_with, entry_of, left, situation_of_turn, with_one}
@@ -58,16 +58,16 @@ pub use Rattle.wb_office.specs.Exports.{journal_columns, journal_csv, journal_re
 pub use Rattle.wb_office.specs.Laws.{AllWeighed, AnsweredAgain, FullAtLastNumber, IsByKey, IsGone, IsKeptEntry, IsNumbered, IsWeighed, KeepsPartners, KeyDecides, NumbersRun, OneEntryPerKey, WithinCapacity, is_taken}
 pub use Rattle.wb_office.specs.LawsOfJournals.{ChangesNothing, ClosingsHavePartners, FirstsClosedOnce, IsTakenOut, KeptForItsTime, RefusalsChangeNothing, StaysSound, TakesOut, TicketGivenAgain}
 pub use Rattle.wb_office.specs.LawsOfMigration.{AnsweredAfterChaining, IsRepeatedAlike, IsTicketAlike, RepeatedOverMigration, TicketOverMigration}
-pub use Rattle.wb_events.specs.Content.{content_of, content_or_refusal}
+pub use Rattle.wb_messages.specs.Content.{content_of, content_or_refusal}
 pub use Rattle.wb_office.specs.Serves.{IsNow, Marks, Serves, fault_of_refusal, is_of_store, is_store_refusal}
 pub use Rattle.wb_office.specs.Situation.{Asking, IsOnLists, Situation}
 pub use Rattle.wb_office.specs.Stops.{AnsweredAfterStops, Asks, IsAnsweredByKey, IsFoundAgain}
 pub use Rattle.wb_office.specs.Verdict.{Condition, Verdict, accepted, entry_added, first_refusal, gross_stored, kilograms_of, of_new, on, on_new, preset_stored, refused, repeated}
 unfoldable pub use Rattle.wb_office.specs.Verdict.{verdict}
 pub use Rattle.wb_office.specs.Wanted.{HasBound, IsWanted, Wanted, wanted}
-pub use Rattle.wb_events.specs.declared.refusal.Refusal.{Refusal}
-pub use Rattle.wb_events.specs.declared.request.Request.{Request}
-pub use Rattle.wb_events.specs.declared.request.Request.TheVariants.{Purge, VoidOpen, Weigh}
+pub use Rattle.wb_messages.specs.declared.refusal.Refusal.{Refusal}
+pub use Rattle.wb_messages.specs.declared.request.Request.{Request}
+pub use Rattle.wb_messages.specs.declared.request.Request.TheVariants.{Purge, VoidOpen, Weigh}
 pub use Rattle.wb_office.specs.helpers.ConditionGroups.{of_journal, of_load, of_tare}
 pub use Rattle.wb_office.specs.helpers.ExportRecord.{record_text}
 pub use Rattle.wb_office.specs.helpers.IndicatedLoad.{gross_of_shown, gross_shown, is_preset_below_shown, refusal_of_shown}

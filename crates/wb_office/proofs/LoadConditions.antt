@@ -2,7 +2,7 @@
 use Rattle.std.proofs.Common.{◌≡◌, ◌∙◌, Bool, true, false, not, ◌&&◌, if◌then◌else◌, Option, Some, None, ℤ, pos, refl}
 use Rattle.wb_office.proofs.Common.{int_lt, is_none, option_map, is_above_range, is_below_range, round, Setup, Kind, First, Second, Single, Void, is_void_kind, gross, indicated, indicated_at, weights_unless_outside, tare_now, tare_tenths, above_zero, is_stable, Refusal, TareNow, Empty, Weighed, Preset, readings, Asking, holds_of, gross_is_above_preset, asks_to_weigh, of_load, gross_of_shown, gross_shown, is_preset_below_shown, refusal_of_shown, first_refusal, gross_stored, kilograms_of}
 use Rattle.std.specs.Prelude.{◌-ℤ◌}
-use Rattle.wb_events.specs.declared.refusal.Refusal.TheVariants as refusal
+use Rattle.wb_messages.specs.declared.refusal.Refusal.TheVariants as refusal
 
 -- the conditions on a load of a First, Second or Single, one after the other
 in_order : Setup → Bool → Bool → Option ℤ → Option Refusal

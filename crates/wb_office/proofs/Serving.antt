@@ -3,22 +3,22 @@ use Rattle.std.proofs.Common.{ℕ, ◌≡◌, ◌≢◌, ◌∙◌, ◌↔◌, i
 use Rattle.wb_office.proofs.Common.{Ghosts, EntryParts, is_void_kind, open_entry, StoreFault, Closed, Foreign, Memory, is_disk, IsHonest, StoreView, StoreStands, LeavesEither, LeavesOnly, IsNext, SpentKey, Refusal, Request, Content, answer_by_verdict, asking, entries_after, is_marked, nothing, outcome_of, spent_by_outcome, entry_content, Situation, IsOnLists, holds_of, AsksFor, IsAccepted, IsOnScale, IsNow, Marks, Serves, fault_of_refusal, is_of_store, is_store_refusal, content_of, content_or_refusal, Wanted, HasBound, IsWanted, wanted, Verdict, accepted, verdict, IsWeighingWanted, wanted_by}
 use Rattle.std.specs.Result.{IsErrAnd}
 use Rattle.wb_scale.specs.State.{State}
-use Rattle.wb_events.specs.declared.answer.Answer.{Answer}
-use Rattle.wb_office.specs.declared.judging.Asked.{Asked}
-use Rattle.wb_events.specs.declared.refusal.Refusal.TheVariants.{Store}
+use Rattle.wb_messages.specs.declared.answer.Answer.{Answer}
+use Rattle.wb_office.specs.declared.judging.WeighingRequest.{WeighingRequest}
+use Rattle.wb_messages.specs.declared.refusal.Refusal.TheVariants.{Store}
 use Rattle.wb_store.specs.Versions.{IsOfCall}
 use Rattle.wb_office.specs.Serves.{is_closed_after}
 use Rattle.wb_office.proofs.LookUps.{Reads, ok_is_no_fault, stood}
 
 -- ---- what is asked for in a situation
 
-pub asks_now : (asked : Asked) (scale : State) (w : Situation) → IsNow scale asked.at w → AsksFor asked (asking w asked.key asked.kind asked.plate)
+pub asks_now : (asked : WeighingRequest) (scale : State) (w : Situation) → IsNow scale asked.at w → AsksFor asked (asking w asked.key asked.kind asked.plate)
 asks_now asked scale w now = record { of_key = refl; of_kind = refl; of_plate = refl; of_moment = now.moment }
 
-pub on_scale_now : (asked : Asked) (scale : State) (w : Situation) → IsNow scale asked.at w → IsOnScale scale (asking w asked.key asked.kind asked.plate)
+pub on_scale_now : (asked : WeighingRequest) (scale : State) (w : Situation) → IsNow scale asked.at w → IsOnScale scale (asking w asked.key asked.kind asked.plate)
 on_scale_now asked scale w now = record { setup = now.setup; calls = now.calls; stands = now.stands; history = now.history }
 
-pub on_lists_now : (asked : Asked) (w : Situation) → IsOnLists w.entries w.spent (asking w asked.key asked.kind asked.plate)
+pub on_lists_now : (asked : WeighingRequest) (w : Situation) → IsOnLists w.entries w.spent (asking w asked.key asked.kind asked.plate)
 on_lists_now asked w = record { entries = refl; spent = refl }
 
 -- ---- refusals
@@ -86,7 +86,7 @@ pub record IsAnswered (IsWanted : Situation → Wanted → Type 0) (w : Situatio
   pub told_is : content_or_refusal r ≡ want.answer
 
 -- that of a verdict that adds nothing
-pub by_verdict : (asked : Asked) (w : Situation) (r : Result Answer Refusal) (v : Verdict) → verdict (asking w asked.key asked.kind asked.plate) ≡ v → outcome_of v ≡ nothing
+pub by_verdict : (asked : WeighingRequest) (w : Situation) (r : Result Answer Refusal) (v : Verdict) → verdict (asking w asked.key asked.kind asked.plate) ≡ v → outcome_of v ≡ nothing
     → content_or_refusal r ≡ answer_by_verdict w.entries v → IsAnswered (IsWeighingWanted asked) w r
 by_verdict asked w r v is none tells = record {
   want = wanted_by w v;
@@ -264,7 +264,7 @@ adding e first = record {
 }
 
 -- it is what is wanted where it is accepted
-pub is_adding : (asked : Asked) (e : EntryParts) (first : Option EntryParts) (w : Situation) → IsAccepted e first (asking w asked.key asked.kind asked.plate)
+pub is_adding : (asked : WeighingRequest) (e : EntryParts) (first : Option EntryParts) (w : Situation) → IsAccepted e first (asking w asked.key asked.kind asked.plate)
     → IsChange (adding e first) (not (is_void_kind e.kind)) (IsWeighingWanted asked) w
 is_adding asked e first w is = record {
   may = (is.next, is.paired);
@@ -276,7 +276,7 @@ is_adding asked e first w is = record {
 }
 
 -- a weighing or void that is wanted is what the request wants
-pub serves_weighing : {D : Type 0} (g : Ghosts D) {old new : StoreView D} {before after : State} {at : ℕ} {r : Result Answer Refusal} (asked : Asked) (request : Request)
+pub serves_weighing : {D : Type 0} (g : Ghosts D) {old new : StoreView D} {before after : State} {at : ℕ} {r : Result Answer Refusal} (asked : WeighingRequest) (request : Request)
     → ((w : Situation) (b : ℕ) → wanted request w b ≡ wanted_by w (verdict (asking w asked.key asked.kind asked.plate))) → ((w : Situation) → HasBound request w 0)
     → Serves g old new before after at r (IsWeighingWanted asked) → Serves g old new before after at r (IsWanted request)
 serves_weighing g asked request same bound served = record {

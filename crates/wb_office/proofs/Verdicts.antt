@@ -1,7 +1,7 @@
 -- The verdict, case by case.
 use Rattle.std.proofs.Common.{◌≡◌, ◌∙◌, sym, true, false, true≢false, Option, Some, None, refl}
 use Rattle.wb_office.proofs.Common.{EntryParts, entry_by_key, Refusal, Asking, key_gone, is_damaged_entry, is_other, KeyDecides, accepted, first_refusal, entry_added, of_new, on_new, refused, repeated, verdict}
-use Rattle.wb_events.specs.declared.refusal.Refusal.TheVariants as refusal
+use Rattle.wb_messages.specs.declared.refusal.Refusal.TheVariants as refusal
 use Rattle.wb_office.proofs.FoundEntries.{found_unspent}
 
 -- the key is that of an entry

@@ -19,11 +19,11 @@ use Rattle.wb_scale.specs.Indication.{indicated}
 use Rattle.wb_tables.specs.Lists.{number_after}
 use Rattle.wb_tables.specs.Purging.{entries_below, spent_after_purge}
 use Rattle.wb_tables.specs.Rows.{SpentKey}
-use Rattle.wb_events.specs.Content.{Content, csv_content, damaged_content, purged_content, slip_content, sound_content, text_content, ticket_content}
-use Rattle.wb_events.specs.declared.refusal.Refusal.{Refusal}
-use Rattle.wb_events.specs.declared.refusal.Refusal.TheVariants as refusal
-use Rattle.wb_events.specs.declared.request.Request.{Request}
-use Rattle.wb_events.specs.declared.request.Request.TheVariants.{Weigh, VoidOpen, Ticket, Indication, JournalCsv, TicketsCsv, Purge, Check}
+use Rattle.wb_messages.specs.Content.{Content, csv_content, damaged_content, purged_content, slip_content, sound_content, text_content, ticket_content}
+use Rattle.wb_messages.specs.declared.refusal.Refusal.{Refusal}
+use Rattle.wb_messages.specs.declared.refusal.Refusal.TheVariants as refusal
+use Rattle.wb_messages.specs.declared.request.Request.{Request}
+use Rattle.wb_messages.specs.declared.request.Request.TheVariants.{Weigh, VoidOpen, Ticket, Indication, JournalCsv, TicketsCsv, Purge, Check}
 use Rattle.wb_office.specs.Situation.{Asking, Situation}
 use Rattle.wb_office.specs.Conditions.{is_damaged_entry}
 use Rattle.wb_office.specs.Exports.{journal_csv, tickets_csv}

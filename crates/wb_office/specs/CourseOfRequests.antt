@@ -5,10 +5,10 @@ use Rattle.wb_journal.specs.declared.entry.EntryParts.{EntryParts}
 use Rattle.wb_journal.specs.declared.kind.Kind.TheVariants.{Void}
 use Rattle.wb_scale.specs.Moment.{Moment}
 use Rattle.wb_tables.specs.Rows.{SpentKey}
-use Rattle.wb_events.specs.declared.refusal.Refusal.{Refusal}
-use Rattle.wb_events.specs.declared.request.Request.{Request}
-use Rattle.wb_events.specs.declared.request.Request.TheVariants.{Weigh, VoidOpen}
-use Rattle.wb_events.specs.Content.{Content}
+use Rattle.wb_messages.specs.declared.refusal.Refusal.{Refusal}
+use Rattle.wb_messages.specs.declared.request.Request.{Request}
+use Rattle.wb_messages.specs.declared.request.Request.TheVariants.{Weigh, VoidOpen}
+use Rattle.wb_messages.specs.Content.{Content}
 use Rattle.wb_office.specs.Answer.{Outcome, adds, office_answer, asking, entries_left, outcome, spent_left}
 use Rattle.wb_office.specs.Situation.{Situation}
 use Rattle.wb_office.specs.Verdict.{Verdict, accepted, refused, repeated, verdict}

@@ -16,11 +16,11 @@ use Rattle.wb_scale.specs.Moment.{Moment, readings}
 use Rattle.wb_scale.specs.Steady.{IsNear}
 use Rattle.wb_scale.specs.Zero.{zero_now}
 use Rattle.wb_tables.specs.Lists.{AreLists, entry_by_key, has_key, is_spent, number_after}
-use Rattle.wb_events.specs.declared.refusal.Refusal.{Refusal}
-use Rattle.wb_events.specs.declared.refusal.Refusal.TheVariants as refusal
-use Rattle.wb_events.specs.declared.request.Request.{Request}
-use Rattle.wb_events.specs.declared.request.Request.TheVariants.{Purge}
-use Rattle.wb_events.specs.Content.{Content}
+use Rattle.wb_messages.specs.declared.refusal.Refusal.{Refusal}
+use Rattle.wb_messages.specs.declared.refusal.Refusal.TheVariants as refusal
+use Rattle.wb_messages.specs.declared.request.Request.{Request}
+use Rattle.wb_messages.specs.declared.request.Request.TheVariants.{Purge}
+use Rattle.wb_messages.specs.Content.{Content}
 use Rattle.wb_office.specs.Answer.{IsBoundAt, entries_left, makes_a_ticket, spent_left, ticket_answer}
 use Rattle.wb_office.specs.Situation.{Asking, Situation}
 use Rattle.wb_office.specs.Conditions.{is_damaged_entry, is_other, places}

@@ -7,11 +7,11 @@ use Rattle.wb_journal.specs.Moment.{day_of}
 use Rattle.wb_journal.specs.Pairs.{partner_in, with_number}
 use Rattle.wb_journal.specs.Retention.{IsOfAge}
 use Rattle.wb_tables.specs.Lists.{AreLists}
-use Rattle.wb_events.specs.declared.refusal.Refusal.{Refusal}
-use Rattle.wb_events.specs.declared.request.Request.{Request}
-use Rattle.wb_events.specs.declared.request.Request.TheVariants.{Purge}
+use Rattle.wb_messages.specs.declared.refusal.Refusal.{Refusal}
+use Rattle.wb_messages.specs.declared.request.Request.{Request}
+use Rattle.wb_messages.specs.declared.request.Request.TheVariants.{Purge}
 use Rattle.wb_tables.specs.Purging.{spent_by}
-use Rattle.wb_events.specs.Content.{Content}
+use Rattle.wb_messages.specs.Content.{Content}
 use Rattle.wb_office.specs.Answer.{IsBoundAt, office_answer, entries_left, marks, spent_left, ticket_answer}
 use Rattle.wb_office.specs.Situation.{Situation}
 use Rattle.wb_office.specs.CourseOfRequests.{AreBounds, Journal, RequestTurn, additions, after}

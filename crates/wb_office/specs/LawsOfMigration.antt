@@ -8,8 +8,8 @@ use Rattle.wb_journal.specs.Rising.{IsRising}
 use Rattle.wb_tables.specs.Lists.{AreLists, entry_by_key, is_spent}
 use Rattle.wb_store.specs.version_one.Migrated.{MayBeChained}
 use Rattle.wb_tables.specs.Rows.{SpentKey}
-use Rattle.wb_events.specs.declared.refusal.Refusal.TheVariants as refusal
-use Rattle.wb_events.specs.declared.request.Request.{Request}
+use Rattle.wb_messages.specs.declared.refusal.Refusal.TheVariants as refusal
+use Rattle.wb_messages.specs.declared.request.Request.{Request}
 use Rattle.wb_office.specs.Answer.{entry_content, makes_a_ticket, office_answer, ticket_answer}
 use Rattle.wb_office.specs.Situation.{Asking, IsOnLists}
 use Rattle.wb_office.specs.Conditions.{is_other}

@@ -13,10 +13,10 @@ use Rattle.wb_store.specs.Journal.{IsHonest, StoreView, StoreStands}
 use Rattle.wb_store.specs.Keeping.{LeavesEither, LeavesOnly}
 use Rattle.wb_tables.specs.Rows.{SpentKey}
 use Rattle.wb_store.specs.Versions.{IsOfCall}
-use Rattle.wb_events.specs.declared.answer.Answer.{Answer}
-use Rattle.wb_events.specs.declared.refusal.Refusal.{Refusal}
-use Rattle.wb_events.specs.declared.refusal.Refusal.TheVariants.{Store}
-use Rattle.wb_events.specs.Content.{content_or_refusal}
+use Rattle.wb_messages.specs.declared.answer.Answer.{Answer}
+use Rattle.wb_messages.specs.declared.refusal.Refusal.{Refusal}
+use Rattle.wb_messages.specs.declared.refusal.Refusal.TheVariants.{Store}
+use Rattle.wb_messages.specs.Content.{content_or_refusal}
 use Rattle.wb_office.specs.Situation.{Situation}
 use Rattle.wb_office.specs.Conditions.{holds_of}
 use Rattle.wb_office.specs.Wanted.{Wanted}

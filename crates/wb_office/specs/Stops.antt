@@ -10,12 +10,12 @@ use Rattle.wb_tables.specs.HasTables.{HasTables, MayHaveOpen}
 use Rattle.wb_store.specs.Journal.{IsHonest, StoreView, StoreStands}
 use Rattle.wb_tables.specs.Holds.{Holds}
 use Rattle.wb_tables.specs.Lists.{entry_by_key, is_spent}
-use Rattle.wb_events.specs.declared.answer.Answer.{Answer}
-use Rattle.wb_events.specs.declared.refusal.Refusal.{Refusal}
-use Rattle.wb_events.specs.declared.refusal.Refusal.TheVariants as refusal
-use Rattle.wb_events.specs.declared.request.Request.{Request}
-use Rattle.wb_events.specs.declared.request.Request.TheVariants.{Weigh, VoidOpen}
-use Rattle.wb_events.specs.Content.{Content}
+use Rattle.wb_messages.specs.declared.answer.Answer.{Answer}
+use Rattle.wb_messages.specs.declared.refusal.Refusal.{Refusal}
+use Rattle.wb_messages.specs.declared.refusal.Refusal.TheVariants as refusal
+use Rattle.wb_messages.specs.declared.request.Request.{Request}
+use Rattle.wb_messages.specs.declared.request.Request.TheVariants.{Weigh, VoidOpen}
+use Rattle.wb_messages.specs.Content.{Content}
 use Rattle.wb_office.specs.Answer.{office_answer, answer_by_verdict, entry_content}
 use Rattle.wb_office.specs.Situation.{Asking, IsOnLists}
 use Rattle.wb_office.specs.Conditions.{is_damaged_entry, is_other}

@@ -10,8 +10,8 @@ use Rattle.wb_scale.specs.declared.answers.TareNow.TheVariants.{Empty, Weighed, 
 use Rattle.wb_scale.specs.Indication.{gross}
 use Rattle.wb_scale.specs.Tare.{tare_now}
 use Rattle.wb_tables.specs.Lists.{entry_by_key, newest_entry, number_after, previous_after}
-use Rattle.wb_events.specs.declared.refusal.Refusal.{Refusal}
-use Rattle.wb_events.specs.declared.refusal.Refusal.TheVariants.{KeyReused, Gone, ClockBack, NoLoad, Overload, Underload, Unstable, BelowMin, TareActive, NoPreset, NotCleared, AlreadyOpen, NoOpen, JournalFull, Damaged}
+use Rattle.wb_messages.specs.declared.refusal.Refusal.{Refusal}
+use Rattle.wb_messages.specs.declared.refusal.Refusal.TheVariants.{KeyReused, Gone, ClockBack, NoLoad, Overload, Underload, Unstable, BelowMin, TareActive, NoPreset, NotCleared, AlreadyOpen, NoOpen, JournalFull, Damaged}
 use Rattle.wb_office.specs.Situation.{Asking}
 use Rattle.wb_office.specs.Conditions.{already_open, below_min, clock_back, damaged_first, damaged_repetition, journal_full, key_gone, key_reused, no_load, no_open, no_preset, not_cleared, overload, tare_active, underload, unstable}
 

@@ -1,13 +1,13 @@
 -- What is wanted of a request.
 use Rattle.std.specs.Prelude.{◌≡◌, ℕ, Bool, true, false, ◌==◌, not, List, Result}
-use Rattle.wb_events.specs.declared.request.Request.{Request}
-use Rattle.wb_events.specs.declared.request.Request.TheVariants.{Ticket, Indication, Purge}
-use Rattle.wb_events.specs.Content.{Content}
+use Rattle.wb_messages.specs.declared.request.Request.{Request}
+use Rattle.wb_messages.specs.declared.request.Request.TheVariants.{Ticket, Indication, Purge}
+use Rattle.wb_messages.specs.Content.{Content}
 use Rattle.wb_office.specs.Answer.{IsBoundAt, office_answer, entries_left, marks, spent_left}
 use Rattle.wb_office.specs.Situation.{Situation}
 use Rattle.wb_journal.specs.declared.entry.EntryParts.{EntryParts}
 use Rattle.wb_tables.specs.Rows.{SpentKey}
-use Rattle.wb_events.specs.declared.refusal.Refusal.{Refusal}
+use Rattle.wb_messages.specs.declared.refusal.Refusal.{Refusal}
 
 -- what is wanted in a situation: an answer, the lists that it leaves, and whether the scale is marked
 pub record Wanted : Type 0 where

@@ -10,9 +10,9 @@ ghost use Rattle.wb_office.specs.helpers.EvidenceShown.{Shows};
 ghost use Rattle.wb_office.specs.helpers.IndicatedLoad.{is_preset_below_shown, refusal_of_shown};
 
 use crate::evidence::Evidence;
-use wb_events::Refusal;
 use wb_instrument::MIN_INTERVALS;
 use wb_journal::{Kind, is_sound};
+use wb_messages::Refusal;
 use wb_scale::{Indicated, TareNow};
 use wb_store::Overview;
 

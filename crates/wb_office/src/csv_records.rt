@@ -7,7 +7,7 @@ use csv::{ByteRecord, Writer};
 use itoa::Buffer;
 use std::alloc::{AllocError, Global};
 use std::marker::Model;
-use wb_events::CsvText;
+use wb_messages::CsvText;
 
 /// The bytes of a record of the journal, and its fields; those of a ticket are fewer.
 const RECORD: usize = 192;

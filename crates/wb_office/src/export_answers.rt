@@ -1,11 +1,11 @@
 //! The answers of the exports.
 ghost use Rattle.std.specs.Prelude.{◌≡◌, ℕ, IfOk, List, Ok};
 ghost use Rattle.wb_journal.specs.Rising.{IsRising};
-ghost use Rattle.wb_events.specs.Content.{csv_content};
+ghost use Rattle.wb_messages.specs.Content.{csv_content};
 ghost use Rattle.wb_office.specs.Answer.{tickets_answer};
 ghost use Rattle.wb_office.specs.Serves.{Serves};
 ghost use Rattle.wb_office.specs.Wanted.{IsWanted};
-ghost use Rattle.wb_events.specs.declared.request.Request.TheVariants as request;
+ghost use Rattle.wb_messages.specs.declared.request.Request.TheVariants as request;
 ghost use Rattle.wb_office.specs.helpers.WantOfMemory.{IsAnsweredSo, WantsMemory};
 ghost use Rattle.wb_scale.specs.State.{State};
 
@@ -14,8 +14,8 @@ use crate::journal_export::journal_text;
 use crate::tickets_export::tickets_text;
 use sqlite::Alter;
 use std::alloc::{AllocError, Global};
-use wb_events::{Answer, CsvText, Refusal};
 use wb_journal::{Entry, Finding};
+use wb_messages::{Answer, CsvText, Refusal};
 use wb_store::{Store, StoreFault};
 
 /// Answers the export of the journal, also of one that is damaged.

@@ -19,16 +19,16 @@ use crate::conditions::is_second;
 use crate::evidence::{Evidence, OfScale};
 use crate::new_entry::new_entry;
 use sqlite::Alter;
-use wb_events::Refusal;
 use wb_instrument::Instrument;
 use wb_journal::{Entry, Key, Kind, Moment, Plate, is_sound};
+use wb_messages::Refusal;
 use wb_scale::Scale;
 use wb_store::{Overview, Sight, Store, StoreFault};
 use wb_window::Window;
 
 /// A weighing or void that is asked for.
 #[derive(Debug, Drop)]
-pub(crate) struct Asked {
+pub(crate) struct WeighingRequest {
     pub(crate) at: Moment,
     pub(crate) key: Key,
     pub(crate) kind: Kind,
@@ -46,7 +46,7 @@ pub(crate) enum Judgement {
 }
 
 /// Judges a repeated key: of the entry with the key, and its partner.
-fn judge_repetition(entry: Entry, partner: Option<Entry>, asked: &Asked) -> Judgement
+fn judge_repetition(entry: Entry, partner: Option<Entry>, asked: &WeighingRequest) -> Judgement
     ensures plain { is_plain result ≡ true }
     ensures judged { (a : Asking) → AsksFor asked.now a → AreLists a.now.entries a.now.spent
         → entry_by_key a.now.entries a.key ≡ Some entry
@@ -62,7 +62,7 @@ fn judge_repetition(entry: Entry, partner: Option<Entry>, asked: &Asked) -> Judg
 }
 
 /// Whether the entry is of the kind and the plate that are asked for.
-fn is_same(entry: &Entry, asked: &Asked) -> bool
+fn is_same(entry: &Entry, asked: &WeighingRequest) -> bool
     ensures { (a : Asking) → AsksFor asked.now a → result ≡ not (is_other a entry.now) }
 {
     entry.kind() == asked.kind && entry.plate().as_str() == asked.plate.as_str()
@@ -89,7 +89,7 @@ fn lacks_sound(partner: Option<&Entry>) -> bool
 pub(crate) fn judge<W: Window, D: Alter>(
     store: &mut Store<D>,
     scale: &Scale<W>,
-    asked: Asked,
+    asked: WeighingRequest,
 ) -> Result<Judgement, StoreFault>
     ensures looks { LooksUpInStore D.Store store.old store.new result (λ es ks judgement. (a : Asking)
         → AsksFor asked a → IsOnScale scale.now a → IsOnLists es ks a → MeetsVerdict judgement a) }
@@ -100,7 +100,7 @@ pub(crate) fn judge<W: Window, D: Alter>(
 }
 
 /// Judges by what is seen of the key and the plate.
-fn judge_sight<W: Window>(sight: Sight, scale: &Scale<W>, asked: Asked) -> Judgement
+fn judge_sight<W: Window>(sight: Sight, scale: &Scale<W>, asked: WeighingRequest) -> Judgement
     ensures plain { is_plain result ≡ true }
     ensures judged { (a : Asking) → AsksFor asked a → IsOnScale scale.now a
         → AreLists a.now.entries a.now.spent
@@ -114,7 +114,7 @@ fn judge_sight<W: Window>(sight: Sight, scale: &Scale<W>, asked: Asked) -> Judge
 }
 
 /// Judges a key that is new.
-fn judge_new<W: Window>(journal: Overview, scale: &Scale<W>, asked: Asked) -> Judgement
+fn judge_new<W: Window>(journal: Overview, scale: &Scale<W>, asked: WeighingRequest) -> Judgement
     ensures plain { is_plain result ≡ true }
     ensures judged { (a : Asking) → AsksFor asked a → IsOnScale scale.now a
         → entry_by_key a.now.entries a.key ≡ None → key_gone a ≡ false
@@ -145,7 +145,7 @@ fn shown<W: Window>(scale: &Scale<W>) -> OfScale
 }
 
 /// Judges what the scale and the journal show.
-fn judge_evidence(instrument: &Instrument, evidence: Evidence, asked: Asked) -> Judgement
+fn judge_evidence(instrument: &Instrument, evidence: Evidence, asked: WeighingRequest) -> Judgement
     requires setup { IsSetup instrument.now }
     requires load { IsIndicationInRange instrument.now evidence.scale.indicated }
     requires tare { IsTare instrument.now evidence.scale.tare }
@@ -156,7 +156,7 @@ fn judge_evidence(instrument: &Instrument, evidence: Evidence, asked: Asked) -> 
     if let Some(refusal) = evidence.refusal() {
         return Judgement::Refused(refusal);
     }
-    let Asked {
+    let WeighingRequest {
         at: _,
         key,
         kind: _,

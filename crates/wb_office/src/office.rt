@@ -7,15 +7,15 @@ ghost use Rattle.wb_office.specs.WithoutStore.{Outright};
 use crate::checking::answer_check;
 use crate::export_answers::{answer_journal, answer_tickets};
 use crate::indication::indication_text;
-use crate::judging::Asked;
+use crate::judging::WeighingRequest;
 use crate::purging::answer_purge;
 use crate::tickets::answer_ticket;
 use crate::weighing::answer_weighing;
 use sqlite::Alter;
 use std::alloc::Global;
 use std::marker::Model;
-use wb_events::{Answer, Refusal, Request};
 use wb_journal::{Kind, Moment};
+use wb_messages::{Answer, Refusal, Request};
 use wb_scale::Scale;
 use wb_store::Store;
 use wb_window::Window;
@@ -68,7 +68,7 @@ impl<D: Alter> Office<D> {
     {
         match request {
             Request::Weigh { key, kind, plate } => {
-                let asked = Asked {
+                let asked = WeighingRequest {
                     at,
                     key,
                     kind,
@@ -77,7 +77,7 @@ impl<D: Alter> Office<D> {
                 answer_weighing(&mut self.store, scale, asked)
             }
             Request::VoidOpen { key, plate } => {
-                let asked = Asked {
+                let asked = WeighingRequest {
                     at,
                     key,
                     kind: Kind::Void,

@@ -5,11 +5,11 @@ ghost use Rattle.wb_journal.specs.Kind.{is_second_kind};
 ghost use Rattle.wb_journal.specs.Pairs.{partner_in};
 ghost use Rattle.wb_journal.specs.declared.entry.EntryParts.{EntryParts};
 ghost use Rattle.wb_office.specs.Answer.{entry_content};
-ghost use Rattle.wb_events.specs.Content.{content_of};
+ghost use Rattle.wb_messages.specs.Content.{content_of};
 
 use std::alloc::AllocError;
-use wb_events::Answer;
 use wb_journal::{Entry, Kind, slip_text, ticket_text};
+use wb_messages::Answer;
 
 /// The slip of a First or Void; the ticket of a Single, and of a Second with its partner.
 pub(crate) fn text_of(entry: &Entry, partner: Option<&Entry>) -> Result<Answer, AllocError>

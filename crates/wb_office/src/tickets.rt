@@ -5,10 +5,10 @@ ghost use Rattle.wb_journal.specs.Kind.{is_second_kind, is_single_kind};
 ghost use Rattle.wb_journal.specs.Pairs.{partner_in};
 ghost use Rattle.wb_journal.specs.declared.entry.EntryParts.{EntryParts};
 ghost use Rattle.wb_office.specs.Answer.{ticket_of};
-ghost use Rattle.wb_events.specs.Content.{content_or_refusal};
+ghost use Rattle.wb_messages.specs.Content.{content_or_refusal};
 ghost use Rattle.wb_office.specs.Serves.{Serves, is_store_refusal};
 ghost use Rattle.wb_office.specs.Wanted.{IsWanted};
-ghost use Rattle.wb_events.specs.declared.request.Request.TheVariants as request;
+ghost use Rattle.wb_messages.specs.declared.request.Request.TheVariants as request;
 ghost use Rattle.wb_office.specs.helpers.LookUps.{LooksUpInStore};
 ghost use Rattle.wb_office.specs.helpers.Partners.{IsPairOf, IsPaired};
 ghost use Rattle.wb_scale.specs.State.{State};
@@ -16,8 +16,8 @@ ghost use Rattle.wb_scale.specs.State.{State};
 use crate::judging::is_damaged;
 use crate::weighing::told_again;
 use sqlite::Alter;
-use wb_events::{Answer, Refusal};
 use wb_journal::{Entry, Kind};
+use wb_messages::{Answer, Refusal};
 use wb_store::{Store, StoreFault};
 
 /// An entry, with its partner.

@@ -7,8 +7,8 @@ ghost use Rattle.wb_office.specs.helpers.ExportRecord.{record_text};
 
 use crate::csv_records::{Export, Fields};
 use std::alloc::{AllocError, Global};
-use wb_events::CsvText;
 use wb_journal::{Entry, Kind, net, partner_at, text_of_moment};
+use wb_messages::CsvText;
 
 /// The tickets as CSV with their columns, in the order of the entries. Refuses for want of memory alone.
 pub fn tickets_text(alloc: Global, entries: &[Entry]) -> Result<CsvText, AllocError>

@@ -11,7 +11,6 @@ mod nets;
 mod scale;
 mod terminal;
 mod window;
-mod witness;
 
 use std::fmt::{Debug, Write};
 use std::process::Abort;

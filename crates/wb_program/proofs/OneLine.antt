@@ -15,12 +15,12 @@ use Rattle.httpdate.specs.Text.{day_name, month_name, time_of_day, two_digits}
 use Rattle.httpdate.specs.declared.parts.Parts.{Parts}
 use Rattle.httpdate.specs.declared.date.HttpDate.{HttpDate}
 use Rattle.wb_trace.specs.Words.{first_word}
-use Rattle.wb_events.specs.declared.refusal.Refusal.{Refusal}
-use Rattle.wb_events.specs.declared.refusal.Refusal.TheVariants as refusal
-use Rattle.wb_events.specs.declared.request.Request.{Request}
-use Rattle.wb_events.specs.declared.request.Request.TheVariants as request
-use Rattle.wb_events.specs.Content.{Content}
-use Rattle.wb_events.specs.Content.{content_or_refusal}
+use Rattle.wb_messages.specs.declared.refusal.Refusal.{Refusal}
+use Rattle.wb_messages.specs.declared.refusal.Refusal.TheVariants as refusal
+use Rattle.wb_messages.specs.declared.request.Request.{Request}
+use Rattle.wb_messages.specs.declared.request.Request.TheVariants as request
+use Rattle.wb_messages.specs.Content.{Content}
+use Rattle.wb_messages.specs.Content.{content_or_refusal}
 use Rattle.wb_http.specs.declared.fault.HttpFault.{HttpFault}
 use Rattle.wb_http.specs.declared.fault.HttpFault.TheVariants.{BadField, HeadTooLarge, Malformed, Memory, NoLength, NoRoute, TooLarge, WrongMethod}
 use Rattle.wb_http.specs.declared.outcome.Outcome.{Outcome}

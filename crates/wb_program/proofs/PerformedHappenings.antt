@@ -12,8 +12,8 @@ use Rattle.wb_program.proofs.WrittenTexts.{Appends-append, Appends-none, printed
 use Rattle.wb_sics.specs.Stands.{TerminalState}
 use Rattle.wb_station.proofs.offered.Runs.{ran_append, ran_more, ran_none, unmarked_happening}
 use Rattle.wb_station.specs.Account.{Out}
-use Rattle.wb_events.specs.declared.event.Event.{Event}
-use Rattle.wb_events.specs.Happening.{Happening, byte, happening, unmarked}
+use Rattle.wb_messages.specs.declared.event.Event.{Event}
+use Rattle.wb_messages.specs.Happening.{Happening, byte, happening, unmarked}
 use Rattle.wb_station.specs.Stands.{Took}
 use Rattle.wb_store.specs.Journal.{StoreView}
 

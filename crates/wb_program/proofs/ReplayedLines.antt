@@ -13,7 +13,7 @@ use Rattle.wb_trace.specs.TraceLines.{line_events}
 use Rattle.wb_program.proofs.PerformedHappenings.{Performed-append, Performed-none}
 use Rattle.wb_sics.specs.Stands.{TerminalState}
 use Rattle.wb_station.proofs.offered.Runs.{leads}
-use Rattle.wb_events.specs.Happening.{Happening}
+use Rattle.wb_messages.specs.Happening.{Happening}
 use Rattle.wb_station.specs.Stands.{Hears, StationStands}
 use Rattle.wb_store.specs.Journal.{StoreView}
 

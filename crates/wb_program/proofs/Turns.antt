@@ -7,7 +7,7 @@ use Rattle.sqlite.specs.Store.{Ghosts}
 use Rattle.wb_program.specs.declared.serving.ServeEnd.TheVariants as end
 use Rattle.wb_program.specs.declared.serving.Stop.{Stop}
 use Rattle.wb_program.specs.declared.serving.Stop.TheVariants as stop
-use Rattle.wb_sources.specs.declared.sources.Converter.TheVariants.{Line}
+use Rattle.wb_input.specs.declared.sources.Converter.TheVariants.{Line}
 use Rattle.wb_program.specs.Served.{EndsAfter, Handled, Served}
 use Rattle.wb_program.specs.helpers.TurnParts.{ExchangeEnds, ExchangeServed, StretchServed, end_of, TurnEnds, TurnServed}
 use Rattle.wb_station.specs.SourceAnswers.{Answer, SourceTells, Told, asked, bytes_asked, converted, exchanged, timed, took}
@@ -17,8 +17,8 @@ use Rattle.wb_program.proofs.SourceAnswers.{all_handed_on_append, tells_append, 
 use Rattle.wb_sics.specs.Stands.{TerminalState}
 use Rattle.wb_station.proofs.offered.Runs.{ran_append, ran_more, ran_none, unmarked_happening}
 use Rattle.wb_station.specs.Account.{Out}
-use Rattle.wb_events.specs.declared.event.Event.{Event}
-use Rattle.wb_events.specs.Happening.{Happening, happening, office, reading, unmarked}
+use Rattle.wb_messages.specs.declared.event.Event.{Event}
+use Rattle.wb_messages.specs.Happening.{Happening, happening, office, reading, unmarked}
 use Rattle.wb_station.specs.Stands.{Took}
 use Rattle.wb_store.specs.Journal.{StoreView}
 use Rattle.wb_window.specs.declared.reading.Reading.{Reading}

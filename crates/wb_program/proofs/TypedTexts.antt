@@ -7,7 +7,7 @@ use Rattle.wb_program.specs.helpers.Performed.{Performed}
 use Rattle.wb_trace.specs.TraceLines.{typed}
 use Rattle.wb_program.proofs.PerformedHappenings.{Performed-append, reversed-typed}
 use Rattle.wb_sics.specs.Stands.{TerminalState}
-use Rattle.wb_events.specs.Happening.{byte}
+use Rattle.wb_messages.specs.Happening.{byte}
 use Rattle.wb_store.specs.Journal.{StoreView}
 
 -- a text was typed, and then a line end

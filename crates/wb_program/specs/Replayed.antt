@@ -12,7 +12,7 @@ use Rattle.wb_trace.specs.Trace.{trace_events, trace_limit}
 use Rattle.wb_program.specs.PrintedOutputs.{printed}
 use Rattle.wb_sics.specs.Stands.{TerminalState}
 use Rattle.wb_station.specs.Account.{Account, Out, opened}
-use Rattle.wb_events.specs.Happening.{Happening, unmarked}
+use Rattle.wb_messages.specs.Happening.{Happening, unmarked}
 use Rattle.wb_station.specs.RunOfEvents.{AreOuts, AreReplies, Ran}
 use Rattle.wb_station.specs.Stands.{Hears, StationStands}
 use Rattle.wb_station.specs.Unmade.{AllMayBeUnmade}

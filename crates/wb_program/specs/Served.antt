@@ -3,12 +3,12 @@ use Rattle.std.specs.Prelude.{◌≡◌, ◌<◌, ◌⊎◌, ℕ, List, ◌∷�
 use Rattle.sqlite.specs.Store.{Ghosts}
 use Rattle.wb_program.specs.declared.serving.ServeEnd.{ServeEnd}
 use Rattle.wb_program.specs.declared.serving.ServeEnd.TheVariants as end
-use Rattle.wb_sources.specs.declared.sources.Converter.TheVariants.{End, Fault}
+use Rattle.wb_input.specs.declared.sources.Converter.TheVariants.{End, Fault}
 use Rattle.wb_station.specs.SourceAnswers.{Answer, SourceTells, Told, asked, converted, timed}
 use Rattle.wb_program.specs.Turns.{Begun, Turn, all_handed_on, answers_begun, answers_of, happenings_begun, happenings_of}
 use Rattle.wb_sics.specs.Stands.{TerminalState}
 use Rattle.wb_station.specs.Account.{Out}
-use Rattle.wb_events.specs.Happening.{Happening, unmarked}
+use Rattle.wb_messages.specs.Happening.{Happening, unmarked}
 use Rattle.wb_station.specs.RunOfEvents.{Ran}
 use Rattle.wb_store.specs.Journal.{StoreView}
 

@@ -1,9 +1,9 @@
 -- What comes in a turn of the service.
 use Rattle.std.specs.Prelude.{ℕ, Bool, true, false, List, [], ◌∷◌, ◌++◌, map, reverse, Option, Some, None}
-use Rattle.wb_sources.specs.declared.sources.Converter.TheVariants.{Line}
+use Rattle.wb_input.specs.declared.sources.Converter.TheVariants.{Line}
 use Rattle.wb_station.specs.SourceAnswers.{Answer, Handed, asked, converted, timed, to_office, to_terminal, took}
 use Rattle.wb_station.specs.Account.{Out, bytes_of_replies, nothing, replied, responded}
-use Rattle.wb_events.specs.Happening.{Happening, byte, hang_up, office, reading}
+use Rattle.wb_messages.specs.Happening.{Happening, byte, hang_up, office, reading}
 use Rattle.wb_window.specs.declared.reading.Reading.{Reading}
 
 -- a request to the office, and the moment at which it came

@@ -3,7 +3,7 @@ ghost use Rattle.std.specs.Prelude.{◌∷◌, [], false, OnOk, map, replicate, 
 ghost use Rattle.wb_trace.specs.TraceLines.{typed};
 ghost use Rattle.wb_trace.specs.helpers.LineEvents.{IsReadLine, events_of};
 ghost use Rattle.wb_program.specs.helpers.Performed.{Performed};
-ghost use Rattle.wb_events.specs.Happening.{IsTaken, byte as byte_happening, happening, reading as reading_happening};
+ghost use Rattle.wb_messages.specs.Happening.{IsTaken, byte as byte_happening, happening, reading as reading_happening};
 ghost use Rattle.wb_window.specs.Reading.{IsReading};
 
 use crate::printing::{WriteFault, print_output, print_replies};

@@ -4,15 +4,16 @@ ghost use Rattle.wb_program.specs.Served.{Handled, Served};
 ghost use Rattle.wb_program.specs.Statuses.{status_of_serve};
 ghost use Rattle.wb_program.specs.Turns.{handed_on};
 ghost use Rattle.wb_program.specs.helpers.TurnParts.{ExchangeServed, StretchServed, end_of, TurnServed};
-ghost use Rattle.wb_events.specs.Happening.{IsTaken, byte as byte_happening, happening, office as office_happening};
+ghost use Rattle.wb_messages.specs.Happening.{IsTaken, byte as byte_happening, happening, office as office_happening};
 ghost use Rattle.wb_station.specs.OutputShows.{out_shown};
 ghost use Rattle.wb_station.specs.SourceAnswers.{SourceTells};
 
 use sqlite::Alter;
 use thiserror::Error;
+use wb_input::{Converter, REQUEST_ROOM, TERMINAL_ROOM};
 use wb_journal::Moment;
-use wb_sources::{Converter, REQUEST_ROOM, TERMINAL_ROOM};
-use wb_station::{Event, Incoming, Judged, Output, Sources, Station, StoreFault, reply_bytes};
+use wb_station::{Event, Incoming, Judged, Output, Sources, Station, reply_bytes};
+use wb_store::StoreFault;
 use wb_window::Window;
 
 /// How serving ended.

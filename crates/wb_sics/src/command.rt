@@ -3,7 +3,7 @@ ghost use Rattle.std.specs.Prelude.{◌≡◌};
 ghost use Rattle.wb_sics.specs.Commands.{command_of, preset_command, tare_command, word_command};
 
 use crate::grams::grams_of;
-use wb_text::split_at_first;
+use wb_input::split_at_first;
 
 /// The characters of a line that may be a command.
 const LINE_LIMIT: usize = 40;

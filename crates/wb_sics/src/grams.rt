@@ -2,7 +2,7 @@
 ghost use Rattle.std.specs.Prelude.{◌≡◌, ◌<◌, IfSome};
 ghost use Rattle.wb_sics.specs.Commands.{grams, scaled};
 
-use wb_text::{digits, split_at_first};
+use wb_input::{digits, split_at_first};
 
 /// Grams in a kilogram.
 const GRAMS: u64 = 1_000;

@@ -21,7 +21,7 @@ impl StationRequests {
 }
 
 impl Requests for StationRequests {
-    type Judged = Judged;
+    type Request = Judged;
 
     fn once_whole(&self, bytes: Vec<u8>) -> Result<Judged, Vec<u8>> {
         Judged::once_whole(self.alloc, &self.routes, bytes)

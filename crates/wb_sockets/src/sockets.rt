@@ -1,9 +1,9 @@
 //! The sources of a service, over real sockets and files.
 ghost use Rattle.std.specs.Prelude.{None};
-ghost use Rattle.wb_sources.specs.Converted.{IsConverted};
+ghost use Rattle.wb_input.specs.Converted.{IsConverted};
 
 use crate::clients::Clients;
-use crate::telling::{Answered, Asked, asked};
+use crate::telling::{Answered, RequestText, asked};
 use std::alloc::AllocError;
 use std::io::{Read, Write};
 use std::net::{OpenListener, OpenStream, SocketAddr};
@@ -14,9 +14,10 @@ use wb_connections::{
     ConverterLink, ENDLESS_LINE, FINISH_SECONDS, LOOK_MILLIS, OfficeClients, PAUSE_MILLIS, Report,
     TerminalClients, is_past,
 };
+use wb_input::{Converter, REQUEST_ROOM, TERMINAL_ROOM, Taken};
 use wb_journal::Moment;
-use wb_sources::{Converter, REQUEST_ROOM, TERMINAL_ROOM, Taken};
-use wb_station::{Exchange, Incoming, Judged, Sources, StoreFault};
+use wb_station::{Exchange, Incoming, Judged, Sources};
+use wb_store::StoreFault;
 use wb_window::Reading;
 
 /// How often what waits for clients is looked at at the end.
@@ -61,7 +62,7 @@ where
     /// When the request that isn't answered yet was handed out.
     asked: Option<Instant>,
     /// What that request asks, if what happens is told.
-    request: Asked,
+    request: RequestText,
 }
 
 impl<'a, R: Clock + Eprint + AllocGlobal, L: OpenListener + Drop> Sockets<'a, R, L>
@@ -95,7 +96,7 @@ where
                 clients,
                 now,
                 asked: None,
-                request: Asked::new(),
+                request: RequestText::new(),
             }),
             Err(error) => Err(StartFault::from(error)),
         }

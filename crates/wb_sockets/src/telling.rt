@@ -10,7 +10,7 @@ const MOST: usize = 64;
 const ROOM: usize = 160;
 
 /// A request, in the words in which it is told.
-pub(crate) type Asked = ArrayString<ROOM>;
+pub(crate) type RequestText = ArrayString<ROOM>;
 
 /// Bytes that came from a client or go to one, as a text within a line.
 #[derive(Clone, Copy)]
@@ -27,10 +27,10 @@ impl Display for Shown<'_> {
 }
 
 /// A request's method and target, and the key of its form, if it has one.
-pub(crate) fn asked(request: &[u8]) -> Asked {
+pub(crate) fn asked(request: &[u8]) -> RequestText {
     let (head, form) = parts_of(request);
     let line = first_line(head);
-    let mut told = Asked::new();
+    let mut told = RequestText::new();
     let _ = write!(
         told,
         "{}",

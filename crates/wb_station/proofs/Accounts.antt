@@ -17,7 +17,7 @@ use Rattle.wb_tables.specs.Lists.{AreLists}
 use Rattle.wb_sics.proofs.Theorems.{law_of_replies}
 use Rattle.wb_station.specs.Account.{Account, Comes, IsAccount, IsResponseOut, Out, hears, nothing, opened, replied, responded}
 use Rattle.wb_http.specs.Response.{IsDateOf, ResponseContent, response_text}
-use Rattle.wb_events.specs.Happening.{Happening, heard_of, reading, byte, hang_up, office}
+use Rattle.wb_messages.specs.Happening.{Happening, heard_of, reading, byte, hang_up, office}
 use Rattle.wb_station.specs.Stands.{Hears, IsAnsweredOutright, IsButForOne, IsOfHistory, IsReplied, LeavesSoon, MustBeUnmade, StationStands, Took}
 use Rattle.wb_station.specs.Unmade.{MayBeUnmade}
 use Rattle.wb_window.specs.declared.reading.Reading.{Reading as Load}

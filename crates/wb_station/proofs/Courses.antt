@@ -2,7 +2,7 @@
 use Rattle.std.proofs.Common.{◌≡◌, ℕ, ◌⊎◌, inl, inr, refl, sym, ap, subst, subst₂, ◌∙◌, true, false, List, [], ◌∷◌, Some, Result, Ok, Err}
 use Rattle.wb_instrument.specs.Setup.{Setup}
 use Rattle.wb_journal.specs.declared.entry.EntryParts.{EntryParts}
-use Rattle.wb_events.specs.declared.request.Request.{Request}
+use Rattle.wb_messages.specs.declared.request.Request.{Request}
 use Rattle.wb_office.specs.CourseOfRequests as course
 use Rattle.wb_office.specs.CourseOfRequests.{AreBounds, Journal, RequestTurn, after, answer_in, left}
 use Rattle.wb_office.specs.Laws.{IsGone, IsKeptEntry}
@@ -12,7 +12,7 @@ use Rattle.wb_office.proofs.Theorems.{law_of_repeated_requests}
 use Rattle.wb_http.specs.declared.fault.HttpFault.{HttpFault}
 use Rattle.wb_station.specs.Account.{Account, ComesOf, IsAccount, Out, account_left, situation_at}
 use Rattle.wb_station.specs.CourseOfHistory.{AddsEntry, AreTurns, HasCourse, IsCourse, KeptForGood, SameAgain, journal_of, request_turn}
-use Rattle.wb_events.specs.Happening.{Happening, reading, byte, hang_up, office}
+use Rattle.wb_messages.specs.Happening.{Happening, reading, byte, hang_up, office}
 use Rattle.wb_http.specs.HttpJudgement.{IsJudged}
 
 -- what a request leaves is what its turn leaves

@@ -8,7 +8,7 @@ use Rattle.wb_station.specs.declared.event.AtTerminal.TheVariants.{Byte, Hangup}
 use Rattle.wb_station.specs.declared.event.Room.{Room}
 use Rattle.wb_station.specs.helpers.Hearing.{Heard}
 use Rattle.wb_station.specs.helpers.RoomShows.{shown_in}
-use Rattle.wb_events.specs.Happening.{byte, hang_up}
+use Rattle.wb_messages.specs.Happening.{byte, hang_up}
 use Rattle.wb_station.specs.Stands.{Took}
 use Rattle.wb_station.proofs.Accounts.{byte_took, hang_up_took}
 

@@ -15,17 +15,17 @@ use Rattle.wb_journal.specs.Check.{finding_in}
 use Rattle.wb_journal.specs.Moment.{day_of}
 use Rattle.wb_journal.specs.Pairs.{with_number}
 use Rattle.wb_journal.specs.Rising.{IsRising}
-use Rattle.wb_events.specs.declared.answer.Answer.{Answer}
-use Rattle.wb_events.specs.declared.refusal.Refusal.{Refusal}
-use Rattle.wb_events.specs.declared.refusal.Refusal.TheVariants.{KeyReused, Gone, ClockBack, NoLoad, Overload, Underload, Unstable, BelowMin, TareActive, NoPreset, NotCleared, AlreadyOpen, NoOpen, JournalFull, Store, NoTicket, Damaged}
-use Rattle.wb_events.specs.declared.request.Request.{Request}
-use Rattle.wb_events.specs.declared.request.Request.TheVariants.{Weigh, VoidOpen, Ticket, Indication, JournalCsv, TicketsCsv, Purge, Check}
-use Rattle.wb_events.specs.Content.{Content, text_content}
+use Rattle.wb_messages.specs.declared.answer.Answer.{Answer}
+use Rattle.wb_messages.specs.declared.refusal.Refusal.{Refusal}
+use Rattle.wb_messages.specs.declared.refusal.Refusal.TheVariants.{KeyReused, Gone, ClockBack, NoLoad, Overload, Underload, Unstable, BelowMin, TareActive, NoPreset, NotCleared, AlreadyOpen, NoOpen, JournalFull, Store, NoTicket, Damaged}
+use Rattle.wb_messages.specs.declared.request.Request.{Request}
+use Rattle.wb_messages.specs.declared.request.Request.TheVariants.{Weigh, VoidOpen, Ticket, Indication, JournalCsv, TicketsCsv, Purge, Check}
+use Rattle.wb_messages.specs.Content.{Content, text_content}
 use Rattle.wb_office.specs.Answer.{text_of_indication, answer_by_verdict, asking, makes_a_ticket, if_sound, entry_content, ticket_of}
 use Rattle.wb_office.specs.Situation.{Situation}
 use Rattle.wb_office.specs.WithoutStore.{Outright}
 use Rattle.wb_office.specs.Conditions.{is_damaged_entry}
-use Rattle.wb_events.specs.Content.{content_or_refusal}
+use Rattle.wb_messages.specs.Content.{content_or_refusal}
 use Rattle.wb_office.specs.Serves.{IsNow, Marks, Serves, is_store_refusal}
 use Rattle.wb_office.specs.Wanted.{Wanted, IsWanted, asks_store, wanted}
 use Rattle.wb_office.specs.Verdict.{Verdict, accepted, refused, repeated, verdict}
@@ -46,7 +46,7 @@ use Rattle.wb_sics.proofs.Theorems.{law_of_stored_weighings}
 use Rattle.wb_http.specs.declared.fault.HttpFault.{HttpFault}
 use Rattle.wb_http.specs.declared.fault.HttpFault.TheVariants.{BadField, HeadTooLarge, Malformed, Memory, NoLength, NoRoute, TooLarge, WrongMethod}
 use Rattle.wb_station.specs.Account.{Account, Comes, IsResponseOut, Out, account_left, responded, situation_at}
-use Rattle.wb_events.specs.Happening.{Happening, heard_of, office}
+use Rattle.wb_messages.specs.Happening.{Happening, heard_of, office}
 use Rattle.wb_http.specs.HttpJudgement.{IsJudged, MayWantMemory}
 use Rattle.wb_http.specs.UnlessMemoryRefused.{IsOf}
 use Rattle.wb_http.specs.Response.{ResponseContent, is_export, response_text, response_to_fault, response_to_result}

@@ -3,8 +3,8 @@ use Rattle.std.proofs.Common.{◌≡◌, ℕ, refl, sym, ap, subst, ◌∙◌, a
 use Rattle.httpdate.proofs.Theorems.{unix_secs_injective}
 use Rattle.httpdate.specs.Text.{imf_fixdate}
 use Rattle.wb_instrument.specs.Setup.{Setup}
-use Rattle.wb_events.specs.declared.request.Request.{Request}
-use Rattle.wb_events.specs.declared.request.Request.TheVariants.{Purge}
+use Rattle.wb_messages.specs.declared.request.Request.{Request}
+use Rattle.wb_messages.specs.declared.request.Request.TheVariants.{Purge}
 use Rattle.wb_office.specs.Situation.{Situation}
 use Rattle.wb_office.specs.Wanted.{Wanted, HasBound, IsWanted, wanted}
 use Rattle.wb_sics.specs.Event as terminal
@@ -14,7 +14,7 @@ use Rattle.wb_sics.specs.Replies.{replies}
 use Rattle.wb_sics.proofs.Theorems.{law_of_replies}
 use Rattle.wb_http.specs.declared.fault.HttpFault.{HttpFault}
 use Rattle.wb_station.specs.Account.{Account, Comes, ComesOf, IsAccount, IsResponseOut, Out, account_left, replied, responded, situation_at}
-use Rattle.wb_events.specs.Happening.{Happening, heard_of, reading, byte, hang_up, office}
+use Rattle.wb_messages.specs.Happening.{Happening, heard_of, reading, byte, hang_up, office}
 use Rattle.wb_station.specs.Laws.{OneHistory, RepliesAlone}
 use Rattle.wb_http.specs.Response.{ResponseContent, response_text, response_to_result}
 use Rattle.wb_http.proofs.judgement.WholeRequests.{one_judgement}

@@ -5,9 +5,9 @@ use Rattle.std.proofs.lemmas.List.{reverse-append, map-append, take_more}
 use Rattle.sqlite.specs.Store.{Ghosts}
 use Rattle.wb_sics.specs.Stands.{TerminalState}
 use Rattle.wb_store.specs.Journal.{StoreView}
-use Rattle.wb_events.specs.declared.event.Event.{Event}
+use Rattle.wb_messages.specs.declared.event.Event.{Event}
 use Rattle.wb_station.specs.Account.{Out, bytes_of_out}
-use Rattle.wb_events.specs.Happening.{Happening, happening, unmarked}
+use Rattle.wb_messages.specs.Happening.{Happening, happening, unmarked}
 use Rattle.wb_station.specs.RunOfEvents.{AreOf, Ran, Stopped, Went, at_place, taken_of}
 use Rattle.wb_station.specs.Stands.{Took}
 use Rattle.wb_station.proofs.offered.Runs.{ran_more, unmarked_happening}

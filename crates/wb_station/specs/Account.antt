@@ -2,7 +2,7 @@
 use Rattle.std.specs.Prelude.{◌≡◌, ℕ, true, false, List, [], ◌∷◌, ◌++◌, if◌then◌else◌, Result, Ok, Err}
 use Rattle.wb_instrument.specs.Setup.{Setup}
 use Rattle.wb_journal.specs.declared.entry.EntryParts.{EntryParts}
-use Rattle.wb_events.specs.declared.request.Request.{Request}
+use Rattle.wb_messages.specs.declared.request.Request.{Request}
 use Rattle.wb_office.specs.Situation.{Situation}
 use Rattle.wb_office.specs.Wanted.{Wanted, IsWanted}
 use Rattle.wb_scale.specs.History.{moments}
@@ -15,7 +15,7 @@ use Rattle.wb_sics.specs.ReplyText.{reply_bytes}
 use Rattle.wb_tables.specs.Rows.{SpentKey}
 use Rattle.wb_http.specs.declared.fault.HttpFault.{HttpFault}
 use Rattle.wb_http.specs.declared.fault.HttpFault.TheVariants.{Memory}
-use Rattle.wb_events.specs.Happening.{Happening, reading, byte, hang_up, office}
+use Rattle.wb_messages.specs.Happening.{Happening, reading, byte, hang_up, office}
 use Rattle.wb_http.specs.HttpJudgement.{IsJudged}
 use Rattle.wb_http.specs.Response.{IsDateOf, ResponseContent, response_text, response_to_fault, response_to_result}
 

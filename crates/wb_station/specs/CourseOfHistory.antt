@@ -2,7 +2,7 @@
 use Rattle.std.specs.Prelude.{◌≡◌, ◌⊎◌, ℕ, true, false, List, [], ◌∷◌, ◌++◌, Some, Result, Ok, Err}
 use Rattle.wb_instrument.specs.Setup.{Setup}
 use Rattle.wb_journal.specs.declared.entry.EntryParts.{EntryParts}
-use Rattle.wb_events.specs.declared.request.Request.{Request}
+use Rattle.wb_messages.specs.declared.request.Request.{Request}
 use Rattle.wb_office.specs.CourseOfRequests.{AreBounds, Journal, RequestTurn, after, answered_with}
 use Rattle.wb_office.specs.Laws.{IsGone, IsKeptEntry}
 use Rattle.wb_office.specs.Wanted.{Wanted, IsWanted}
@@ -11,7 +11,7 @@ use Rattle.wb_sics.specs.Calls.{calls}
 use Rattle.wb_tables.specs.Lists.{AreLists, entry_by_key, is_spent}
 use Rattle.wb_http.specs.declared.fault.HttpFault.{HttpFault}
 use Rattle.wb_station.specs.Account.{Account, IsAccount, account_left, situation_at}
-use Rattle.wb_events.specs.Happening.{Happening, reading, byte, hang_up, office}
+use Rattle.wb_messages.specs.Happening.{Happening, reading, byte, hang_up, office}
 use Rattle.wb_http.specs.HttpJudgement.{IsJudged}
 
 -- the two lists of an account

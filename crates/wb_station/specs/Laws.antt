@@ -2,7 +2,7 @@
 use Rattle.std.specs.Prelude.{◌≡◌, List, []}
 use Rattle.wb_instrument.specs.Setup.{Setup}
 use Rattle.wb_station.specs.Account.{Account, IsAccount, IsOut, Out}
-use Rattle.wb_events.specs.Happening.{Happening}
+use Rattle.wb_messages.specs.Happening.{Happening}
 use Rattle.wb_station.specs.Stands.{IsReplied}
 
 -- a history has one account, and at each happening one output

@@ -3,9 +3,9 @@ use Rattle.std.specs.Prelude.{◌≡◌, ◌≢◌, ℕ, ◌+◌, true, false, L
 use Rattle.sqlite.specs.Store.{Ghosts}
 use Rattle.wb_sics.specs.Stands.{TerminalState}
 use Rattle.wb_store.specs.Journal.{IsHonest, StoreView}
-use Rattle.wb_events.specs.declared.event.Event.{Event}
+use Rattle.wb_messages.specs.declared.event.Event.{Event}
 use Rattle.wb_station.specs.Account.{Account, IsOut, Out, bytes_of_out}
-use Rattle.wb_events.specs.Happening.{Happening, happening, unmarked}
+use Rattle.wb_messages.specs.Happening.{Happening, happening, unmarked}
 use Rattle.wb_station.specs.Stands.{Hears, IsReplied, MustBeUnmade, StationStands, Took}
 use Rattle.wb_station.specs.Unmade.{AllMayBeUnmade}
 use Rattle.wb_instrument.specs.Setup.{Setup}

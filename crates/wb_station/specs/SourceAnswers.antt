@@ -1,6 +1,6 @@
 -- What sources of events answer, and what they are handed.
 use Rattle.std.specs.Prelude.{◌≡◌, ◌≤◌, ◌⊎◌, ℕ, Bool, List, [], ◌∷◌, ◌++◌, take, Option, Some, None, option_map}
-use Rattle.wb_sources.specs.declared.sources.Converter.{Converter}
+use Rattle.wb_input.specs.declared.sources.Converter.{Converter}
 use Rattle.wb_station.specs.declared.sources.Incoming.{Incoming}
 use Rattle.wb_station.specs.declared.sources.Incoming.TheVariants.{Bytes, Judged}
 use Rattle.wb_station.specs.declared.sources.Exchange.{Exchange}

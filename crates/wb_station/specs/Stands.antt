@@ -4,10 +4,10 @@ use Rattle.sqlite.specs.Held.{state}
 use Rattle.sqlite.specs.Store.{Ghosts}
 use Rattle.sqlite.specs.Tree.{Trees}
 use Rattle.wb_instrument.specs.Setup.{Setup}
-use Rattle.wb_events.specs.declared.refusal.Refusal.TheVariants.{NoTicket}
-use Rattle.wb_events.specs.declared.request.Request.{Request}
-use Rattle.wb_events.specs.declared.request.Request.TheVariants.{Indication, Ticket}
-use Rattle.wb_events.specs.Content.{text_content}
+use Rattle.wb_messages.specs.declared.refusal.Refusal.TheVariants.{NoTicket}
+use Rattle.wb_messages.specs.declared.request.Request.{Request}
+use Rattle.wb_messages.specs.declared.request.Request.TheVariants.{Indication, Ticket}
+use Rattle.wb_messages.specs.Content.{text_content}
 use Rattle.wb_office.specs.Answer.{text_of_indication}
 use Rattle.wb_office.specs.Wanted.{asks_store}
 use Rattle.wb_scale.specs.History.{moments}
@@ -24,7 +24,7 @@ use Rattle.wb_tables.specs.Lists.{AreLists}
 use Rattle.wb_http.specs.declared.fault.HttpFault.{HttpFault}
 use Rattle.wb_http.specs.declared.fault.HttpFault.TheVariants.{Memory}
 use Rattle.wb_station.specs.Account.{Account, Comes, IsAccount, IsResponseOut, Out, nothing, replied}
-use Rattle.wb_events.specs.Happening.{Happening, heard_of, reading, byte, hang_up, office, unmarked}
+use Rattle.wb_messages.specs.Happening.{Happening, heard_of, reading, byte, hang_up, office, unmarked}
 use Rattle.wb_http.specs.HttpJudgement.{IsJudged}
 use Rattle.wb_http.specs.Response.{response_to_fault, response_to_result}
 use Rattle.wb_station.specs.Unmade.{MayBeUnmade}

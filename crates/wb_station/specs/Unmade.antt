@@ -1,8 +1,8 @@
 -- Which requests may count as never made, because they are answered 503.
 use Rattle.std.specs.Prelude.{◌≡◌, ◌⊎◌, true, false, List, [], ◌∷◌, Ok}
-use Rattle.wb_events.specs.declared.request.Request.{Request}
+use Rattle.wb_messages.specs.declared.request.Request.{Request}
 use Rattle.wb_office.specs.Wanted.{asks_store}
-use Rattle.wb_events.specs.Happening.{Happening, reading, byte, hang_up, office}
+use Rattle.wb_messages.specs.Happening.{Happening, reading, byte, hang_up, office}
 use Rattle.wb_http.specs.HttpJudgement.{IsJudged, MayWantMemory}
 
 -- the request may want memory for its form, or asks the store

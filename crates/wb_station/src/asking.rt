@@ -2,7 +2,7 @@
 //! Why the store refused it, if it did, is told beside it, since the response has only that it did.
 ghost use Rattle.std.specs.Prelude.{Bool, List, Ok, ℕ};
 ghost use Rattle.wb_station.specs.Account.{IsResponseOut, responded};
-ghost use Rattle.wb_events.specs.Happening.{office as office_happening};
+ghost use Rattle.wb_messages.specs.Happening.{office as office_happening};
 ghost use Rattle.wb_http.specs.HttpJudgement.{IsJudged};
 ghost use Rattle.wb_http.specs.Response.{response_to_fault};
 ghost use Rattle.wb_station.specs.Stands.{Took};
@@ -10,10 +10,10 @@ ghost use Rattle.wb_http.specs.UnlessMemoryRefused.{WasJudged};
 
 use sqlite::Alter;
 use std::alloc::Global;
-use wb_events::{Answer, Refusal};
 use wb_http::{HttpFault, Outcome, ResponseRoom, response_bytes};
 use wb_journal::Moment;
-use wb_office::{Office, Request};
+use wb_messages::{Answer, Refusal, Request};
+use wb_office::Office;
 use wb_sics::Terminal;
 use wb_store::StoreFault;
 use wb_window::Window;
@@ -24,11 +24,11 @@ pub(crate) fn ask<W: Window, D: Alter>(
     terminal: &mut Terminal<W>,
     office: &mut Office<D>,
     room: &mut ResponseRoom,
-    moment: &Moment,
+    moment: Moment,
     judged: Result<Request, HttpFault>,
 ) -> Option<StoreFault>
     ensures { (bytes : List ℕ) → WasJudged bytes judged → (unmade : Bool)
-        × Took D.Store (office_happening moment.now bytes unmade)
+        × Took D.Store (office_happening moment bytes unmade)
         (responded room.new) terminal.old office.old terminal.new office.new }
 {
     match judged {
@@ -47,21 +47,21 @@ fn answer<W: Window, D: Alter>(
     terminal: &mut Terminal<W>,
     office: &mut Office<D>,
     room: &mut ResponseRoom,
-    moment: &Moment,
+    moment: Moment,
     request: Request,
 ) -> Option<StoreFault>
     ensures { (bytes : List ℕ) → IsJudged bytes (Ok request) → (unmade : Bool)
-        × Took D.Store (office_happening moment.now bytes unmade)
+        × Took D.Store (office_happening moment bytes unmade)
         (responded room.new) terminal.old office.old terminal.new office.new }
 {
     let asked = request.copied();
-    let result = office.answer(alloc, terminal.scale_mut(), moment.copied(), request);
+    let result = office.answer(alloc, terminal.scale_mut(), moment, request);
     let fault = fault_of(&result);
     let outcome = Outcome::Office {
         request: &asked,
         result: &result,
     };
-    if response_bytes(moment.copied(), outcome, room).is_err() {
+    if response_bytes(moment, outcome, room).is_err() {
         put_fault(room, moment, HttpFault::Memory);
         return fault;
     }
@@ -77,9 +77,9 @@ fn fault_of(answered: &Result<Answer, Refusal>) -> Option<StoreFault> {
 }
 
 /// Leaves the response to a fault in the room.
-fn put_fault(room: &mut ResponseRoom, moment: &Moment, fault: HttpFault)
-    ensures { IsResponseOut moment.now (response_to_fault fault) (responded room.new) }
+fn put_fault(room: &mut ResponseRoom, moment: Moment, fault: HttpFault)
+    ensures { IsResponseOut moment (response_to_fault fault) (responded room.new) }
 {
     // it fits into the room
-    let _ = response_bytes(moment.copied(), Outcome::Fault(fault), room);
+    let _ = response_bytes(moment, Outcome::Fault(fault), room);
 }

@@ -25,8 +25,7 @@ pub use outputs::{Outputs, Refused};
 pub use run::{ReplyBytes, RunStopped, reply_bytes};
 pub use sources::{Exchange, Incoming, Sources};
 pub use station::{OpenRefused, Station};
-pub use wb_events::Event;
 pub use wb_http::{
     HttpFault, Judged, Method, Outcome, ResponseRoom, Routes, request_of, response_bytes,
 };
-pub use wb_store::StoreFault;
+pub use wb_messages::Event;

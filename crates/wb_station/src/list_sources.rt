@@ -1,13 +1,13 @@
 //! Sources in memory.
 ghost use Rattle.std.specs.Prelude.{◌≡◌, ◌∷◌, [], false, length, min, take};
-ghost use Rattle.wb_sources.specs.Converted.{IsConverted};
+ghost use Rattle.wb_input.specs.Converted.{IsConverted};
 ghost use Rattle.wb_station.specs.SourceAnswers.{SourceTells, timed};
 ghost use Rattle.wb_station.specs.SourcesInMemory.{answer_of, handed_of, told_of};
 
 use crate::sources::Sources;
 use std::alloc::Global;
+use wb_input::{Converter, REQUEST_ROOM, TERMINAL_ROOM, Taken};
 use wb_journal::Moment;
-use wb_sources::{Converter, REQUEST_ROOM, TERMINAL_ROOM, Taken};
 use wb_window::Reading;
 
 /// What comes in a turn.

@@ -1,7 +1,7 @@
 //! Runs of events.
 ghost use Rattle.std.specs.Prelude.{◌≡◌, ◌≢◌, ◌<◌, ◌≤◌, ◌+◌, ◌-◌, ◌^◌, ◌++◌, [], All, IfErr, MatchResult, OnOk, length, take};
 ghost use Rattle.wb_station.specs.Account.{bytes_of_out, bytes_of_replies};
-ghost use Rattle.wb_events.specs.Happening.{IsTaken};
+ghost use Rattle.wb_messages.specs.Happening.{IsTaken};
 ghost use Rattle.wb_station.specs.OutputShows.{out_shown};
 ghost use Rattle.wb_station.specs.RunOfEvents.{Stopped, WentOn, at_place};
 
@@ -11,7 +11,7 @@ use crate::station::Station;
 use arrayvec::ArrayString;
 use sqlite::Alter;
 use thiserror::Error;
-use wb_events::Event;
+use wb_messages::Event;
 use wb_sics::Replies;
 use wb_window::Window;
 

@@ -1,11 +1,11 @@
 //! Where a service's events come from, and where what is put out goes.
 ghost use Rattle.std.specs.Prelude.{[], ◌∷◌, ◌≤◌, IfSome, Option, option_map, take};
-ghost use Rattle.wb_sources.specs.Converted.{IsConverted};
+ghost use Rattle.wb_input.specs.Converted.{IsConverted};
 ghost use Rattle.wb_station.specs.SourceAnswers.{IsInRoom, Told, SourceTells, asked, converted, exchanged, timed, to_office, to_terminal, took};
 
 use wb_http::Judged;
+use wb_input::{Converter, REQUEST_ROOM, TERMINAL_ROOM, Taken};
 use wb_journal::Moment;
-use wb_sources::{Converter, REQUEST_ROOM, TERMINAL_ROOM, Taken};
 use wb_store::StoreFault;
 
 /// A request to the office as sources hand it out.

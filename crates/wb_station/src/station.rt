@@ -4,7 +4,7 @@ ghost use Rattle.std.specs.Prelude.{◌≡◌, [], Bool, IfErr, IfOk, List, ℕ}
 ghost use Rattle.wb_journal.specs.declared.entry.EntryParts.{EntryParts};
 ghost use Rattle.wb_station.specs.Account.{opened, replied};
 ghost use Rattle.wb_station.specs.AfterBorrow.{HoldsAfterBorrow};
-ghost use Rattle.wb_events.specs.Happening.{IsTaken, happening, office as office_happening, reading as reading_happening};
+ghost use Rattle.wb_messages.specs.Happening.{IsTaken, happening, office as office_happening, reading as reading_happening};
 ghost use Rattle.wb_station.specs.OutputShows.{out_shown};
 ghost use Rattle.wb_station.specs.Stands.{Hears, StationStands, Took};
 ghost use Rattle.wb_http.specs.UnlessMemoryRefused.{WasJudged};
@@ -18,11 +18,11 @@ use crate::event::{AtTerminal, Output, Room};
 use crate::hearing::hear;
 use sqlite::Alter;
 use std::alloc::Global;
-use wb_events::Event;
 use wb_http::{HttpFault, Judged, ResponseRoom, Routes, request_of};
 use wb_instrument::Instrument;
 use wb_journal::Moment;
-use wb_office::{Office, Request};
+use wb_messages::{Event, Request};
+use wb_office::Office;
 use wb_scale::Scale;
 use wb_sics::{Replies, Terminal};
 use wb_store::{Store, StoreFault};
@@ -122,7 +122,7 @@ impl<W: Window, D: Alter> Station<W, D> {
             × Took D.Store (office_happening moment request unmade) (out_shown result)
             self.old.terminal self.old.office new.terminal new.office)) }
     {
-        let room = self.ask(&moment, request.into_result());
+        let room = self.ask(moment, request.into_result());
         self.output(room)
     }
 
@@ -153,15 +153,15 @@ impl<W: Window, D: Alter> Station<W, D> {
             Event::Hangup => hear(&mut self.terminal, &mut self.replies, AtTerminal::Hangup),
             Event::Office { moment, bytes } => {
                 let judged = request_of(self.alloc, &self.routes, bytes);
-                self.ask(moment, judged)
+                self.ask(*moment, judged)
             }
         }
     }
 
     /// Takes what a request's bytes were judged as, and makes the response in its room.
-    fn ask(&mut self, moment: &Moment, judged: Result<Request, HttpFault>) -> Room
+    fn ask(&mut self, moment: Moment, judged: Result<Request, HttpFault>) -> Room
         ensures { (bytes : List ℕ) → WasJudged bytes judged → (unmade : Bool)
-            × Took D.Store (office_happening moment.now bytes unmade)
+            × Took D.Store (office_happening moment bytes unmade)
             (shown_in result self.new.replies.items self.new.response)
             self.old.terminal self.old.office self.new.terminal self.new.office }
     {

@@ -5,7 +5,7 @@
 ghost use Rattle.std.specs.Prelude.{◌≡◌, ◌∷◌, false, List};
 ghost use Rattle.wb_journal.specs.declared.entry.EntryParts.{EntryParts};
 ghost use Rattle.wb_office.specs.Answer.{office_answer, entries_left, spent_left};
-ghost use Rattle.wb_events.specs.Content.{content_or_refusal};
+ghost use Rattle.wb_messages.specs.Content.{content_or_refusal};
 ghost use Rattle.wb_office.specs.Serves.{is_store_refusal};
 ghost use Rattle.wb_office.specs.Situation.{Situation};
 ghost use Rattle.wb_scale.specs.Call.{Call, read};

@@ -4,7 +4,7 @@
 //! after it with the happening at its head. Several of them are a run, which leads where the history does (`law_of_runs`).
 ghost use Rattle.std.specs.Prelude.{◌≡◌, ◌∷◌, Bool, IfSome, List};
 ghost use Rattle.wb_station.specs.Account.{Account, IsOut, responded};
-ghost use Rattle.wb_events.specs.Happening.{Happening, office as office_happening, reading as reading_happening};
+ghost use Rattle.wb_messages.specs.Happening.{Happening, office as office_happening, reading as reading_happening};
 ghost use Rattle.wb_station.specs.OutputShows.{out_shown};
 ghost use Rattle.wb_station.specs.Stands.{StationStands};
 ghost use Rattle.wb_store.specs.Journal.{IsHonest};

@@ -12,9 +12,10 @@ mod purge;
 mod refusal;
 mod steps;
 mod stops;
+mod witness;
 
+use wb_fixtures::{LATER, MORNING, Plain, ZEROS, unsealed};
 use wb_journal::{Entry, Kind};
-use wb_road::{LATER, MORNING, Plain, ZEROS, unsealed};
 
 /// An entry by its number, key, kind and plate. A Second is 8,140 kg an hour and a half after the others, which are 18,340 kg; a
 /// Single has a preset tare of 5,000 kg, and a Void no weight.

@@ -3,8 +3,8 @@ ghost use Rattle.std.specs.Prelude.{◌≡◌, IfErr, IfOk};
 ghost use Rattle.wb_instrument.specs.Setup.{IsFirstFault};
 ghost use Rattle.wb_terminal_c.specs.Passed.{part_number, serial_passed, setup_passed};
 
+use wb_input::split_at_first;
 use wb_instrument::{Instrument, PartFault, Parts, Serial};
-use wb_text::split_at_first;
 
 /// The end of a text in C.
 const END_OF_TEXT: u8 = 0;

@@ -2,7 +2,7 @@
 use Rattle.std.specs.Prelude.{ℕ, ◌==◌, ◌&&◌, nat_le, List, [], ◌∷◌, if◌then◌else◌, Option, Some, None}
 use Rattle.hex.specs.Hex.{decode_of}
 use Rattle.std.specs.Result.{result_ok}
-use Rattle.wb_text.specs.Digits.{numeral_value}
+use Rattle.wb_input.specs.Digits.{numeral_value}
 
 abbrev pub within : ℕ → ℕ → ℕ → Option ℕ
 within least most n = if nat_le least n && nat_le n most then Some n else None

@@ -2,10 +2,10 @@
 use Rattle.std.specs.Prelude.{ℕ, ◌==◌, List, [], ◌∷◌, ◌++◌, codes, decimal, if◌then◌else◌, is_some, length, nat_eq, Option, Some, None, false}
 use Rattle.std.specs.Cmp.Lexicographic.{pointwise}
 use Rattle.std.specs.List.{position}
-use Rattle.wb_text.specs.Digits.{numeral_value}
+use Rattle.wb_input.specs.Digits.{numeral_value}
 use Rattle.wb_trace.specs.Numerals.{bytes_of_hexadecimal, if_within}
 use Rattle.wb_trace.specs.Words.{after_word, first_word}
-use Rattle.wb_events.specs.Happening.{Happening, office}
+use Rattle.wb_messages.specs.Happening.{Happening, office}
 
 -- seconds of a moment, with no leading zero
 abbrev pub moment_in : List ℕ → Option ℕ

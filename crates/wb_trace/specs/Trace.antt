@@ -1,6 +1,6 @@
 -- A trace: what happens at its lines.
 use Rattle.std.specs.Prelude.{ℕ, List, [], ◌∷◌, ◌++◌, Option, Some, None}
-use Rattle.wb_events.specs.Happening.{Happening}
+use Rattle.wb_messages.specs.Happening.{Happening}
 use Rattle.wb_trace.specs.TraceLines.{line_events}
 
 -- the bytes that a trace may have

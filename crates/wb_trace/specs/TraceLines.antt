@@ -5,9 +5,9 @@ use Rattle.std.specs.Cmp.Lexicographic.{pointwise}
 use Rattle.wb_window.specs.Reading.{reading_of}
 use Rattle.wb_window.specs.declared.reading.Reading.{Reading}
 use Rattle.wb_window.specs.declared.reading.Reading.TheVariants.{Lost}
-use Rattle.wb_events.specs.Happening.{Happening, reading, byte, hang_up}
+use Rattle.wb_messages.specs.Happening.{Happening, reading, byte, hang_up}
 use Rattle.wb_trace.specs.Numerals.{bytes_of_hexadecimal, count_in}
-use Rattle.wb_sources.specs.Number.{signed_number}
+use Rattle.wb_input.specs.Number.{signed_number}
 use Rattle.wb_trace.specs.RequestLines.{asked_by_bytes, asked_by_line}
 
 -- `lost`, or a number of tenths

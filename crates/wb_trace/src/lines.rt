@@ -3,7 +3,7 @@ ghost use Rattle.std.specs.Prelude.{◌≡◌, ◌<◌, ◌≤◌, ◌+◌, ◌�
 ghost use Rattle.std.specs.Str.Lines.{lines, strip_carriage_return as strip};
 ghost use Rattle.wb_trace.specs.Words.{after_word, first_word};
 
-use wb_text::split_at_first;
+use wb_input::split_at_first;
 
 /// The first line of what is left of a trace, without its LF or CR LF, and what follows it; none where nothing is
 /// left. A last line without an end counts.

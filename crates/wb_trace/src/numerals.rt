@@ -3,8 +3,8 @@ ghost use Rattle.std.specs.Prelude.{◌≡◌, ◌≤◌, ◌+◌, ◌*◌, IfSo
 ghost use Rattle.wb_trace.specs.Numerals.{bytes_of_hexadecimal, count_in};
 ghost use Rattle.wb_trace.specs.RequestLines.{moment_in};
 
+use wb_input::digits;
 use wb_journal::Moment;
-use wb_text::digits;
 
 /// The digits that a number may have.
 const MOST_DIGITS: usize = 18;

@@ -7,7 +7,7 @@ use crate::lines::split_word;
 use crate::numerals::{hexadecimal, moment};
 use crate::trace_line::TraceLine;
 use itoa::Buffer;
-use wb_text::split_at_first;
+use wb_input::split_at_first;
 
 /// The bytes that a request may have beside its line: its head's words, and the length of its body.
 pub const HEAD_ROOM: usize = 64;

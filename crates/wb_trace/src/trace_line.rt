@@ -7,9 +7,8 @@ ghost use Rattle.wb_window.specs.Reading.{IsReading};
 
 use crate::numerals::{count, hexadecimal};
 use crate::request_line::{request_bytes_line, request_line};
+use wb_input::{number, split_at_first};
 use wb_journal::Moment;
-use wb_sources::number;
-use wb_text::split_at_first;
 use wb_window::Reading;
 
 /// What a line of a trace asks for.

@@ -17,7 +17,7 @@ use crate::streams::filled;
 use clap::error::ErrorKind;
 use std::io;
 use std::process::ExitCode;
-use wb_command::{Asked, REFUSED, Service, read_words};
+use wb_command::{Invocation, REFUSED, Service, read_words};
 use wb_file::JournalFile;
 use wb_instrument::Instrument;
 use wb_program::{ReplayEnd, ServeEnd, What, replay};
@@ -33,22 +33,22 @@ fn main(rt: HostRuntime) -> io::Result<ExitCode> {
         words.push(word)?;
     }
     match read_words(rt.alloc(), words.as_slice())? {
-        Asked::Replay(instrument) => run_replay(&rt, instrument),
-        Asked::Serve(instrument, service) => run_service(&rt, instrument, &service),
-        Asked::Check(path) => run_print(&rt, &path, Print::Check),
-        Asked::ExportJournal(path) => run_print(&rt, &path, Print::Export(What::Journal)),
-        Asked::ExportTickets(path) => run_print(&rt, &path, Print::Export(What::Tickets)),
-        Asked::Migrate(from, to) => run_over(
+        Invocation::Replay(instrument) => run_replay(&rt, instrument),
+        Invocation::Serve(instrument, service) => run_service(&rt, instrument, &service),
+        Invocation::Check(path) => run_print(&rt, &path, Print::Check),
+        Invocation::ExportJournal(path) => run_print(&rt, &path, Print::Export(What::Journal)),
+        Invocation::ExportTickets(path) => run_print(&rt, &path, Print::Export(What::Tickets)),
+        Invocation::Migrate(from, to) => run_over(
             &rt,
             JournalFile::migrate(&rt, &from, &to),
             Task::Print(Print::Migrated),
         ),
-        Asked::SetupRefused(fault) => {
+        Invocation::SetupRefused(fault) => {
             eprintln!(rt; "{fault}")?;
             Ok(ExitCode::from(fault.status()))
         }
-        Asked::WordsRefused(error) => tell(&rt, &error),
-        Asked::Nothing => Ok(ExitCode::from(REFUSED)),
+        Invocation::WordsRefused(error) => tell(&rt, &error),
+        Invocation::Nothing => Ok(ExitCode::from(REFUSED)),
     }
 }
 

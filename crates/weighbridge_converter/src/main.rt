@@ -21,7 +21,7 @@ use std::process::ExitCode;
 use wb_calibration::Filter;
 use wb_calibration_file::{Made, text_of};
 use wb_converter::RunEnd;
-use wb_converter_command::{Asked, Load, REFUSED, Sampling, read_words};
+use wb_converter_command::{ConverterInvocation, Load, REFUSED, Sampling, read_words};
 
 /// The status of any fault but refused words.
 const FAULT: u8 = 1;
@@ -32,16 +32,16 @@ fn main(rt: HostRuntime) -> io::Result<ExitCode> {
         words.push(word)?;
     }
     match read_words(rt.alloc(), words.as_slice())? {
-        Asked::Run(running) => {
+        ConverterInvocation::Run(running) => {
             let end = serve(&rt, &running);
             end_run(&rt, end)
         }
-        Asked::Point(path, sampling) => run_point(&rt, path.as_str(), sampling),
-        Asked::Finish(path, filter) => run_finish(&rt, path.as_str(), filter),
-        Asked::Show(path) => run_show(&rt, path.as_str(), Print::Text),
-        Asked::Plot(path) => run_show(&rt, path.as_str(), Print::Plot),
-        Asked::WordsRefused(error) => tell(&rt, &error),
-        Asked::Nothing => Ok(ExitCode::from(REFUSED)),
+        ConverterInvocation::Point(path, sampling) => run_point(&rt, path.as_str(), sampling),
+        ConverterInvocation::Finish(path, filter) => run_finish(&rt, path.as_str(), filter),
+        ConverterInvocation::Show(path) => run_show(&rt, path.as_str(), Print::Text),
+        ConverterInvocation::Plot(path) => run_show(&rt, path.as_str(), Print::Plot),
+        ConverterInvocation::WordsRefused(error) => tell(&rt, &error),
+        ConverterInvocation::Nothing => Ok(ExitCode::from(REFUSED)),
     }
 }
 

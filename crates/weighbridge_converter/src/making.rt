@@ -132,7 +132,7 @@ fn add(
         }
     }
     let moment = now(rt)?;
-    let lines = addition(file.as_slice(), number, &moment, filter, calibration);
+    let lines = addition(file.as_slice(), number, moment, filter, calibration);
     write_anew(rt, path, file.as_slice(), lines.as_str().as_bytes())?;
     newest_of(bytes_of(rt, path)?.as_slice())
 }

@@ -5,7 +5,7 @@ use Rattle.std.specs.Option.{option_and_then, option_or}
 use Rattle.std.specs.Str.Parse.{digits_value}
 use Rattle.std.proofs.lemmas.Bool.Decides.{nat_tests}
 use Rattle.std.proofs.lemmas.Slice.Eq.{bytes_eq-Decides}
-use Rattle.wb_events.specs.declared.request.Request.{Request}
+use Rattle.wb_messages.specs.declared.request.Request.{Request}
 use Rattle.wb_http.specs.declared.fault.HttpFault.{HttpFault}
 use Rattle.wb_http.specs.declared.fault.HttpFault.TheVariants.{Malformed, NoLength, NoRoute, TooLarge, WrongMethod}
 use Rattle.wb_http.specs.declared.fault.Method.{Method}

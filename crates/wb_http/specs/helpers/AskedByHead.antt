@@ -1,6 +1,6 @@
 -- What a head asks, step by step: its route, and how many bytes the body has.
 use Rattle.std.specs.Prelude.{◌≡◌, ℕ, Bool, true, false, not, nat_lt, List, bytes_eq, length, take, if◌then◌else◌, Option, Some, None, ok_or, Result, Ok, Err}
-use Rattle.wb_events.specs.declared.request.Request.{Request}
+use Rattle.wb_messages.specs.declared.request.Request.{Request}
 use Rattle.wb_http.specs.declared.fault.HttpFault.{HttpFault}
 use Rattle.wb_http.specs.declared.fault.HttpFault.TheVariants.{BadField, Malformed, NoRoute, WrongMethod}
 use Rattle.wb_http.specs.declared.fault.Method.{Method}

@@ -2,7 +2,7 @@
 use Rattle.std.proofs.Common.{◌≡◌, ◌∙◌, sym, ap, subst, ℕ, ◌+◌, ◌<◌, Bool, true, false, ◌&&◌, ◌||◌, if◌then◌else◌, List, [], ◌∷◌, ◌++◌, take, Option, Some, None, refl, arith, true≢false}
 use Rattle.wb_office.proofs.Common.{nat_tests, list_any, EntryParts, Finding, Sound, FoundDamaged, Kind, First, Second, Single, Void, finding_in, is_closing_kind, entry_by_key, number_after, Refusal, Request, Weigh, VoidOpen, Purge, Outcome, adds, office_answer, answer_by_verdict, asking, nothing, outcome, outcome_of, purges, unless_damaged, Asking, Situation, key_gone, is_damaged_entry, is_other, journal_full, places, places_needed, added, added_by, answered_with, entry_of, Condition, Verdict, accepted, first_refusal, entry_added, of_new, on, on_new, refused, repeated, verdict}
 use Rattle.std.specs.Prelude.{nat_lt}
-use Rattle.wb_events.specs.declared.refusal.Refusal.TheVariants as refusal
+use Rattle.wb_messages.specs.declared.refusal.Refusal.TheVariants as refusal
 use Rattle.wb_office.proofs.FoundEntries.{is_some_same, none_some}
 use Rattle.wb_office.proofs.Verdicts.{by_damage, by_newness, by_other, by_repetition, by_spent}
 
@@ -33,26 +33,26 @@ is_full refusal.JournalFull = true
 is_full _ = false
 
 -- how a request is judged: refused by its key, repeated, or judged anew
-data Judged (a : Asking) : Type 0 where
-  by_its_key : (why : Refusal) → is_full why ≡ false → verdict a ≡ refused why → Judged a
-  as_repeated : (e : EntryParts) → entry_by_key a.now.entries a.key ≡ Some e → is_other a e ≡ false → is_damaged_entry a.now.entries e ≡ false → verdict a ≡ repeated e → Judged a
-  anew : entry_by_key a.now.entries a.key ≡ None → key_gone a ≡ false → verdict a ≡ on_new a (first_refusal of_new a) → Judged a
+data Course (a : Asking) : Type 0 where
+  by_its_key : (why : Refusal) → is_full why ≡ false → verdict a ≡ refused why → Course a
+  as_repeated : (e : EntryParts) → entry_by_key a.now.entries a.key ≡ Some e → is_other a e ≡ false → is_damaged_entry a.now.entries e ≡ false → verdict a ≡ repeated e → Course a
+  anew : entry_by_key a.now.entries a.key ≡ None → key_gone a ≡ false → verdict a ≡ on_new a (first_refusal of_new a) → Course a
 
 -- a key that is stored and was spent is refused all the same
 by_both : (a : Asking) (e : EntryParts) → entry_by_key a.now.entries a.key ≡ Some e → is_other a e ≡ false → key_gone a ≡ true → verdict a ≡ refused refusal.Gone
 unfolding verdict
 by_both a e found other spent = rw (found, other, spent) refl
 
-how_judged : (a : Asking) → Judged a
+how_judged : (a : Asking) → Course a
 how_judged a = go (entry_by_key a.now.entries a.key) refl (key_gone a) refl
   where
-    stored : (e : EntryParts) → entry_by_key a.now.entries a.key ≡ Some e → (b c d : Bool) → is_other a e ≡ b → key_gone a ≡ c → is_damaged_entry a.now.entries e ≡ d → Judged a
+    stored : (e : EntryParts) → entry_by_key a.now.entries a.key ≡ Some e → (b c d : Bool) → is_other a e ≡ b → key_gone a ≡ c → is_damaged_entry a.now.entries e ≡ d → Course a
     stored e found true c d o g m = by_its_key refusal.KeyReused refl (by_other a e found o)
     stored e found false true d o g m = by_its_key refusal.Gone refl (by_both a e found o g)
     stored e found false false true o g m = by_its_key refusal.Damaged refl (by_damage a e found o g m)
     stored e found false false false o g m = as_repeated e found o m (by_repetition a e found o g m)
 
-    go : (o : Option EntryParts) → entry_by_key a.now.entries a.key ≡ o → (c : Bool) → key_gone a ≡ c → Judged a
+    go : (o : Option EntryParts) → entry_by_key a.now.entries a.key ≡ o → (c : Bool) → key_gone a ≡ c → Course a
     go (Some e) found c g = stored e found (is_other a e) c (is_damaged_entry a.now.entries e) refl g refl
     go None none true g = by_its_key refusal.Gone refl (by_spent a none g)
     go None none false g = anew none g (by_newness a none g)
@@ -73,7 +73,7 @@ is_new a e is = go (how_judged a)
     by_conditions none free (Some why) holds made = no_refusal e why made
     by_conditions none free None holds made = record { free = none; unspent = free; judged = holds; made = ap (the_entry e) made }
 
-    go : Judged a → IsNew a e
+    go : Course a → IsNew a e
     go (by_its_key why other v) = no_refusal e why (sym is ∙ v)
     go (as_repeated f found same whole v) = no_repetition e f (sym is ∙ v)
     go (anew none free v) = by_conditions none free (first_refusal of_new a) refl (sym is ∙ v)
@@ -91,7 +91,7 @@ is_repeated a e is = go (how_judged a)
     by_conditions (Some why) made = refused_repetition e why made
     by_conditions None made = no_repetition (entry_added a) e (sym made)
 
-    go : Judged a → IsRepeated a e
+    go : Course a → IsRepeated a e
     go (by_its_key why other v) = refused_repetition e why (sym is ∙ v)
     go (as_repeated f found same whole v) = subst (IsRepeated a) (ap (the_entry e) (sym v ∙ is)) (record { found = found; same = same; whole = whole })
     go (anew none free v) = by_conditions (first_refusal of_new a) (sym is ∙ v)
@@ -177,7 +177,7 @@ full_is_new a is = go (how_judged a)
     by_conditions (Some why) same = ap Some (ap the_refusal same)
     by_conditions None same = no_refusal (entry_added a) refusal.JournalFull same
 
-    go : Judged a → first_refusal of_new a ≡ Some refusal.JournalFull
+    go : Course a → first_refusal of_new a ≡ Some refusal.JournalFull
     go (by_its_key why other v) = absurd (true≢false (sym (ap is_full (ap the_refusal (sym v ∙ is))) ∙ other))
     go (as_repeated f found same whole v) = refused_repetition f refusal.JournalFull (sym v ∙ is)
     go (anew none free v) = by_conditions (first_refusal of_new a) (sym v ∙ is)

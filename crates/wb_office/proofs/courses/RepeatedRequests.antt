@@ -2,7 +2,7 @@
 use Rattle.std.proofs.Common.{◌≡◌, ◌∙◌, sym, ap, subst, ◌⊎◌, ℕ, Bool, true, false, inl, inr, not, ◌&&◌, ◌||◌, if◌then◌else◌, List, [], ◌∷◌, ◌++◌, Option, Some, None, Result, Ok, refl, true≢false}
 use Rattle.wb_office.proofs.Common.{bytes_eq-Decides, list_any, is_none, bytes_eq, EntryParts, Kind, First, Second, Single, Void, is_sound_entry, is_closing_kind, is_second_kind, same_kind, open_entry, partner_in, IsRising, find-among, sound-sealed, law_of_closing, AreLists, entry_by_key, has_key, is_spent, Refusal, Request, Content, office_answer, answer_by_verdict, asking, entries_after, outcome_of, spent_by_outcome, entry_content, ticket_content, Asking, Situation, holds_of, is_damaged_entry, is_other, AreBounds, Journal, RequestTurn, after, answer_in, entry_of, left, situation_of_turn, AnsweredAgain, IsGone, IsKeptEntry, Verdict, accepted, of_new, refused, repeated, verdict}
 use Rattle.wb_journal.specs.Texts.{ticket}
-use Rattle.wb_events.specs.declared.refusal.Refusal.TheVariants as refusal
+use Rattle.wb_messages.specs.declared.refusal.Refusal.TheVariants as refusal
 use Rattle.wb_office.proofs.FoundEntries.{found_by_number, is_some_same, none_some}
 use Rattle.wb_office.proofs.ConditionsInOrder.{none_holds}
 use Rattle.wb_office.proofs.NewEntries.{unsealed}

@@ -1,7 +1,7 @@
 -- A ticket that was given, after whatever was asked.
 use Rattle.std.proofs.Common.{◌≡◌, ◌∙◌, sym, ap, ◌⊎◌, inl, inr, ℕ, ◌==◌, Bool, true, false, true≢false, if◌then◌else◌, List, Option, Some, None, Result, Ok, Err, refl}
 use Rattle.wb_office.proofs.Common.{eqb-true, bytes_eq-Decides, EntryParts, partner_in, with_number, Among, find-among, has_key, Refusal, Content, makes_a_ticket, entry_content, ticket_answer, ticket_if_sound, ticket_of, is_damaged_entry, after, IsTakenOut, TicketGivenAgain}
-use Rattle.wb_events.specs.declared.refusal.Refusal.TheVariants as refusal
+use Rattle.wb_messages.specs.declared.refusal.Refusal.TheVariants as refusal
 use Rattle.wb_office.proofs.FoundEntries.{found_by_number}
 use Rattle.wb_office.proofs.Members.{some_passes}
 use Rattle.wb_office.proofs.courses.KeptEntries.{stands_or_out}

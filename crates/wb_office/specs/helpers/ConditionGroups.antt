@@ -1,6 +1,6 @@
 -- Groups of conditions, in their order, as the code judges them.
 use Rattle.std.specs.Prelude.{List, [], ◌∷◌}
-use Rattle.wb_events.specs.declared.refusal.Refusal.TheVariants as refusal
+use Rattle.wb_messages.specs.declared.refusal.Refusal.TheVariants as refusal
 use Rattle.wb_office.specs.Conditions.{already_open, below_min, damaged_first, journal_full, no_load, no_open, no_preset, not_cleared, overload, tare_active, underload, unstable}
 use Rattle.wb_office.specs.Verdict.{Condition, on}
 

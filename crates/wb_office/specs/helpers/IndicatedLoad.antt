@@ -8,8 +8,8 @@ use Rattle.wb_scale.specs.declared.answers.Indicated.{Indicated}
 use Rattle.wb_scale.specs.declared.answers.Indicated.TheVariants.{NoLoad, Over, Under, Shown}
 use Rattle.wb_scale.specs.declared.answers.TareNow.{TareNow}
 use Rattle.wb_scale.specs.declared.answers.TareNow.TheVariants.{Empty, Weighed, Preset}
-use Rattle.wb_events.specs.declared.refusal.Refusal.{Refusal}
-use Rattle.wb_events.specs.declared.refusal.Refusal.TheVariants as refusal
+use Rattle.wb_messages.specs.declared.refusal.Refusal.{Refusal}
+use Rattle.wb_messages.specs.declared.refusal.Refusal.TheVariants as refusal
 use Rattle.wb_office.specs.Verdict.{kilograms_of}
 
 -- why a load that is indicated so isn't stored

@@ -8,7 +8,7 @@ use Rattle.wb_scale.specs.History.{moments}
 use Rattle.wb_scale.specs.Stands.{ScaleStands}
 use Rattle.wb_scale.specs.State.{State}
 use Rattle.wb_tables.specs.Lists.{IsNext}
-use Rattle.wb_office.specs.declared.judging.Asked.{Asked}
+use Rattle.wb_office.specs.declared.judging.WeighingRequest.{WeighingRequest}
 use Rattle.wb_office.specs.declared.judging.Judgement.{Judgement}
 use Rattle.wb_office.specs.declared.judging.Judgement.TheVariants.{Refused, Repeated, Accepted}
 use Rattle.wb_office.specs.Situation.{Asking}
@@ -16,7 +16,7 @@ use Rattle.wb_office.specs.Serves.{is_of_store}
 use Rattle.wb_office.specs.Verdict.{accepted, refused, repeated, verdict}
 
 -- the weighing or void is asked for
-pub record AsksFor (asked : Asked) (a : Asking) : Type 0 where
+pub record AsksFor (asked : WeighingRequest) (a : Asking) : Type 0 where
   pub of_key : a.key ≡ asked.key
   pub of_kind : a.kind ≡ asked.kind
   pub of_plate : a.plate ≡ asked.plate

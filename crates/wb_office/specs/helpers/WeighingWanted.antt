@@ -1,6 +1,6 @@
 -- What is wanted of a weighing or void.
 use Rattle.std.specs.Prelude.{◌≡◌}
-use Rattle.wb_office.specs.declared.judging.Asked.{Asked}
+use Rattle.wb_office.specs.declared.judging.WeighingRequest.{WeighingRequest}
 use Rattle.wb_office.specs.Answer.{answer_by_verdict, asking, entries_after, is_marked, outcome_of, spent_by_outcome}
 use Rattle.wb_office.specs.Situation.{Situation}
 use Rattle.wb_office.specs.Wanted.{Wanted}
@@ -15,5 +15,5 @@ wanted_by w v = record {
 }
 
 -- the answer of the verdict, with what it leaves
-abbrev pub IsWeighingWanted : Asked → Situation → Wanted → Type 0
+abbrev pub IsWeighingWanted : WeighingRequest → Situation → Wanted → Type 0
 IsWeighingWanted asked w want = want ≡ wanted_by w (verdict (asking w asked.key asked.kind asked.plate))

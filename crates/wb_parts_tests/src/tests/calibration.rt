@@ -122,65 +122,65 @@ fn gives_the_load_on_the_line_between_points(rt: HostRuntime) -> Result<(), Fail
 }
 
 /// What a row shows, points, and what is said of them.
-struct Judged(&'static str, &'static [Pair], &'static str);
+struct CalibrationRow(&'static str, &'static [Pair], &'static str);
 
-static JUDGED: [Judged; 16] = [
-    Judged("no point", &[], "Few: 1 Few"),
-    Judged("one point", &[(0, 0)], "Few: 1 Few"),
-    Judged("two points", TIES, "rises, 2"),
-    Judged("counts that fall", TURNED, "falls, 3"),
-    Judged(
+static JUDGED: [CalibrationRow; 16] = [
+    CalibrationRow("no point", &[], "Few: 1 Few"),
+    CalibrationRow("one point", &[(0, 0)], "Few: 1 Few"),
+    CalibrationRow("two points", TIES, "rises, 2"),
+    CalibrationRow("counts that fall", TURNED, "falls, 3"),
+    CalibrationRow(
         "a load below zero",
         &[(0, -1), (100, 100)],
         "Load { place: 1 }: 3 Load 1",
     ),
-    Judged(
+    CalibrationRow(
         "a load past the greatest",
         &[(0, 0), (100, 2_000_001)],
         "Load { place: 2 }: 3 Load 2",
     ),
-    Judged("loads 100 tenths apart", &[(0, 0), (100, 100)], "rises, 2"),
-    Judged(
+    CalibrationRow("loads 100 tenths apart", &[(0, 0), (100, 100)], "rises, 2"),
+    CalibrationRow(
         "loads 99 tenths apart",
         &[(0, 0), (100, 99)],
         "Loads { place: 2 }: 4 Loads 2",
     ),
-    Judged(
+    CalibrationRow(
         "a load that falls",
         &[(0, 0), (100, 300), (200, 200)],
         "Loads { place: 3 }: 4 Loads 3",
     ),
-    Judged(
+    CalibrationRow(
         "counts 99 apart",
         &[(0, 0), (99, 100)],
         "Counts { place: 2 }: 5 Counts 2",
     ),
-    Judged(
+    CalibrationRow(
         "counts that fall, 100 apart",
         &[(0, 0), (-100, 100)],
         "falls, 2",
     ),
-    Judged(
+    CalibrationRow(
         "counts that fall, 99 apart",
         &[(0, 0), (-99, 100)],
         "Counts { place: 2 }: 5 Counts 2",
     ),
-    Judged(
+    CalibrationRow(
         "counts that rise and then fall",
         &[(0, 0), (200, 100), (100, 200)],
         "Counts { place: 3 }: 5 Counts 3",
     ),
-    Judged(
+    CalibrationRow(
         "counts that fall and then rise",
         &[(0, 0), (-200, 100), (-100, 200)],
         "Counts { place: 3 }: 5 Counts 3",
     ),
-    Judged(
+    CalibrationRow(
         "the load before the counts",
         &[(0, 0), (0, 0)],
         "Loads { place: 2 }: 4 Loads 2",
     ),
-    Judged(
+    CalibrationRow(
         "the first place before the next",
         &[(0, 0), (0, 100), (0, -1)],
         "Counts { place: 2 }: 5 Counts 2",
@@ -204,8 +204,8 @@ fn note_judged(alloc: Global, pairs: &[Pair], answer: &mut String) -> Result<(),
     }
 }
 
-fn is_judged(rt: &impl Abort, alloc: Global, row: &Judged) -> Result<(), Fail> {
-    let Judged(shows, pairs, wanted) = row;
+fn is_judged(rt: &impl Abort, alloc: Global, row: &CalibrationRow) -> Result<(), Fail> {
+    let CalibrationRow(shows, pairs, wanted) = row;
     let mut answer = String::new(alloc);
     note_judged(alloc, pairs, &mut answer)?;
     assert_text(rt, shows, answer.as_str(), wanted);

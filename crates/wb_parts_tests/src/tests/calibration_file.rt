@@ -187,7 +187,7 @@ fn added(
     let (Some(moment), Ok(calibration)) = (Moment::new(seconds), Calibration::new(points)) else {
         return Ok(answer.push_str("refused")?);
     };
-    Ok(answer.push_str(addition(file.as_bytes(), number, &moment, filter, &calibration).as_str())?)
+    Ok(answer.push_str(addition(file.as_bytes(), number, moment, filter, &calibration).as_str())?)
 }
 
 #[test]

@@ -5,7 +5,7 @@ use std::alloc::Global;
 use std::fmt::Write;
 use std::process::Abort;
 use std::test::Fail;
-use wb_command::{Asked, Service, SetupFault, read_words};
+use wb_command::{Invocation, Service, SetupFault, read_words};
 use wb_instrument::Instrument;
 
 /// The words of a command line, and how they are understood (or a part of it).
@@ -293,7 +293,7 @@ fn cut(alloc: Global, line: &str, words: &mut Vec<String>) -> Result<(), Fail> {
     Ok(())
 }
 
-fn asked_by(alloc: Global, line: &str) -> Result<Asked, Fail> {
+fn asked_by(alloc: Global, line: &str) -> Result<Invocation, Fail> {
     let mut words = Vec::new(alloc);
     cut(alloc, line, &mut words)?;
     Ok(read_words(alloc, words.as_slice())?)
@@ -356,17 +356,17 @@ fn write_error(error: &clap::Error, text: &mut String) -> Result<(), Fail> {
 }
 
 /// How words are understood, in one text.
-fn write_asked(asked: &Asked, text: &mut String) -> Result<(), Fail> {
+fn write_asked(asked: &Invocation, text: &mut String) -> Result<(), Fail> {
     match asked {
-        Asked::Replay(instrument) => write_setup("replay: ", instrument, text),
-        Asked::Serve(instrument, service) => write_serve(instrument, service, text),
-        Asked::Check(file) => write_both("check: ", file.as_str(), text),
-        Asked::ExportJournal(file) => write_both("export journal: ", file.as_str(), text),
-        Asked::ExportTickets(file) => write_both("export tickets: ", file.as_str(), text),
-        Asked::Migrate(from, to) => write_migration(from.as_str(), to.as_str(), text),
-        Asked::SetupRefused(fault) => write_fault(fault, text),
-        Asked::WordsRefused(error) => write_error(error, text),
-        Asked::Nothing => write_both("nothing", "", text),
+        Invocation::Replay(instrument) => write_setup("replay: ", instrument, text),
+        Invocation::Serve(instrument, service) => write_serve(instrument, service, text),
+        Invocation::Check(file) => write_both("check: ", file.as_str(), text),
+        Invocation::ExportJournal(file) => write_both("export journal: ", file.as_str(), text),
+        Invocation::ExportTickets(file) => write_both("export tickets: ", file.as_str(), text),
+        Invocation::Migrate(from, to) => write_migration(from.as_str(), to.as_str(), text),
+        Invocation::SetupRefused(fault) => write_fault(fault, text),
+        Invocation::WordsRefused(error) => write_error(error, text),
+        Invocation::Nothing => write_both("nothing", "", text),
     }
 }
 

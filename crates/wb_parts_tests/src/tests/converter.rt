@@ -7,7 +7,7 @@ use std::test::Fail;
 use wb_calibration::{Calibration, Filter, Point, Readings};
 use wb_calibration_file::{points_of, text_of};
 use wb_converter::{
-    Filtering, Lines, Outbox, SampleFault, answer, counts_line, mean, read_counts, sensitivity,
+    CutLines, Filtering, Outbox, SampleFault, answer, counts_line, mean, read_counts, sensitivity,
     spread, tenths_of_weights, with_point,
 };
 
@@ -226,7 +226,7 @@ fn hands_out_the_newest_line(rt: HostRuntime) {
 
 #[test]
 fn cuts_lines(rt: HostRuntime) {
-    let mut lines = Lines::new();
+    let mut lines = CutLines::new();
     assert!(rt; lines.take(b"12").is_none());
     assert!(rt; lines.take(b"3\r\n4") == Some(b"4".as_slice()));
     assert!(rt; lines.line() == b"123".as_slice());

@@ -6,7 +6,7 @@ use std::fmt::Write;
 use std::process::Abort;
 use std::test::Fail;
 use wb_calibration::Filter;
-use wb_converter_command::{Asked, Load, Receiver, Running, Sampling, read_words};
+use wb_converter_command::{ConverterInvocation, Load, Receiver, Running, Sampling, read_words};
 
 /// The words of a command line, and how they are understood (or a part of it).
 struct Row(&'static str, &'static str);
@@ -150,18 +150,22 @@ fn words_of(alloc: Global, line: &str) -> Result<Vec<String>, Fail> {
     Ok(words)
 }
 
-fn note(asked: &Asked, text: &mut String) -> Result<(), Fail> {
+fn note(asked: &ConverterInvocation, text: &mut String) -> Result<(), Fail> {
     match asked {
-        Asked::Run(running) => note_running(running, text),
-        Asked::Point(path, sampling) => note_point(path.as_str(), *sampling, text),
-        Asked::Finish(path, filter) => {
+        ConverterInvocation::Run(running) => note_running(running, text),
+        ConverterInvocation::Point(path, sampling) => note_point(path.as_str(), *sampling, text),
+        ConverterInvocation::Finish(path, filter) => {
             write!(text, "finish {path} ")?;
             note_filter(filter, text)
         }
-        Asked::Show(path) => Ok(write!(text, "show {path}")?),
-        Asked::Plot(path) => Ok(write!(text, "plot {path}")?),
-        Asked::WordsRefused(error) => Ok(write!(text, "{}: {error}", error.exit_code())?),
-        Asked::Nothing => Ok(text.push_str("nothing")?),
+        ConverterInvocation::Show(path) => Ok(write!(text, "show {path}")?),
+        ConverterInvocation::Plot(path) => Ok(write!(text, "plot {path}")?),
+        ConverterInvocation::WordsRefused(error) => Ok(write!(
+            text,
+            "{}: {error}",
+            error.exit_code()
+        )?),
+        ConverterInvocation::Nothing => Ok(text.push_str("nothing")?),
     }
 }
 

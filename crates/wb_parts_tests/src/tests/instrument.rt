@@ -4,10 +4,10 @@ use std::alloc::Global;
 use std::fmt::Write;
 use std::process::Abort;
 use std::test::Fail;
+use wb_fixtures::ROAD;
 use wb_instrument::{
     Instrument, PartFault, Parts, Serial, is_interval, round_tenths, weight_field,
 };
-use wb_road::ROAD;
 
 /// What is asked of an instrument, or of what it is made of.
 #[derive(Clone, Copy)]

@@ -3,13 +3,13 @@ use super::{assert_text, note, push};
 use std::alloc::Global;
 use std::process::Abort;
 use std::test::Fail;
+use wb_fixtures::{LATER, MORNING, ROAD, ZEROS};
 use wb_instrument::Serial;
 use wb_journal::{
     Digest, Entry, EntryParts, Key, Kind, Moment, Plate, check, check_in_one_pass, civil_of,
     digest_of, entry_text, is_sound, net, open_count, open_of, partner, partner_at, purge_bound,
     purge_bound_in_one_pass, slip_text, text_of_moment, ticket_text,
 };
-use wb_road::{LATER, MORNING, ROAD, ZEROS};
 
 /// The day of both, counted from 1970-01-01.
 const DAY: u64 = 20_157;

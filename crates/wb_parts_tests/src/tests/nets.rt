@@ -1,7 +1,7 @@
 //! Partners by place, and the net of a ticket as a number.
 use super::journal::{Ask, FIRST, Plain, Row, SECOND, SINGLE, VOID, rows};
 use std::test::Fail;
-use wb_road::LATER;
+use wb_fixtures::LATER;
 
 const FOURTH_SINGLE: Plain = Plain {
     number: 4,

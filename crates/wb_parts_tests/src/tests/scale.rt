@@ -5,8 +5,8 @@ ghost use Rattle.std.specs.Prelude.{◌≡◌, IfOk, []};
 use std::alloc::{AllocError, Global};
 use std::process::Abort;
 use std::test::Fail;
+use wb_fixtures::ROAD;
 use wb_instrument::{Instrument, Parts};
-use wb_road::ROAD;
 use wb_scale::{Indicated, PresetAnswer, Scale, TareAnswer, TareNow, ZeroAnswer};
 use wb_window::{DequeWindow, Reading, RingWindow, Window};
 

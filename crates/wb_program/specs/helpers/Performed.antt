@@ -5,7 +5,7 @@ use Rattle.sqlite.specs.Store.{Ghosts}
 use Rattle.wb_program.specs.PrintedOutputs.{printed}
 use Rattle.wb_sics.specs.Stands.{TerminalState}
 use Rattle.wb_station.specs.Account.{Out}
-use Rattle.wb_events.specs.Happening.{Happening, unmarked}
+use Rattle.wb_messages.specs.Happening.{Happening, unmarked}
 use Rattle.wb_station.specs.RunOfEvents.{Ran}
 use Rattle.wb_store.specs.Journal.{StoreView}
 

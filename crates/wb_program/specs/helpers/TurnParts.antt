@@ -10,9 +10,9 @@ use Rattle.wb_program.specs.Served.{Handled}
 use Rattle.wb_station.specs.SourceAnswers.{Answer, Told, asked, timed, took, converted}
 use Rattle.wb_program.specs.Turns.{Request, answers_of_request, happenings_of_request, stretch, Begun, Turn, answers_begun, answers_of_turn, happenings_begun, happenings_of_turn}
 use Rattle.wb_sics.specs.Stands.{TerminalState}
-use Rattle.wb_events.specs.Happening.{Happening}
+use Rattle.wb_messages.specs.Happening.{Happening}
 use Rattle.wb_store.specs.Journal.{StoreView}
-use Rattle.wb_sources.specs.declared.sources.Converter.TheVariants.{End, Fault}
+use Rattle.wb_input.specs.declared.sources.Converter.TheVariants.{End, Fault}
 
 -- the end of a service that a turn stops after so many whole ones
 abbrev pub end_of : Stop → ℕ → ServeEnd

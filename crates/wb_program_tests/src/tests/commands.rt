@@ -5,10 +5,10 @@ use std::alloc::Global;
 use std::process::Abort;
 use std::str;
 use std::test::Fail;
+use wb_fixtures::{LATER, MORNING, Plain, ZEROS, unsealed};
+use wb_input::converter_line;
 use wb_journal::{Entry, Kind};
 use wb_program::{PrintFault, What, print_check, print_export};
-use wb_road::{LATER, MORNING, Plain, ZEROS, unsealed};
-use wb_sources::converter_line;
 use wb_store::{Store, StoreFault};
 use wb_window::Reading;
 

@@ -4,9 +4,9 @@ use std::io::{ErrorKind, Read, Write};
 use std::process::Abort;
 use std::test::Fail;
 use std::{io, str};
+use wb_fixtures::ROAD;
 use wb_instrument::Instrument;
 use wb_program::{ReplayEnd, replay};
-use wb_road::ROAD;
 
 /// A line, a comment up to so many bytes, and these last bytes.
 fn long(alloc: Global, size: usize, last: &[u8]) -> Result<Vec<u8>, Fail> {

@@ -5,9 +5,9 @@ use std::alloc::Global;
 use std::process::Abort;
 use std::str;
 use std::test::Fail;
+use wb_fixtures::{MORNING, Plain, ZEROS, unsealed};
 use wb_journal::{Entry, Kind};
 use wb_program::print_migrated;
-use wb_road::{MORNING, Plain, ZEROS, unsealed};
 use wb_store::Store;
 
 /// A First behind one with this digest.

@@ -3,10 +3,10 @@ use Rattle.std.proofs.Common.{◌≡◌, List, [], ◌∷◌, ◌++◌, refl, sy
 use Rattle.sqlite.specs.Store.{Ghosts}
 use Rattle.wb_sics.specs.Stands.{TerminalState}
 use Rattle.wb_store.specs.Journal.{IsHonest, StoreView}
-use Rattle.wb_events.specs.declared.event.Event.{Event}
-use Rattle.wb_events.specs.declared.event.Event.TheVariants.{Reading, Byte, Hangup, Office}
+use Rattle.wb_messages.specs.declared.event.Event.{Event}
+use Rattle.wb_messages.specs.declared.event.Event.TheVariants.{Reading, Byte, Hangup, Office}
 use Rattle.wb_station.specs.Account.{Account, IsAccount, IsOut, Out}
-use Rattle.wb_events.specs.Happening.{Happening, happening, unmarked}
+use Rattle.wb_messages.specs.Happening.{Happening, happening, unmarked}
 use Rattle.wb_station.specs.RunOfEvents.{IsParted, Leads, Ran, RunsLead}
 use Rattle.wb_station.specs.Stands.{IsReplied, StationStands, Took}
 

@@ -2,9 +2,9 @@
 use std::alloc::Global;
 use std::process::Abort;
 use std::test::Fail;
+use wb_fixtures::MORNING;
+use wb_input::{Converter, REQUEST_ROOM, TERMINAL_ROOM};
 use wb_journal::Moment;
-use wb_road::MORNING;
-use wb_sources::{Converter, REQUEST_ROOM, TERMINAL_ROOM};
 use wb_station::{Answered, ListSources, ListTurn, Sources};
 use wb_window::Reading;
 

@@ -3,7 +3,7 @@ use Rattle.std.specs.Prelude.{ℕ, false, ◌≤◌, List, [], ◌∷◌, length
 use Rattle.wb_window.specs.Reading.{IsReading}
 use Rattle.wb_trace.specs.declared.trace_line.TraceLine.{TraceLine}
 use Rattle.wb_trace.specs.declared.trace_line.TraceLine.TheVariants.{Nothing, Readings, Text, Bytes, HangUp, Request}
-use Rattle.wb_events.specs.Happening.{Happening, reading, byte, hang_up, office}
+use Rattle.wb_messages.specs.Happening.{Happening, reading, byte, hang_up, office}
 use Rattle.wb_trace.specs.TraceLines.{typed}
 
 -- in their order, over the room that holds the bytes of hexadecimal digits and of requests

@@ -1,6 +1,6 @@
 use Rattle.std.proofs.Common.{◌≡◌, ℕ, List, Bool, true, false, true≢false, Option, None, Some, Result, Err, ap, length, nat_lt, refl, subst, sym, ◌∙◌}
 use Rattle.std.specs.Prelude.{IfNone, IfSome, IsErrOf, if◌then◌else◌}
-use Rattle.wb_events.specs.declared.request.Request.{Request}
+use Rattle.wb_messages.specs.declared.request.Request.{Request}
 use Rattle.wb_http.specs.declared.fault.HttpFault.{HttpFault}
 use Rattle.wb_http.specs.declared.fault.HttpFault.TheVariants.{HeadTooLarge, Malformed, Memory}
 use Rattle.wb_http.specs.HttpJudgement.{fault_without_head, judgement_of}

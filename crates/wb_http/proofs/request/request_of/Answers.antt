@@ -1,5 +1,5 @@
 use Rattle.std.proofs.Common.{refl, subst, Result, Some}
-use Rattle.wb_events.specs.declared.request.Request.{Request as Asked}
+use Rattle.wb_messages.specs.declared.request.Request.{Request as Asked}
 use Rattle.wb_http.specs.HttpJudgement.{judgement_of}
 use Rattle.wb_http.specs.UnlessMemoryRefused.{IsOf}
 use Rattle.wb_http.specs.declared.fault.HttpFault.{HttpFault as Fault}

@@ -1,6 +1,6 @@
 use Rattle.std.proofs.Common.{◌∙◌, ap, refl}
 use Rattle.wb_office.proofs.Common.{tickets_answer, IsWanted, wanted}
-use Rattle.wb_events.specs.declared.request.Request.TheVariants as request
+use Rattle.wb_messages.specs.declared.request.Request.TheVariants as request
 use Rattle.wb_office.proofs.LookUps.{reads}
 use Rattle.wb_office.proofs.Serving.{handed_on, stop_serves, told_serves}
 use Rattle.wb_office.proofs.export_answers.answer_tickets.Goals as goal

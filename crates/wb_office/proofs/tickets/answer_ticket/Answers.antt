@@ -1,6 +1,6 @@
 use Rattle.std.proofs.Common.{◌∙◌, ap, refl}
 use Rattle.wb_office.proofs.Common.{ticket_of, IsWanted, wanted}
-use Rattle.wb_events.specs.declared.request.Request.TheVariants as request
+use Rattle.wb_messages.specs.declared.request.Request.TheVariants as request
 use Rattle.wb_office.proofs.LookUps.{reads}
 use Rattle.wb_office.proofs.Serving.{handed_on, read_serves, stop_serves}
 use Rattle.wb_office.proofs.tickets.answer_ticket.Goals as goal

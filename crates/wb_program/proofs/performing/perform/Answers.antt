@@ -3,7 +3,7 @@ use Rattle.std.specs.Prelude.{OnOk, reverse}
 use Rattle.wb_trace.specs.helpers.LineEvents.{events_of}
 use Rattle.wb_program.specs.helpers.Performed.{Performed}
 use Rattle.wb_program.proofs.PerformedHappenings.{Performed-none, reverse-replicate}
-use Rattle.wb_events.specs.Happening.{reading}
+use Rattle.wb_messages.specs.Happening.{reading}
 use Rattle.wb_program.proofs.performing.perform.Goals as goal
 
 pub returns-in-Nothing : goal.returns-in-Nothing

@@ -1,6 +1,6 @@
 use Rattle.std.proofs.Common.{false}
 use Rattle.wb_program.proofs.PerformedHappenings.{Performed-printed}
-use Rattle.wb_events.specs.declared.event.Event.TheVariants.{Reading}
+use Rattle.wb_messages.specs.declared.event.Event.TheVariants.{Reading}
 use Rattle.wb_program.proofs.performing.take_reading.Goals as goal
 
 pub returns : goal.returns

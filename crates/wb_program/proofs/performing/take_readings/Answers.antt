@@ -1,7 +1,7 @@
 use Rattle.std.proofs.Common.{[], ◌∷◌, replicate, subst}
 use Rattle.wb_program.specs.helpers.Performed.{Performed}
 use Rattle.wb_program.proofs.PerformedHappenings.{Performed-append, Performed-none, replicate-more}
-use Rattle.wb_events.specs.Happening.{reading}
+use Rattle.wb_messages.specs.Happening.{reading}
 use Rattle.wb_program.proofs.performing.take_readings.Goals as goal
 
 pub loop-init : goal.loop-init

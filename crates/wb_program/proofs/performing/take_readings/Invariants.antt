@@ -1,6 +1,6 @@
 use Rattle.std.proofs.Common.{replicate}
 use Rattle.wb_program.specs.helpers.Performed.{Performed}
-use Rattle.wb_events.specs.Happening.{reading}
+use Rattle.wb_messages.specs.Happening.{reading}
 use Rattle.wb_program.proofs.performing.take_readings.Given as goal
 
 abbrev pub invariant-loop : goal.invariant-loop

@@ -2,7 +2,7 @@ use Rattle.std.proofs.Common.{[], ◌∷◌, get_or, map, subst, sym, take}
 use Rattle.std.specs.Prelude.{reverse}
 use Rattle.wb_program.specs.helpers.Performed.{Performed}
 use Rattle.wb_program.proofs.PerformedHappenings.{Performed-append, Performed-none, next-byte}
-use Rattle.wb_events.specs.Happening.{byte}
+use Rattle.wb_messages.specs.Happening.{byte}
 use Rattle.wb_program.proofs.performing.type_text.Goals as goal
 
 pub loop-byte-init : goal.loop-byte-init

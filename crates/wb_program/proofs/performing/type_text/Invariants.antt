@@ -1,7 +1,7 @@
 use Rattle.std.proofs.Common.{map, take}
 use Rattle.std.specs.Prelude.{reverse}
 use Rattle.wb_program.specs.helpers.Performed.{Performed}
-use Rattle.wb_events.specs.Happening.{byte}
+use Rattle.wb_messages.specs.Happening.{byte}
 use Rattle.wb_program.proofs.performing.type_text.Given as goal
 
 abbrev pub invariant-loop-byte : goal.invariant-loop-byte

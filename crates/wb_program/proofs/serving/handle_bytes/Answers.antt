@@ -4,7 +4,7 @@ use Rattle.wb_program.specs.Served.{Handled}
 use Rattle.wb_program.proofs.PerformedHappenings.{next-byte}
 use Rattle.wb_program.proofs.SourceAnswers.{tells_none}
 use Rattle.wb_program.proofs.Turns.{handled_append, handled_none}
-use Rattle.wb_events.specs.Happening.{byte}
+use Rattle.wb_messages.specs.Happening.{byte}
 use Rattle.wb_program.proofs.serving.handle_bytes.Goals as goal
 
 pub loop-byte-init : goal.loop-byte-init

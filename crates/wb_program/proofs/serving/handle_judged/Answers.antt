@@ -2,7 +2,7 @@ use Rattle.std.proofs.Common.{[]}
 use Rattle.wb_program.proofs.SourceAnswers.{tells_append}
 use Rattle.wb_program.proofs.Turns.{handled_one}
 use Rattle.wb_program.specs.Turns.{handed_on}
-use Rattle.wb_events.specs.Happening.{office}
+use Rattle.wb_messages.specs.Happening.{office}
 use Rattle.wb_station.specs.OutputShows.{out_shown}
 use Rattle.wb_program.proofs.serving.handle_judged.Goals as goal
 

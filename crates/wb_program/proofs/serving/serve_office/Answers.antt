@@ -1,6 +1,6 @@
 use Rattle.std.proofs.Common.{[], ◌∷◌, ◌∙◌, None, Some, ap, false, refl, subst, sym}
 use Rattle.wb_program.specs.Served.{Handled}
-use Rattle.wb_events.specs.Happening.{office}
+use Rattle.wb_messages.specs.Happening.{office}
 use Rattle.wb_station.specs.SourceAnswers.{SourceTells, asked, bytes_asked, timed}
 use Rattle.wb_program.proofs.Turns.{exchange_served, handled_none}
 use Rattle.wb_program.proofs.serving.serve_office.Goals as goal

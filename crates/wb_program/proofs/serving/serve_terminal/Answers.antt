@@ -4,7 +4,7 @@ use Rattle.wb_program.specs.Served.{Handled}
 use Rattle.wb_station.specs.SourceAnswers.{took}
 use Rattle.wb_program.specs.Turns.{stretch}
 use Rattle.wb_program.proofs.Turns.{handled_answer, handled_append}
-use Rattle.wb_events.specs.Happening.{byte, hang_up}
+use Rattle.wb_messages.specs.Happening.{byte, hang_up}
 use Rattle.wb_program.proofs.serving.serve_terminal.Goals as goal
 
 pub returns-then-taken : goal.returns-then-taken

@@ -1,5 +1,5 @@
 use Rattle.std.proofs.Common.{[], ◌∷◌, refl}
-use Rattle.wb_sources.specs.declared.sources.Converter.TheVariants.{End, Fault}
+use Rattle.wb_input.specs.declared.sources.Converter.TheVariants.{End, Fault}
 use Rattle.wb_station.specs.SourceAnswers.{converted}
 use Rattle.wb_program.proofs.Turns.{handled_none, turn_served}
 use Rattle.wb_program.proofs.serving.serve_turn.Goals as goal

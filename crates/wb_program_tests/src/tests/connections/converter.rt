@@ -9,7 +9,7 @@ use std::process::Abort;
 use std::test::Fail;
 use std::time::{Clock, Duration, Instant};
 use wb_connections::{ConverterLink, ENDLESS_LINE, Source};
-use wb_sources::Converter;
+use wb_input::Converter;
 use wb_window::Reading::{Load, Lost};
 
 /// Seconds, longer than a look, which is waited for at most.

@@ -11,7 +11,7 @@ use std::process::Abort;
 use std::test::Fail;
 use std::time::Instant;
 use wb_connections::{Report, TerminalClients};
-use wb_sources::{TERMINAL_ROOM, Taken};
+use wb_input::{TERMINAL_ROOM, Taken};
 
 /// What happens at a terminal's listener, and what must be seen then.
 #[derive(Clone, Copy, Drop)]

@@ -13,4 +13,4 @@ returns-in-Ok g c = λ bytes was.
 pub returns-in-Err : goal.returns-in-Err
 returns-in-Err g c = λ bytes was.
     let is = subst (WasJudged bytes) c.in-Err.is was in
-    fault_took g.D.Store c.args.office.now c.args.moment.now bytes c.args.terminal.now (responded c.put_fault.new.room) c.in-Err.fault is.judged.0 is.judged.1 is.judged.2 is.memory c.put_fault.ensures
+    fault_took g.D.Store c.args.office.now c.args.moment bytes c.args.terminal.now (responded c.put_fault.new.room) c.in-Err.fault is.judged.0 is.judged.1 is.judged.2 is.memory c.put_fault.ensures

@@ -3,7 +3,7 @@ use Rattle.std.proofs.lemmas.Option.{IfSome_then}
 use Rattle.wb_station.proofs.Theorems.{law_of_runs}
 use Rattle.wb_station.proofs.offered.Runs.{ran_more, ran_none}
 use Rattle.wb_station.specs.Account.{IsOut, replied}
-use Rattle.wb_events.specs.Happening.{office, reading}
+use Rattle.wb_messages.specs.Happening.{office, reading}
 use Rattle.wb_station.specs.OutputShows.{out_shown}
 use Rattle.wb_station_uses.proofs.station.read_and_ask.Goals as goal
 

@@ -1,8 +1,8 @@
 //! The order of judgement: of two conditions that hold the earlier one refuses.
 use super::{Asks, Step, day};
 use std::test::Fail;
+use wb_fixtures::MORNING;
 use wb_journal::Kind;
-use wb_road::MORNING;
 
 /// When the entries of the morning are of age.
 const OLD: u64 = 1_749_427_200;

@@ -1,8 +1,8 @@
 //! Days from outside.
 use super::{Asks, Step, day};
 use std::test::Fail;
+use wb_fixtures::{LATER, MORNING};
 use wb_journal::Kind;
-use wb_road::{LATER, MORNING};
 
 const SLIP: &str =
     "WEIGHING SLIP 1\nPLATE AB-12\nFIRST NO 1\nAT 2025-03-10 08:00:00\nG      18340 kg\nE 20 kg MAX 60000 kg SERIAL WB01\nDIGEST a982a0aaef75f8622de6a96ef3a1d8ddd9de4bd18d9cda420eeb00dfbfcfa68c\n";

@@ -1,7 +1,7 @@
 use Rattle.std.proofs.Common.{sym, refl, ap, ◌∙◌}
 use Rattle.wb_office.proofs.Common.{text_of_indication}
 use Rattle.wb_journal.specs.declared.kind.Kind.TheVariants as kind
-use Rattle.wb_events.specs.declared.request.Request.TheVariants as request
+use Rattle.wb_messages.specs.declared.request.Request.TheVariants as request
 use Rattle.wb_office.proofs.Serving.{serves_weighing}
 use Rattle.wb_office.proofs.office.Office.answer.Goals as goal
 

@@ -1,0 +1,15 @@
+//! What comes in: decimal digits, signed numbers and a load converter's line, each read from its bytes, and the most that a source
+//! gives in a turn. No call takes memory.
+#![tactic(auto)]
+
+mod converter;
+mod cutting;
+mod decimal;
+mod signed;
+mod sources;
+
+pub use converter::converter_line;
+pub use cutting::split_at_first;
+pub use decimal::digits;
+pub use signed::number;
+pub use sources::{Converter, REQUEST_ROOM, TERMINAL_ROOM, Taken};

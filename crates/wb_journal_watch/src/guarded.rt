@@ -1,0 +1,193 @@
+//! Sources that look where the journal lies.
+ghost use Rattle.std.specs.Prelude.{None};
+
+use crate::pace::Pace;
+use crate::zero_note::ZeroNote;
+use std::os::unix::fs::MetadataExt;
+use std::{fs, io};
+use wb_file::witness::{Witness, entry_of, is_stored};
+use wb_input::{Converter, REQUEST_ROOM, TERMINAL_ROOM, Taken};
+use wb_journal::Moment;
+use wb_station::{Exchange, Sources};
+use wb_store::StoreFault;
+
+/// A file that is open, by its path, its device and its number there. No other file has these two while it is open.
+#[derive(Drop)]
+struct Place {
+    path: String,
+    dev: u64,
+    ino: u64,
+    size: u64,
+}
+
+impl Place {
+    fn new(rt: &HostRuntime, path: String) -> io::Result<Place> {
+        let found = fs::metadata(rt, path.as_str())?;
+        Ok(Place {
+            path,
+            dev: found.dev(),
+            ino: found.ino(),
+            size: found.size(),
+        })
+    }
+
+    /// Whether the path still leads to that file, by no other name too, and it isn't shorter than it was.
+    fn stands(&self, rt: &HostRuntime) -> bool {
+        match fs::metadata(rt, self.path.as_str()) {
+            Ok(found) => {
+                found.dev() == self.dev
+                    && found.ino() == self.ino
+                    && found.nlink() == 1
+                    && found.size() >= self.size
+            }
+            Err(_) => false,
+        }
+    }
+}
+
+/// The places of a journal's file and of its log.
+#[derive(Drop)]
+struct Places {
+    file: Place,
+    log: Place,
+}
+
+impl Places {
+    /// Of the journal in the file, which is open.
+    fn new(rt: &HostRuntime, path: &str) -> io::Result<Places> {
+        let real = fs::canonicalize(rt, path)?;
+        let path = real.as_str();
+        let log = format!(in rt.alloc(); "{path}-wal")?;
+        Ok(Places {
+            file: Place::new(rt, String::from_str(rt.alloc(), path)?)?,
+            log: Place::new(rt, log)?,
+        })
+    }
+}
+
+/// Sources of a service whose journal is looked at. Once it isn't where it was, or an entry can't be witnessed, they end, and no entry is answered
+/// any more.
+#[derive(Drop)]
+pub struct Guarded<'a, S: Sources + Drop> {
+    rt: &'a HostRuntime,
+    places: Places,
+    witness: Witness,
+    zero: ZeroNote<'a>,
+    pace: Pace<'a>,
+    /// The sources that are guarded.
+    pub sources: S,
+    is_lost: bool,
+}
+
+impl<'a, S: Sources + Drop> Guarded<'a, S> {
+    /// Sources over the journal in the file, which is open, of a bridge of this interval. Where so many readings a second are stated and others come,
+    /// that is told. None if a file can't be looked at.
+    pub fn new(
+        rt: &'a HostRuntime,
+        path: &str,
+        interval_kg: u32,
+        stated: Option<u32>,
+        sources: S,
+    ) -> Option<Self> {
+        match (Places::new(rt, path), Witness::open(rt, path)) {
+            (Ok(places), Ok(witness)) => Some(Guarded {
+                rt,
+                places,
+                witness,
+                zero: ZeroNote::open(rt, path, interval_kg),
+                pace: Pace::new(rt, stated),
+                sources,
+                is_lost: false,
+            }),
+            (Err(_), _) | (_, Err(_)) => None,
+        }
+    }
+
+    /// Whether they ended since the journal isn't where it was, or can't be witnessed.
+    pub fn is_lost(&self) -> bool {
+        self.is_lost
+    }
+
+    /// Whether the journal is where it was. If not, that is told once.
+    fn stands(&mut self) -> bool {
+        if self.is_lost {
+            return false;
+        }
+        let Places { file, log } = &self.places;
+        if file.stands(self.rt) && log.stands(self.rt) {
+            return true;
+        }
+        self.is_lost = true;
+        let _ = eprintln!(self.rt;
+            "{}: while it was served, it or its log was removed, replaced, cut or given a second name; nothing more is stored: see operating.md, The store's faults",
+            file.path
+        );
+        false
+    }
+
+    /// Whether a response that tells of a stored entry may leave: its journal is where it was, and its witness has it.
+    fn may_answer(&mut self, response: &[u8]) -> bool {
+        if !self.stands() {
+            return false;
+        }
+        if let Some(entry) = entry_of(response) {
+            if self.witness.note(&entry) {
+                return true;
+            }
+        }
+        self.is_lost = true;
+        let _ = eprintln!(self.rt;
+            "{}-newest: it can't be written; what was stored last is answered after the next start, if it is asked for again under its key",
+            self.places.file.path
+        );
+        false
+    }
+}
+
+impl<S: Sources + Drop> Sources for Guarded<'_, S> {
+    ghost told = { λ _. None };
+
+    fn converter(&mut self) -> Converter {
+        if self.is_lost {
+            return Converter::Fault;
+        }
+        let given = self.sources.converter();
+        self.zero.see(given);
+        self.pace.see(given);
+        given
+    }
+
+    fn terminal(&mut self, room: &mut [u8; TERMINAL_ROOM]) -> Taken {
+        self.sources.terminal(room)
+    }
+
+    fn reply(&mut self, bytes: &[u8]) {
+        self.zero.see_replies(bytes);
+        self.sources.reply(bytes);
+    }
+
+    fn office(&mut self, room: &mut [u8; REQUEST_ROOM]) -> Option<usize> {
+        self.sources.office(room)
+    }
+
+    fn moment(&mut self) -> Option<Moment> {
+        self.sources.moment()
+    }
+
+    fn exchange(&mut self, room: &mut [u8; REQUEST_ROOM]) -> Option<Exchange> {
+        let exchange = self.sources.exchange(room)?;
+        if self.stands() { Some(exchange) } else { None }
+    }
+
+    fn respond(&mut self, bytes: &[u8]) {
+        if is_stored(bytes) && !self.may_answer(bytes) {
+            self.sources.respond(b"");
+        } else {
+            self.sources.respond(bytes);
+        }
+    }
+
+    fn store_fault(&mut self, fault: StoreFault) {
+        self.sources.store_fault(fault);
+    }
+}

@@ -1,7 +1,0 @@
-use Rattle.std.proofs.Common.{refl}
-use Rattle.sqlite_wal.specs.Format.{be32}
-use Rattle.wb_log.proofs.bytes.number_at.Goals as goal
-
-pub returns : goal.returns
-unfolding be32
-returns c = refl

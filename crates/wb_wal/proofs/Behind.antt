@@ -1,0 +1,75 @@
+-- A walk over the frames from a stop on, for those behind the end of a commit.
+use Rattle.std.proofs.Common.{◌≡◌, inl, inr, ℕ, suc, ◌+◌, ◌<◌, ◌≤◌, ◌↔◌, Bool, true, false, IsTrue, List, length, refl, sym, ◌∙◌, subst, arith}
+use Rattle.std.proofs.lemmas.Bool.{cases_lt, cases_eq, false≢true}
+use Rattle.sqlite_wal.specs.Format.{commit_size}
+use Rattle.sqlite_wal.specs.Recovery.{frame_at, frame}
+use Rattle.wb_wal.specs.Look.{Has, HasSalts, Commits, IsOfLastCommit}
+use Rattle.wb_wal.specs.helpers.Behind.{HasSeen}
+use Rattle.wb_wal.proofs.Walk.{Has-less, at-next}
+
+pub HasSeen-none : (page : ℕ) (log : List ℕ) (k at : ℕ) → at ≡ frame_at page k → at ≤ length log → HasSeen page log k at false
+HasSeen-none page log k at place within = record {
+  j = k;
+  order = omega arith;
+  place = place;
+  within = within;
+  yes = λ e. absurd (false≢true e);
+  no = λ e i l h s. absurd (omega (arith, l, h));
+  fine = λ a b l h e. absurd (omega (arith, l, h, e));
+}
+
+-- the next frame has the salts
+pub HasSeen-salted : (page : ℕ) (log : List ℕ) (k at next : ℕ) (is : Bool) (s : HasSeen page log k at false) → Has page log s.j → next ≡ at + (24 + page)
+    → HasSalts page log s.j → (IsTrue is ↔ Commits page log s.j) → HasSeen page log k next is
+HasSeen-salted page log k at next is s has place salts ends =
+    let none : (i : ℕ) → k ≤ i → i < s.j → HasSalts page log i → commit_size (frame page log i) ≡ 0 = s.no refl in record {
+      j = suc s.j;
+      order = omega (arith, s.order);
+      place = omega (arith, place, s.place, at-next page s.j);
+      within = omega (arith, place, s.place, has);
+      yes = λ e. (s.j, s.order, omega arith, salts, ends.0 e);
+      no = λ e i l h its. elim (cases_eq i s.j) [
+        | inl same ↦ elim (cases_eq (commit_size (frame page log i)) 0) [
+          | inl zero ↦ zero
+          | inr some ↦ absurd (false≢true (sym e ∙ ends.1 (subst (Commits page log) same some)))
+        ]
+        | inr other ↦ none i l (omega (arith, h, other)) its
+      ];
+      fine = λ a b l h e its commits. elim (cases_eq b s.j) [
+        | inl same ↦ absurd (commits (none a l (omega (arith, h, same)) its))
+        | inr other ↦ s.fine a b l h (omega (arith, e, other)) its commits
+      ];
+    }
+
+-- it doesn't
+pub HasSeen-other : (page : ℕ) (log : List ℕ) (k at next : ℕ) (is : Bool) (s : HasSeen page log k at is) → Has page log s.j → next ≡ at + (24 + page)
+    → (¬ HasSalts page log s.j) → HasSeen page log k next is
+HasSeen-other page log k at next is s has place no' = record {
+  j = suc s.j;
+  order = omega (arith, s.order);
+  place = omega (arith, place, s.place, at-next page s.j);
+  within = omega (arith, place, s.place, has);
+  yes = λ e. let seen = s.yes e in (seen.0, seen.1, omega (arith, seen.2), seen.3, seen.4);
+  no = λ e i l h its. elim (cases_eq i s.j) [
+    | inl same ↦ absurd (no' (subst (HasSalts page log) same its))
+    | inr other ↦ s.no e i l (omega (arith, h, other)) its
+  ];
+  fine = λ a b l h e its commits. elim (cases_eq b s.j) [
+    | inl same ↦ λ salts. no' (subst (HasSalts page log) same salts)
+    | inr other ↦ s.fine a b l h (omega (arith, e, other)) its commits
+  ];
+}
+
+-- the next frame has the salts and stands behind the end of a commit
+pub HasSeen-behind : (page : ℕ) (log : List ℕ) (k at : ℕ) (s : HasSeen page log k at true) → Has page log s.j → HasSalts page log s.j
+    → ¬ IsOfLastCommit page log k
+HasSeen-behind page log k at s has salts last =
+    let seen = s.yes refl in
+    last seen.0 s.j seen.1 seen.2 has seen.3 seen.4 salts
+
+-- there is no next frame
+pub HasSeen-all : (page : ℕ) (log : List ℕ) (k at : ℕ) (is : Bool) → HasSeen page log k at is → length log < at + (24 + page) → IsOfLastCommit page log k
+HasSeen-all page log k at is s none i b l h has = elim (cases_lt b s.j) [
+  | inl low ↦ s.fine i b l h low
+  | inr high ↦ absurd (omega (arith, Has-less page log s.j b high has, none, s.place))
+]
