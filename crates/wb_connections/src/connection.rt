@@ -139,19 +139,23 @@ impl<S: Read + Write + OpenStream + Drop, J: Drop> Connection<S, J> {
         self.stream.set_nonblocking(true).is_ok()
     }
 
-    /// A turn of it. It gives its request once that is judged.
+    /// Reads the request, or continues with the response. A request that was judged waits at `next_place`, which moves on.
     pub(crate) fn turn<Q: Requests<Request = J>>(
         &mut self,
         alloc: Global,
         requests: &Q,
         now: Instant,
         room: &mut [u8; REQUEST_ROOM],
-    ) -> Option<J> {
-        if matches!(self.stage, Stage::Asks) {
-            return self.read(alloc, requests, now, room);
+        next_place: &mut u64,
+    ) {
+        if !matches!(self.stage, Stage::Asks) {
+            self.go_on(now, room);
+            return;
         }
-        self.go_on(now, room);
-        None
+        if let Some(request) = self.read(alloc, requests, now, room) {
+            self.stage = Stage::Waits(*next_place, request);
+            *next_place = next_place.saturating_add(1);
+        }
     }
 
     /// Goes on with its response, if it has one: writes it, or reads what still comes after it.

@@ -60,10 +60,7 @@ where
     ) {
         let mut room = [0u8; REQUEST_ROOM];
         for connection in self.connections.iter_mut() {
-            if let Some(judged) = connection.turn(alloc, requests, now, &mut room) {
-                connection.stage = Stage::Waits(self.next_place, judged);
-                self.next_place = self.next_place.saturating_add(1);
-            }
+            connection.turn(alloc, requests, now, &mut room, &mut self.next_place);
         }
         self.close(report);
         self.accept(alloc, requests, now, report, &mut room);
@@ -182,10 +179,7 @@ where
             return;
         }
         report.line(format_args!("office {peer}: accepted"));
-        if let Some(judged) = connection.turn(alloc, requests, now, room) {
-            connection.stage = Stage::Waits(self.next_place, judged);
-            self.next_place = self.next_place.saturating_add(1);
-        }
+        connection.turn(alloc, requests, now, room, &mut self.next_place);
         if let Stage::Closed(why) = &connection.stage {
             tell_end(report, peer, *why, &mut self.without_request);
         } else if self.is_full() && !self.make_place(report) {

@@ -1,5 +1,5 @@
-//! What comes in: decimal digits, signed numbers and a load converter's line, each read from its bytes, and the most that a source
-//! gives in a turn. No call takes memory.
+//! Reads decimal digits, signed numbers and a load converter's lines from their bytes, and names the most that a source gives in
+//! one turn. Nothing here allocates.
 #![tactic(auto)]
 
 mod converter;
