@@ -138,7 +138,7 @@ def end_session(process):
 
 
 def check(name, page, tools, ports, names=()):
-    """Runs the page's commands in a new folder, in which clients/ is there. Free ports take the place of the ports that the page
+    """Runs the page's commands in a new folder, in which clients/ and inspect/ are there. Free ports take the place of the ports that the page
     names, and other texts that of the names.
     """
     missing = [tool for tool in tools if not shutil.which(tool)]
@@ -159,8 +159,9 @@ def check(name, page, tools, ports, names=()):
 
 
 def shell_in(folder, program=None):
-    """A shell in this folder, in which clients/ is there. `weighbridge` is the program that is given, else the launcher."""
-    os.symlink(os.path.join(TOP, "clients"), os.path.join(folder, "clients"))
+    """A shell in this folder, in which clients/ and inspect/ are there. `weighbridge` is the program that is given, else the launcher."""
+    for name in ("clients", "inspect"):
+        os.symlink(os.path.join(TOP, name), os.path.join(folder, name))
     if program is None:
         return Shell(folder)
     of = os.path.join(folder, ".program")
