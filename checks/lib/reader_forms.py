@@ -26,7 +26,12 @@ def reads_devices(folder):
             f"docs/devices.md has the words of {name}: {shlex.join(words)}",
             f"`{shlex.join(words)}`" in page,
         )
-        holds(f"docs/devices.md says where the sample of {name} is from", device["source"] in page)
+        row = next((it for it in page.split("\n") if f"| `{shlex.join(words)}` |" in it), "")
+        source = row.partition(" | ")[0]
+        holds(
+            f"docs/devices.md says which source the sample of {name} is from: {source}",
+            source.endswith(f"({device['source']})"),
+        )
         kind = next(it for it in ("registers", "channel", "sent") if it in device)
         same(f"the sample of {name}", device["counts"], READ_BY[kind](device, words, folder))
     print(f"{len(devices)} devices, their samples with the words of the page: ok", flush=True)
