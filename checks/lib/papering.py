@@ -13,11 +13,12 @@ from paper_roll import Printed, code_in, legal_of
 
 sys.path.insert(0, os.path.join(TOP, "counter"))
 COMMAND = os.path.join(TOP, "counter", "weighbridge-paper")
+# width in points of a letter of the legal text
 LETTERS = {
     "a4": 6.02,
     "a5": 4.816,
     "roll80": 4.816,
-}  # width in points of a letter of the legal text
+}
 HEAD = """spool = "{folder}/spool"
 zone = "Europe/Berlin"
 language = "{language}"
@@ -31,9 +32,8 @@ class Desk:
 
     def __init__(self, language="en", **printers):
         self.folder = tempfile.mkdtemp(prefix="paper-")
-        atexit.register(
-            lambda: failures or shutil.rmtree(self.folder, ignore_errors=True)
-        )  # what failed stays, to be looked at
+        # what failed stays, to be looked at
+        atexit.register(lambda: failures or shutil.rmtree(self.folder, ignore_errors=True))
         self.setup = f"{self.folder}/paper.toml"
         os.mkdir(f"{self.folder}/made")
         with open(self.setup, "w") as file:

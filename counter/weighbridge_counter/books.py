@@ -166,11 +166,12 @@ class Books:
     async def _export(self) -> tuple[Answer, int]:
         async with self.one_export:
             await asyncio.sleep(self.rest_until - time.monotonic())
+            # a caller that comes from now on gets a later export
             self.next_export, began, place = (
                 None,
                 time.monotonic(),
                 self.places,
-            )  # a caller that comes from now on gets a later export
+            )
             try:
                 return await self.office.ask("GET", "/journal.csv", within=EXPORT_WITHIN), place
             finally:

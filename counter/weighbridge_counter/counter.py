@@ -181,9 +181,8 @@ class Counter:
             said = (await asyncio.shield(asyncio.ensure_future(self.terminal.command("Z"))))[0]
             if said == "Z A":
                 self.zero.was_set(by)
-                await self.files.taken(
-                    NOTED_WITHIN
-                )  # so that a counter killed after its answer still knows it
+                # so that a counter killed after its answer still knows it
+                await self.files.taken(NOTED_WITHIN)
             return said
         finally:
             self.tell_state()
@@ -275,7 +274,6 @@ class Counter:
         while True:
             self.tell_state()
             if not self.terminal.fanout.is_fresh(GONE_AFTER):
-                self.pages.tell(
-                    "alive", self.milliseconds()
-                )  # so that a page tells a silent scale from a counter that is gone
+                # so that a page tells a silent scale from a counter that is gone
+                self.pages.tell("alive", self.milliseconds())
             await asyncio.sleep(STATE_EVERY)

@@ -59,9 +59,8 @@ class Lists:
         texts = {
             number: text for number, text in self.texts.items() if self.places[number] <= until
         }
-        last = max(
-            next(reversed(self.rows), 0), max(texts, default=0)
-        )  # an export's rows are in the order of their numbers
+        # an export's rows are in the order of their numbers
+        last = max(next(reversed(self.rows), 0), max(texts, default=0))
         serial = (
             serial_of_text(texts[last])
             if last in texts

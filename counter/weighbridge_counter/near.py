@@ -48,11 +48,8 @@ class Near:
     def __init__(self) -> None:
         self.weighed: set[str] = set()
         self.on_site: dict[str, None] = {}
-        self.found: dict[
-            str, set[str]
-        ] = (
-            {}
-        )  # by plate on site: its neighbours that were weighed before, once they have been looked up
+        # by plate on site: its neighbours that were weighed before, once they have been looked up
+        self.found: dict[str, set[str]] = {}
 
     def takes(self, kind: str, plate: str) -> None:
         """Process an entry of the journal."""

@@ -40,12 +40,10 @@ def papers_of(setup: Setup) -> Papers:
 class Printing:
     def __init__(self, papers: Papers, digest_of: Callable[[int], str | None]) -> None:
         self.papers, self.digest_of = papers, digest_of
-        self.spool = Spool(
-            papers.spool, is_opened=False
-        )  # opened later, because a disk that takes nothing must not stop weighing
-        self.notes = ThreadPoolExecutor(
-            1, "papers"
-        )  # one after another, in the order in which they were asked for
+        # opened later, because a disk that takes nothing must not stop weighing
+        self.spool = Spool(papers.spool, is_opened=False)
+        # one after another, in the order in which they were asked for
+        self.notes = ThreadPoolExecutor(1, "papers")
         self.something, self.is_over = [
             threading.Event() for _ in papers.printers
         ], threading.Event()

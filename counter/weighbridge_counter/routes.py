@@ -167,9 +167,8 @@ class Routes:
         transport.get_extra_info("socket").setsockopt(
             socket.SOL_SOCKET, socket.SO_SNDBUF, SMALL_BUFFER
         )
-        page, lists = Page(), await self.in_turn(
-            self.counter.lists
-        )  # from here on nothing else comes between
+        # from here on nothing else comes between
+        page, lists = Page(), await self.in_turn(self.counter.lists)
         page.put(b"retry: 500\n\n")
         for name, what in (
             ("hello", self.counter.hello()),
@@ -220,9 +219,8 @@ class Routes:
 
     async def hand_on(self, request: web.Request) -> web.StreamResponse:
         try:
-            answer = await self.ask_office(
-                request.rel_url.raw_path
-            )  # as it was written: request.path has %0D%0A as an end of a line
+            # as it was written: request.path has %0D%0A as an end of a line
+            answer = await self.ask_office(request.rel_url.raw_path)
         except NoAnswer:
             return as_text(b"counter no_answer\n", 502)
         return as_text(answer.body, answer.status, answer.kind)

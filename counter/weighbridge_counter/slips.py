@@ -20,9 +20,8 @@ FIELDS = (
     "previous",
 )
 HEADER = ",".join(FIELDS)
-ZEROS = (
-    "0" * 64
-)  # the previous digest of a journal's first entry, and of the first after a purge of all
+# the previous digest of a journal's first entry, and of the first after a purge of all
+ZEROS = "0" * 64
 HEAD = re.compile(r"WEIGHING (?:SLIP|TICKET) (\d+)\nPLATE (\S+)\n")
 BLOCK = re.compile(
     r"^(FIRST|SECOND|SINGLE|VOID) NO (\d+)\nAT (.{19})\n(?:G +(\d+) kg\n)?(?:PT +(\d+) kg\n)?", re.M

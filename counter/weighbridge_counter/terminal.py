@@ -15,9 +15,8 @@ STOOD_STILL = 0.7  # seconds: who slept so long can't say how old a line is that
 DOUBTED = 0.3  # seconds after that in which what is found may be as old
 RETRY_AFTER = 0.2  # seconds
 WITHOUT_VALUE = 2.2  # seconds: so long a value is waited for
-RESET_AT_THE_END = struct.pack(
-    "ii", 1, 0
-)  # SO_LINGER: whatever ends the connection, also a kill, is a reset
+# SO_LINGER: every end of the connection is a reset, even a kill.
+RESET_AT_THE_END = struct.pack("ii", 1, 0)
 Listener = Callable[[Value], None]
 
 
