@@ -1,9 +1,15 @@
-"""The commands of a document's page, run in their order, with what they print held against what the page shows.
+"""The commands of a page, run in their order, and compared with what the page shows.
 
-A block of four blanks whose line begins with `$ ` is a command as it is typed; one that ends with a backslash goes on in the next
-line. What follows in the block is what it prints, standard error included. Nothing else of the page is run: a line that begins with
-`# ` is typed by root or on another machine. A moment, a digest, the line of a kit, a key that a client makes, a count of turns, a time in
-milliseconds and the port of a client stand for any other of their form.
+A page has its commands in one of two forms, or in both:
+
+- A fenced block that begins with ```sh is run as a whole. What it prints, standard error included, is in the block ```text that follows it directly. A
+  block without one must print nothing. A block that begins with ```sh and one more word isn't run: `root` says that it needs root or a device, `kit` that
+  it needs the kit. A comment <!-- hidden: COMMAND --> is run and not shown, and must print nothing.
+- In a block of four blanks, a line that begins with `$ ` is a command as it is typed; one that ends with a backslash continues in the next line. What
+  follows in the block is what it prints. A line that begins with `# ` is typed by root or on another machine, and isn't run.
+
+A moment, a digest, the line of a kit, a key that a client makes, a count of turns, a time in milliseconds, the port of a client, and the page that a message
+of the program points to may be any other of their form.
 
 It needs bash and what the page uses, and python3 alone.
 """
@@ -42,6 +48,7 @@ FORMS = [
     (r"\bturns \d+", "turns <count>"),
     (r"\b\d+ ms\b", "<time> ms"),
     (r"\b(office|terminal) 127\.0\.0\.1:\d+", r"\1 <client>"),
+    (r"\bsee \w+\.md, [^\n]*", "see <page>"),
     (r"\r", ""),
     (r"[ \t]+$", ""),
 ]
@@ -55,32 +62,67 @@ class Step:
 
 
 def steps_of(path):
-    """The commands of the page, in their order."""
-    steps, goes_on, is_open = [], False, False
-    with open(path) as lines:
-        for number, line in enumerate(lines.read().splitlines(), 1):
-            text = line[4:]
-            if not line and is_open:
-                steps[-1].wanted.append("")
-            elif not line.startswith("    "):
-                is_open = False
-            elif goes_on:
-                steps[-1].command += "\n" + text
-            elif text.startswith("$ "):
-                steps.append(Step(number, text[2:]))
-                is_open = True
-            elif text.startswith("# "):
-                is_open = False
-            elif is_open:
-                steps[-1].wanted.append(text)
-            goes_on = is_open and line.endswith("\\")
+    """Return the commands of the page, in their order."""
+    with open(path, encoding="utf-8") as file:
+        lines = file.read().splitlines()
+    steps, at, goes_on, is_open, answered = [], 0, False, False, None
+    while at < len(lines):
+        line, text = lines[at], lines[at][4:]
+        at += 1
+        if fence := re.match(r"( *)```(.*)", line):
+            first, is_open, goes_on = at, False, False
+            while at < len(lines) and lines[at].strip() != "```":
+                at += 1
+            body = [it[len(fence[1]) :] for it in lines[first:at]]
+            at += 1
+            if fence[2] == "sh":
+                answered = Step(first + 1, "\n".join(body))
+                steps.append(answered)
+            elif fence[2] == "text" and answered:
+                answered.wanted, answered = body, None
+            else:
+                answered = None
+            continue
+        if line.strip():
+            answered = None
+        if hidden := re.fullmatch(r" *<!-- hidden: (.*) -->", line):
+            steps.append(Step(at, hidden[1]))
+        elif not line and is_open:
+            steps[-1].wanted.append("")
+        elif not line.startswith("    "):
+            is_open = False
+        elif goes_on:
+            steps[-1].command += "\n" + text
+        elif text.startswith("$ "):
+            steps.append(Step(at, text[2:]))
+            is_open = True
+        elif text.startswith("# "):
+            is_open = False
+        elif is_open:
+            steps[-1].wanted.append(text)
+        goes_on = is_open and line.endswith("\\")
     return steps
 
 
+def blocks_of(path, kind):
+    """Return the text of each fenced block of the page that begins with this kind, such as `sh root`, in their order."""
+    with open(path, encoding="utf-8") as file:
+        found = re.findall(rf"(?ms)^( *)```{kind}\n(.*?)^ *```$", file.read())
+    return [re.sub(rf"(?m)^{blanks}", "", body) for blanks, body in found]
+
+
+def replaced(text, names):
+    """Return the text with each name replaced by its value, in one pass."""
+    if not names:
+        return text
+    longest = sorted(names, key=len, reverse=True)
+    pattern = "|".join(re.escape(it) + (r"(?!\d)" if it[-1].isdigit() else "") for it in longest)
+    return re.sub(pattern, lambda it: names[it[0]], text)
+
+
 def formed(text, names):
-    """The text with names replaced, and with what differs each time put as its form."""
-    for name, value in names.items():
-        text = text.replace(name, value)
+    """Return the text with names replaced, and with what differs each time put as its form."""
+    text = replaced(text, names)
     for pattern, form in FORMS:
         text = re.sub(pattern, form, text, flags=re.MULTILINE)
     return text.strip("\n")
@@ -137,38 +179,43 @@ def end_session(process):
     process.wait()
 
 
-def check(name, page, tools, ports, names=()):
-    """Runs the page's commands in a new folder, in which clients/ and inspect/ are there. Free ports take the place of the ports that the page
-    names, and other texts that of the names.
+def check(name, page, tools, ports, names=(), programs=None):
+    """Run the page's commands in a new folder, in which clients/ and inspect/ are there. Free ports replace the ports that the page names, and other texts the
+    names; `{here}` in such a text is the folder. Without programs the launcher is run.
     """
     missing = [tool for tool in tools if not shutil.which(tool)]
     if missing:
         print(f"{name}: skipped, since {missing[0]} is not installed")
         return 0
     steps = steps_of(os.path.join(TOP, page))
-    names = {**dict(names), **ports_of(ports)}
     with tempfile.TemporaryDirectory() as folder:
-        shell = shell_in(folder)
+        known = {it: value.replace("{here}", folder) for it, value in dict(names).items()}
+        known.update(ports_of(ports))
+        shell = shell_in(folder, *(programs or []))
         try:
             for step in steps:
-                check_step(name, page, step, shell, names)
+                check_step(name, page, step, shell, known)
         finally:
             shell.end()
     print(f"{name}: ok, {len(steps)} commands of {page}")
     return 0
 
 
-def shell_in(folder, program=None):
-    """A shell in this folder, in which clients/ and inspect/ are there. `weighbridge` is the program that is given, else the launcher."""
+def shell_in(folder, *programs):
+    """A shell in this folder, in which clients/ and inspect/ are there. `weighbridge` is the first of the programs, `weighbridge-converter` the second; without
+    programs both are the launcher.
+    """
     for name in ("clients", "inspect"):
         os.symlink(os.path.join(TOP, name), os.path.join(folder, name))
-    if program is None:
+    given = [it for it in programs if it is not None]
+    if not given:
         return Shell(folder)
     of = os.path.join(folder, ".program")
     os.mkdir(of)
-    # A copy, since `rt ci` may leave the program as a file that isn't executable.
-    shutil.copyfile(program, os.path.join(of, "weighbridge"))
-    os.chmod(os.path.join(of, "weighbridge"), 0o755)
+    for program, name in zip(given, ("weighbridge", "weighbridge-converter")):
+        # A copy, since `rt ci` may leave the program as a file that isn't executable.
+        shutil.copyfile(program, os.path.join(of, name))
+        os.chmod(os.path.join(of, name), 0o755)
     return Shell(folder, of)
 
 
@@ -184,10 +231,7 @@ def ports_of(ports):
 
 def check_step(name, page, step, shell, names, is_told=True, is_exact=False):
     """Runs a command of the page, and fails unless it prints what the page shows: to the letter if it is exact, else but for what differs each time."""
-    command = step.command
-    for known, value in names.items():
-        command = command.replace(known, value)
-    printed = shell.run(command)
+    printed = shell.run(replaced(step.command, names))
     if printed is None:
         raise SystemExit(f"{name}: {page}:{step.line}: it doesn't end: {step.command}")
     wanted, found = "\n".join(step.wanted).strip("\n"), printed.strip("\n")
