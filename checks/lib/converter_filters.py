@@ -89,7 +89,7 @@ def steady(loads, kind, number, window=4, band=2):
 
 
 def what_filters_do():
-    """The table of docs/operating.md, within three of 100."""
+    """The table of docs/install.md, within three of 100."""
     made, times = random.Random(1), range(4_000)
     disturbed = {
         "| noise of a tenth": [made.gauss(1_000, 1) for _ in times],
@@ -100,7 +100,7 @@ def what_filters_do():
             1_000 + (made.choice((-40, 40)) if made.random() < 0.05 else 0) for _ in times
         ],
     }
-    with open(os.path.join(TOP, "docs", "operating.md")) as it:
+    with open(os.path.join(TOP, "docs", "install.md")) as it:
         page = it.read().splitlines()
     for name, loads in disturbed.items():
         row = next(line for line in page if line.startswith(name))
@@ -113,7 +113,7 @@ def what_filters_do():
             f"{row}: {[round(it) for it in found]}",
             all(abs(one - other) <= 3 for one, other in zip(told, found)),
         )
-    print("what filters do, as docs/operating.md tells: ok", flush=True)
+    print("what filters do, as docs/install.md says: ok", flush=True)
 
 
 class Swinging(threading.Thread):

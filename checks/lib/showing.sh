@@ -35,3 +35,10 @@ $2
 found:
 $(cat "$3")"
 }
+
+# The commands of the fenced blocks ```sh of pages, or of standard input, a line each: those whose block says so behind `sh`, such as root; of '.*' all.
+typed() {
+    local says=$1
+    shift
+    sed -n "/^ *\`\`\`sh *\\($says\\)\$/,/^ *\`\`\`\$/{/^ *\`\`\`/!{s/^ *//; p}}" "$@" | sed -e ':more' -e '/\\$/{N; s/ *\\\n */ /; b more' -e '}'
+}
