@@ -188,6 +188,8 @@ def check(name, page, tools, ports, names=(), programs=None):
         print(f"{name}: skipped, since {missing[0]} is not installed")
         return 0
     steps = steps_of(os.path.join(TOP, page))
+    if not steps:
+        raise SystemExit(f"{name}: {page} has no command that can be run")
     with tempfile.TemporaryDirectory() as folder:
         known = {it: value.replace("{here}", folder) for it, value in dict(names).items()}
         known.update(ports_of(ports))
