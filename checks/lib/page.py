@@ -57,15 +57,18 @@ FORMS = [
 class Step:
     """A command of a page, the number of its line, and what it is to print."""
 
-    def __init__(self, line, command):
-        self.line, self.command, self.wanted = line, command, []
+    def __init__(self, line: int, command: str) -> None:
+        self.line, self.command = line, command
+        self.wanted: list[str] = []
 
 
-def steps_of(path):
+def steps_of(path: str) -> list[Step]:
     """Return the commands of the page, in their order."""
     with open(path, encoding="utf-8") as file:
         lines = file.read().splitlines()
-    steps, at, goes_on, is_open, answered = [], 0, False, False, None
+    steps: list[Step] = []
+    answered: Step | None = None
+    at, goes_on, is_open = 0, False, False
     while at < len(lines):
         line, text = lines[at], lines[at][4:]
         at += 1
@@ -104,14 +107,7 @@ def steps_of(path):
     return steps
 
 
-def blocks_of(path, kind):
-    """Return the text of each fenced block of the page that begins with this kind, such as `sh root`, in their order."""
-    with open(path, encoding="utf-8") as file:
-        found = re.findall(rf"(?ms)^( *)```{kind}\n(.*?)^ *```$", file.read())
-    return [re.sub(rf"(?m)^{blanks}", "", body) for blanks, body in found]
-
-
-def replaced(text, names):
+def replaced(text: str, names: dict[str, str]) -> str:
     """Return the text with each name replaced by its value, in one pass."""
     if not names:
         return text
@@ -120,7 +116,7 @@ def replaced(text, names):
     return re.sub(pattern, lambda it: names[it[0]], text)
 
 
-def formed(text, names):
+def formed(text: str, names: dict[str, str]) -> str:
     """Return the text with names replaced, and with what differs each time put as its form."""
     text = replaced(text, names)
     for pattern, form in FORMS:
