@@ -296,6 +296,8 @@ def by_the_browser(program, pictures, looked_at):
                 "what was given stands on the button",
                 lambda: "For the paper: Kies 0/16" in clerk.browser.text("#others"),
             )
+            # Enter doesn't react for 0.7 s after a dialog
+            time.sleep(0.8)
             clerk.keys(ENTER)
             clerk.sees(
                 "HB-KW-77" if load == 9170 else "net 10,200 kg", what="it is weighed"
