@@ -2,7 +2,7 @@
 
 import assert from 'node:assert/strict';
 import { test } from 'node:test';
-import { alike, plateOf, step } from './web/guide.js';
+import { alike, demoOf, isFalseDemo, plateOf, step } from './web/guide.js';
 import { ANSWER_KEYS, DEAF_FOR, Deafness, HAMMERED_WITHIN, PAGE_KEYS, deedOf } from './web/hands.js';
 
 const first = (plate, gross = 18340) => ({ plate, gross, at: '2026-03-10T08:00:00Z', number: 1 });
@@ -161,4 +161,24 @@ test('Enter does not react for 700 ms, and while the clerk hammers it', () => {
   ears.pressed(5000);
   assert.equal(ears.isDeaf(5001), false, 'a press that acts makes it not deaf');
   assert.deepEqual([deed('Enter', { isDeaf: true }), deed('Enter', { isDeaf: true }, 'other'), deed('Enter', { isDeaf: true, isDialog: true }, 'field')], ['deaf', 'deaf', 'left']);
+});
+
+// ---- the bar of a demo
+
+test('the serial of the scale decides if the page says DEMO', () => {
+  const demo = { demo: true, demo_page: 'http://127.0.0.1:8091/' }, none = { demo: false, demo_page: null };
+  assert.deepEqual(demoOf(demo, 'DEMO'), { page: 'http://127.0.0.1:8091/' });
+  assert.deepEqual(demoOf(none, 'DEMO'), { page: null }, 'also if the setup does not say so');
+  assert.equal(demoOf(demo, 'WB01'), null, 'a true weighing never stands below DEMO');
+  assert.equal(demoOf(none, 'WB01'), null);
+  assert.deepEqual(demoOf(demo, ''), { page: 'http://127.0.0.1:8091/' }, 'before the scale has told its serial, the setup decides');
+  assert.equal(demoOf(none, ''), null);
+  assert.equal(demoOf(undefined, undefined), null);
+});
+
+test('a demo over a true scale is told', () => {
+  assert.equal(isFalseDemo({ demo: true }, 'WB01'), true);
+  assert.equal(isFalseDemo({ demo: true }, 'DEMO'), false);
+  assert.equal(isFalseDemo({ demo: true }, ''), false);
+  assert.equal(isFalseDemo({ demo: false }, 'WB01'), false);
 });

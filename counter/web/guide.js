@@ -71,6 +71,15 @@ function wasOffZero({ before }) {
   return before === null ? { look: 'wait', word: 'unknown_before', answers } : { look: 'wait', word: 'off_zero_before', values: { kg: before }, answers };
 }
 
+// What the bar of a demo says; null without one. The scale's serial decides once it is known, because it is in each legal text.
+export function demoOf(hello, serial) {
+  if (serial ? serial !== 'DEMO' : !hello?.demo) return null;
+  return { page: hello?.demo_page ?? null };
+}
+
+// A counter that is set up as a demo, over a scale that isn't.
+export const isFalseDemo = (hello, serial) => Boolean(hello?.demo && serial && serial !== 'DEMO');
+
 function isEmpty({ kg, is_refused: isRefused }) {
   if (kg === null) return { look: 'calm', word: 'empty' };
   return isRefused ? { look: 'bad', word: 'off_zero_refused', values: { kg } } : { look: 'wait', word: 'off_zero', values: { kg }, choices: ['set_zero'] };

@@ -38,7 +38,7 @@ function scheduleExpiry() {
 function takeHello(hello) {
   known.hello = hello;
   useZone(hello.zone);
-  part('company').textContent = document.title = hello.company;
+  part('company').textContent = hello.company;
   part('language').replaceChildren(...Object.entries(hello.languages).map(([value, textContent]) => make('option', { value, textContent })));
   part('language').value = language;
   const wish = wantedLanguage(hello.language, hello.languages);

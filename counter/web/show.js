@@ -1,6 +1,6 @@
 // What is shown: the weight, the one sentence, the form and the bars at the top, each only where it changed.
 
-import { choiceOf, grossOf, isPlate, netOf, step } from './guide.js';
+import { choiceOf, demoOf, grossOf, isFalseDemo, isPlate, netOf, step } from './guide.js';
 import { PAGE_KEYS } from './hands.js';
 import { clerk, known, nowKnown } from './known.js';
 import { button, make, onlyChanged, part } from './parts.js';
@@ -23,6 +23,7 @@ export function show() {
   showScale(now);
   showGuide({ ...told, language });
   showForm(formOf(now, told));
+  showDemo({ demo: demoOf(known.hello, known.state?.serial), company: known.hello.company, language });
   showAlarms(alarmsOf(now));
   showNote(now.link !== 'off' && known.state && !known.state.lists_whole ? t('lists_lack') : '');
 }
@@ -112,6 +113,7 @@ function othersOf({ plate, choice, tareOf, given }) {
 function alarmsOf({ link, state, papers }) {
   if (state === null || link === 'off') return [];
   const alarms = [];
+  if (isFalseDemo(known.hello, state.serial)) alarms.push({ look: 'bad', text: t('demo_false', { serial: state.serial }) });
   if (!state.zero.known && link === 'up') alarms.push({ look: 'wait', text: t(state.zero.at ? 'zero_lost' : 'zero_unknown', { time: state.zero.at ? whenOf(state.zero.at) : '' }), choice: 'set_zero' });
   if (state.tare_left) alarms.push({ look: 'bad', text: t('tare_left') });
   if (state.office === 'store') alarms.push({ look: 'bad', text: t('store_closed') });
@@ -135,6 +137,15 @@ function papersInTrouble({ jobs }) {
 
 const showAlarms = onlyChanged(alarms => {
   part('alarms').replaceChildren(...alarms.map(it => make('div', { className: it.look }, make('span', { textContent: it.text }), ...(it.choice ? [button(t(it.choice), acts[it.choice])] : []))));
+});
+
+// The bar stays if the counter is gone, because what was weighed before is no weighing for all that.
+const showDemo = onlyChanged(({ demo, company }) => {
+  part('demo').hidden = demo === null;
+  if (company) document.title = demo ? `DEMO · ${company}` : company;
+  if (!demo) return;
+  const link = demo.page ? [' ', make('a', { href: `${demo.page}?lang=${language}`, target: 'weighbridge-demo', rel: 'noopener', textContent: t('demo_page') })] : [];
+  part('demo').replaceChildren(make('strong', { textContent: 'DEMO' }), ` ${t('demo')}`, ...link);
 });
 
 const showNote = onlyChanged(text => { part('note').textContent = text; });

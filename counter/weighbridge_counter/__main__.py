@@ -14,7 +14,7 @@ from weighbridge_paper.reader import SetupFault
 from .counter import Counter
 from .ports import open_port
 from .routes import Routes
-from .setup import Setup, read_setup
+from .setup import Setup, read_setup, warning_of
 
 FOLDER = Path(__file__).resolve().parent.parent
 END_OF_ACT_WITHIN = 3.0  # seconds
@@ -75,6 +75,8 @@ def main(given: list[str] | None = None) -> int:
     words = words_of(sys.argv[1:] if given is None else given)
     try:
         setup = read_setup(words.setup, FOLDER / "web")
+        if (warning := warning_of(setup, words.setup)) is not None:
+            print(f"weighbridge-counter: warning: {warning}", file=sys.stderr, flush=True)
         if not words.only_check:
             asyncio.run(serve(setup))
     except SetupFault as fault:

@@ -239,6 +239,8 @@ class Counter:
             "languages": setup.languages,
             "interval": setup.interval,
             "tare_days": setup.tare_days,
+            "demo": setup.is_demo,
+            "demo_page": setup.demo_page,
             "now": self.milliseconds(),
         }
 

@@ -110,7 +110,8 @@ class Routes:
         origin = request.headers.get("Origin")
         if host.rpartition(":")[0] not in self.hosts and host not in self.hosts:
             return as_text(b"counter other_host\n", 421)
-        if request.headers.get("Sec-Fetch-Site", "none") not in ("none", "same-origin") or (
+        site = request.headers.get("Sec-Fetch-Site", "none")
+        if (site not in ("none", "same-origin") and not self.is_link_of_demo(request)) or (
             origin is not None and origin.partition("://")[2] != host
         ):
             return as_text(b"counter other_site\n", 403)
@@ -138,6 +139,15 @@ class Routes:
                 flush=True,
             )
             return as_text(b"fault 500 internal\n", 500)
+
+    def is_link_of_demo(self, request: web.Request) -> bool:
+        """Return True if somebody follows a link of the played bridge's page, which has another port of this machine, to the clerk's page."""
+        wanted = {"Sec-Fetch-Site": "same-site", "Sec-Fetch-Mode": "navigate"}
+        return (
+            (request.method, request.path) == ("GET", "/")
+            and all(request.headers.get(name) == value for name, value in wanted.items())
+            and self.counter.setup.is_demo
+        )
 
     # ---- the page
 

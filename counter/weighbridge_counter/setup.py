@@ -8,6 +8,7 @@ from pathlib import Path
 
 from weighbridge_paper.printers import Papers, read_papers
 from weighbridge_paper.reader import Address, Reader, SetupFault, table_of, tables_in, zone_of
+from weighbridge_paper.text import DEMO
 
 INTERVALS = (1, 2, 5, 10, 20, 50)
 
@@ -37,6 +38,9 @@ class Setup:
     languages: dict[str, str] = field(default_factory=dict)  # the name of each, in itself
     ports: tuple[Port, ...] = field(default=())
     papers: Papers | None = None  # the printers; without them the browser prints
+    serial: str | None = None  # the serial of the service, if the setup names it
+    is_demo: bool = False  # the pages say DEMO
+    demo_page: str | None = None  # the address of the page of the played bridge
 
 
 def languages(web: Path) -> dict[str, str]:
@@ -78,14 +82,61 @@ def read_setup(path: Path, web: Path) -> Setup:
         ),
         ports=tuple(port_of(it) for it in ports),
         papers=papers_of(reader),
+        serial=serial_of(reader),
+        is_demo=reader.flag("demo", False),
+        demo_page=demo_page_of(reader),
     )
     if setup.interval not in INTERVALS:
         raise reader.fault(
             "interval", "write 1, 2, 5, 10, 20 or 50, as after --interval of the service"
         )
+    refuse_false_demo(setup, reader)
     reader.end()
     refuse_twice(setup, path)
     return setup
+
+
+def serial_of(reader: Reader) -> str | None:
+    """Return the service's serial, or None if the setup doesn't name it."""
+    if "serial" not in reader.table:
+        return None
+    what = "write the serial as after --serial of the service: 1 to 16 characters of A-Z and 0-9"
+    serial = reader.text("serial", None, what)
+    if not re.fullmatch("[A-Z0-9]{1,16}", serial):
+        raise reader.fault("serial", what)
+    return serial
+
+
+def demo_page_of(reader: Reader) -> str | None:
+    """Return the address of the played bridge's page, or None if the setup doesn't name it."""
+    if "demo_page" not in reader.table:
+        return None
+    what = 'write an address of this machine, as "http://127.0.0.1:8091/"'
+    page = reader.text("demo_page", None, what)
+    if not re.fullmatch(r"http://127(\.\d{1,3}){3}:\d{1,5}/", page):
+        raise reader.fault("demo_page", what)
+    return page
+
+
+def refuse_false_demo(setup: Setup, reader: Reader) -> None:
+    """Refuse a demo whose legal texts wouldn't say DEMO, so that no true weighing is taken for a played one."""
+    if setup.is_demo and setup.serial != DEMO:
+        raise reader.fault(
+            "demo",
+            f'the serial is in each legal text, so that of a demo must be {DEMO}: write serial = "{DEMO}" here and '
+            f"--serial {DEMO} after the service, or remove demo",
+        )
+    if setup.demo_page is not None and not setup.is_demo:
+        raise reader.fault(
+            "demo_page", "only a demo has such a page: write demo = true too, or remove it"
+        )
+
+
+def warning_of(setup: Setup, path: Path) -> str | None:
+    """Return a line about a setup that is accepted but is probably a mistake. Return None if there is nothing to warn of."""
+    if setup.serial == DEMO and not setup.is_demo:
+        return f"{path}: serial: {DEMO} is the serial of a demo, but the setup has no demo = true; add it, or write the serial of the instrument"
+    return None
 
 
 def papers_of(reader: Reader) -> Papers | None:

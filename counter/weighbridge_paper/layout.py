@@ -7,7 +7,7 @@ from collections.abc import Mapping
 from dataclasses import dataclass
 
 from . import words
-from .text import Text, Weighing
+from .text import DEMO, Text, Weighing
 
 LONGEST_GIVEN = 60  # characters of a free line
 MOST_MARKS = 2  # accents and the like on one letter
@@ -16,7 +16,7 @@ CONTINUES = ">"  # stands before what goes on the line above; no legal text has 
 
 @dataclass(frozen=True)
 class Mark:
-    """Of each further print, at both its ends."""
+    """Of each further print and of a demo, at both ends of the paper."""
 
     text: str
 
@@ -88,9 +88,15 @@ def code_of(text: Text) -> str:
 def blocks_of(paper: Paper, template: Template) -> list[Block]:
     text, language = paper.text, template.language
     marks: list[Block] = []
+    if text.own.serial == DEMO:
+        marks.append(Mark(DEMO))
     if not paper.is_original:
-        marks = [Mark(words.mark("copy" if text.own.kind == "first" else "duplicate", language))]
+        marks.append(
+            Mark(words.mark("copy" if text.own.kind == "first" else "duplicate", language))
+        )
     made: list[Block] = [*marks]
+    if text.own.serial == DEMO:
+        made.append(Line(words.word("demo", language), "bold", True))
     made += [Line(it, "plain" if at else "bold", True) for at, it in enumerate(template.header)]
     made += [Rule(), *headline(text, language)]
     for it in text.weighings:

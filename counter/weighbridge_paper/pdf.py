@@ -51,15 +51,15 @@ class Sheet:
         canvas.save()
         return file.getvalue()
 
-    def _draw(self, canvas: Canvas, height: float, mark: str | None) -> None:
-        """Page by page. On a page of its own a further print is marked too."""
+    def _draw(self, canvas: Canvas, height: float, marks: Sequence[str]) -> None:
+        """Page by page. A demo and a further print are marked on each page."""
         form, at, pages = self.form, height - self.form.margin, 1
         for needed, draw in self.pieces:
             if at - needed < form.margin - 1 and form.height is not None:
                 canvas.showPage()
                 pages += 1
                 at = height - form.margin
-                if mark is not None:
+                for mark in marks:
                     self._bar(mark)(canvas, at)
                     at -= form.plain * 2.4
             draw(canvas, at)
@@ -215,5 +215,6 @@ class Sheet:
         self._texts(code.name, PLAIN, form.plain * 0.8, "centre")
 
 
-def marks_of(blocks: Sequence[layout.Block]) -> str | None:
-    return next((it.text for it in blocks if isinstance(it, layout.Mark)), None)
+def marks_of(blocks: Sequence[layout.Block]) -> list[str]:
+    """Return the text of each mark once, in their order."""
+    return list(dict.fromkeys(it.text for it in blocks if isinstance(it, layout.Mark)))

@@ -12,6 +12,7 @@ from dataclasses import dataclass
 LONGEST = 512  # bytes
 LAST_NUMBER, LAST_MOMENT, MOST_KG, MOST_MAX = 4_294_967_295, 253_402_207_200, 9_999_999, 500_000
 INTERVALS = (1, 2, 5, 10, 20, 50)
+DEMO = "DEMO"  # the serial of a played instrument
 ZEROS = "0" * 64  # the previous digest of an entry before which none stands
 TICKETS = ("second", "single")
 HEAD = re.compile(r"WEIGHING (SLIP|TICKET) (\d{1,10})\nPLATE ([A-Z0-9-]{1,12})\n")

@@ -60,6 +60,12 @@ WORDS: dict[str, tuple[str, str, str, str]] = {
     "code": ("Number and digest", "Nummer und Prüfsumme", "Numéro et empreinte", "Número y huella"),
     "duplicate": ("DUPLICATE", "DUPLIKAT", "DUPLICATA", "DUPLICADO"),
     "copy": ("COPY", "KOPIE", "COPIE", "COPIA"),
+    "demo": (
+        "Played weights. This is no weighing.",
+        "Gespielte Gewichte. Das ist keine Wägung.",
+        "Poids simulés. Ceci n'est pas une pesée.",
+        "Pesos simulados. Esto no es una pesada.",
+    ),
 }
 GROUPED_BY = {"en": ",", "de": ".", "fr": NARROW_BLANK, "es": "."}
 
