@@ -1,0 +1,160 @@
+// The page of the played bridge: it shows what stands there, and what the clerk has to type; and it pushes a load. The demo's program plays it.
+
+import { NAMES, kg, language, number, speak, t, wanted } from './words.js';
+
+const LOOK_EVERY = 200;      // milliseconds
+const GONE_AFTER = 3;        // looks without an answer
+const PUSH_EVERY = 100;      // milliseconds between two loads while the slider moves
+
+const part = id => document.getElementById(id);
+let day = { visits: [], clerks_page: '' };
+let state = null;
+let missed = 0;
+let isSliding = false;
+
+const make = (name, properties = {}, ...inside) => {
+  const made = Object.assign(document.createElement(name), properties);
+  made.append(...inside);
+  return made;
+};
+
+// A plate as it stands on the vehicle: the last hyphen is a blank there.
+const onVehicle = plate => plate.replace(/-(?=[^-]*$)/, ' ');
+
+// Writes only what changed, so that nothing flickers and a screen reader says it once.
+const write = (id, text) => { if (part(id).textContent !== text) part(id).textContent = text; };
+
+// ---- what is shown
+
+function todoOf({ stay, phase, is_playing: isPlaying, is_over: isOver }) {
+  if (phase === 'empty') return isPlaying ? t('next') : isOver ? `${t('over')} ${t('choose')}` : t('choose');
+  if (phase === 'drives_off') return '';
+  if (!stay) return t('load_todo');
+  const { plate, kind, tare, weighed } = stay;
+  if (weighed && weighed.plate !== plate) return t('was_mistyped', { typed: weighed.plate, plate });
+  if (weighed) return `${t('was_weighed', { number: weighed.number })} ${t(stay.at ? 'leaves' : 'let_off')}`;
+  return t(kind, { plate, tare: tare ? kg(tare) : '' });
+}
+
+function happensOf({ phase, stay, kg: load }) {
+  if (phase === 'empty') return t('empty');
+  if (phase === 'stands') return t('stands', { tons: number(load / 1000, 1) });
+  return phase === 'changes' && stay ? t('on_it', { kg: kg(load) }) : t(phase);
+}
+
+function showNow() {
+  const { phase, stay } = state, weighed = stay?.weighed;
+  write('plate', phase === 'empty' ? '–' : stay ? onVehicle(stay.plate) : t('some_load'));
+  write('happens', happensOf(state));
+  write('kg', t('on_it', { kg: kg(state.kg) }));
+  write('todo', todoOf(state));
+  part('now').dataset.look = !weighed || phase === 'empty' ? '' : weighed.plate === stay.plate ? 'ok' : 'bad';
+}
+
+function showHands() {
+  const { phase, is_playing: isPlaying, is_over: isOver } = state;
+  part('on').disabled = phase !== 'empty';
+  part('off').disabled = phase === 'empty' || phase === 'drives_off';
+  write('play', t(isPlaying ? 'stop' : isOver ? 'again' : 'play'));
+  if (!isSliding) part('load').value = state.kg;
+  write('load-kg', kg(isSliding ? Number(part('load').value) : state.kg));
+}
+
+function moreOf(visit, mark) {
+  const comes = visit.kind === 'first' ? t('comes_in') : visit.kind === 'second' ? t('comes_out') : t('comes_once', { tare: kg(visit.tare) });
+  return mark ? `${comes}: ${t(`mark_${mark}`)}` : comes;
+}
+
+function showVisits() {
+  for (const [at, line] of [...part('visits').children].entries()) {
+    const mark = state.marks[at], more = line.querySelector('.more'), text = moreOf(day.visits[at], mark);
+    if (more.textContent !== text) more.textContent = text;
+    line.dataset.mark = mark;
+    const isNow = state.now === at;
+    if (isNow !== line.hasAttribute('aria-current')) {
+      line.toggleAttribute('aria-current', isNow);
+      if (isNow) keepInSight(line);
+    }
+  }
+  write('done', t('done', { done: number(state.marks.filter(it => it).length), all: number(day.visits.length) }));
+}
+
+// Only the list moves, and only where it has a bar of its own.
+function keepInSight(line) {
+  const list = part('visits');
+  if (list.scrollHeight > list.clientHeight + 1) list.scrollTop = line.offsetTop - list.offsetTop - list.clientHeight / 3;
+}
+
+function listVisits() {
+  part('visits').replaceChildren(...day.visits.map(it => make('li', {},
+    make('time', { textContent: it.at }), make('b', { textContent: onVehicle(it.plate) }), make('span', { className: 'kg', textContent: kg(it.kg) }),
+    make('span', { className: 'more' }))));
+}
+
+function show() {
+  if (!state) return;
+  showNow();
+  showHands();
+  showVisits();
+}
+
+function change(name) {
+  speak(name);
+  for (const it of document.querySelectorAll('[data-word]')) it.textContent = t(it.dataset.word);
+  document.title = `DEMO · ${t('title')}`;
+  part('language').value = language;
+  part('clerk').href = `${day.clerks_page}?lang=${language}`;
+  listVisits();
+  show();
+}
+
+// ---- what is asked
+
+async function ask(method, target, what) {
+  const answer = await fetch(target, { method, body: what && JSON.stringify(what), signal: AbortSignal.timeout(2000) }).catch(() => null);
+  const told = answer && await answer.json().catch(() => null);
+  missed = told ? 0 : missed + 1;
+  part('gone').hidden = missed < GONE_AFTER;
+  return told;
+}
+
+async function look() {
+  const told = await ask('GET', '/state');
+  if (told) state = told;
+  show();
+  setTimeout(look, LOOK_EVERY);
+}
+
+async function press(target, what) {
+  const told = await ask('POST', target, what);
+  if (told?.phase) state = told;
+  show();
+}
+
+let pushed = 0, later;
+
+// While the slider moves, its load is pushed ten times a second, and at the end once more.
+function slide() {
+  clearTimeout(later);
+  isSliding = true;
+  write('load-kg', kg(Number(part('load').value)));
+  const push = () => { pushed = performance.now(); press('/load', { kg: Number(part('load').value) }); };
+  if (performance.now() - pushed >= PUSH_EVERY) push();
+  later = setTimeout(() => { push(); later = setTimeout(() => { isSliding = false; }, 1000); }, PUSH_EVERY);
+}
+
+async function main() {
+  part('language').replaceChildren(...Object.entries(NAMES).map(([value, textContent]) => make('option', { value, textContent })));
+  while (!(day = await ask('GET', '/day'))) await new Promise(done => setTimeout(done, LOOK_EVERY));
+  part('load').max = day.max;
+  part('load').step = day.interval;
+  change(wanted());
+  part('language').addEventListener('change', () => change(part('language').value));
+  part('on').addEventListener('click', () => press('/on'));
+  part('off').addEventListener('click', () => press('/off'));
+  part('play').addEventListener('click', () => press(state?.is_playing ? '/stop' : '/play'));
+  part('load').addEventListener('input', slide);
+  look();
+}
+
+main();
