@@ -6,7 +6,10 @@ import tempfile
 import unittest
 import zoneinfo
 from pathlib import Path
+from types import SimpleNamespace
 
+from aiohttp.test_utils import make_mocked_request
+from weighbridge_counter.routes import Routes, as_text
 from weighbridge_counter.setup import read_setup, warning_of
 from weighbridge_demo.bridge import (
     CALM,
@@ -389,6 +392,28 @@ class TheSetting(unittest.TestCase):
         self.assertIn("demo_page", self.refused('demo_page = "http://127.0.0.1:8091/"'))
         setup, _ = self.setup_of(*demo, 'demo_page = "http://127.0.0.1:8091/"')
         self.assertEqual("http://127.0.0.1:8091/", setup.demo_page)
+
+
+class TheLinkToTheClerksPage(unittest.IsolatedAsyncioTestCase):
+    async def status(self, is_demo, path="/", method="GET", **fields):
+        setup = SimpleNamespace(listen=("127.0.0.1", 1), hosts=(), is_demo=is_demo)
+        routes = Routes(SimpleNamespace(setup=setup, terminal=None), Path("."))
+        headers = {"Host": "127.0.0.1:8090", **{it.replace("_", "-"): fields[it] for it in fields}}
+
+        async def handler(request):
+            return as_text(b"", 200)
+
+        request = make_mocked_request(method, path, headers=headers)
+        return (await routes.guarded(request, handler)).status
+
+    async def test_only_a_demo_lets_another_port_of_the_machine_link_to_it(self):
+        link = {"Sec_Fetch_Site": "same-site", "Sec_Fetch_Mode": "navigate"}
+        self.assertEqual(200, await self.status(True, **link))
+        self.assertEqual(403, await self.status(False, **link))
+        self.assertEqual(403, await self.status(True, "/papers", **link))
+        self.assertEqual(403, await self.status(True, "/", "POST", **link))
+        self.assertEqual(403, await self.status(True, **{**link, "Sec_Fetch_Site": "cross-site"}))
+        self.assertEqual(403, await self.status(True, **{**link, "Sec_Fetch_Mode": "cors"}))
 
 
 class PapersOfADemo(unittest.TestCase):

@@ -144,7 +144,8 @@ const showDemo = onlyChanged(({ demo, company }) => {
   part('demo').hidden = demo === null;
   if (company) document.title = demo ? `DEMO · ${company}` : company;
   if (!demo) return;
-  const link = demo.page ? [' ', make('a', { href: `${demo.page}?lang=${language}`, target: 'weighbridge-demo', rel: 'noopener', textContent: t('demo_page') })] : [];
+  window.name = 'weighbridge-clerk';     // so that a link of the played bridge's page finds this tab again
+  const link = demo.page ? [' ', make('a', { href: `${demo.page}?lang=${language}`, target: 'weighbridge-demo', textContent: t('demo_page') })] : [];
   part('demo').replaceChildren(make('strong', { textContent: 'DEMO' }), ` ${t('demo')}`, ...link);
 });
 

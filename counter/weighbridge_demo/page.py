@@ -93,7 +93,7 @@ class DemoPage:
             kg = json.loads(await request.read())["kg"]
         except (ValueError, KeyError, TypeError, RecursionError):
             kg = None
-        if not isinstance(kg, int) or not 0 <= kg <= MAX:
+        if not isinstance(kg, int) or isinstance(kg, bool) or not 0 <= kg <= MAX:
             return as_json({"why": f'send {{"kg": a whole number of 0 to {MAX}}}'}, 422)
         self.bridge.push(self.clock(), kg)
         return self.shown()

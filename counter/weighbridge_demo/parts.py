@@ -60,7 +60,7 @@ class Part:
 
     async def end(self) -> None:
         """End the program by SIGTERM, or by SIGKILL if it takes too long."""
-        if self.process is None or self.process.returncode is not None:
+        if self.process is None:
             return
         if self.process.stdin is not None:
             self.process.stdin.close()
@@ -70,6 +70,9 @@ class Part:
         except asyncio.TimeoutError:
             self.send(signal.SIGKILL)
             await self.process.wait()
+        if self.process.stdin is not None:
+            with contextlib.suppress(OSError, asyncio.TimeoutError):  # what wasn't written is lost
+                await asyncio.wait_for(self.process.stdin.wait_closed(), self.end_within)
 
     def send(self, number: signal.Signals) -> None:
         if self.process is not None and self.process.returncode is None:

@@ -24,6 +24,13 @@ const onVehicle = plate => plate.replace(/-(?=[^-]*$)/, ' ');
 // Writes only what changed, so that nothing flickers and a screen reader says it once.
 const write = (id, text) => { if (part(id).textContent !== text) part(id).textContent = text; };
 
+// Writes a sentence with the plate that has to be typed, which stays on one line.
+function writeWithPlate(id, text, plate) {
+  if (part(id).textContent === text) return;
+  const [before, ...after] = plate ? text.split(plate) : [text];
+  part(id).replaceChildren(before, ...after.flatMap(it => [make('b', { textContent: plate }), it]));
+}
+
 // ---- what is shown
 
 function todoOf({ stay, phase, is_playing: isPlaying, is_over: isOver }) {
@@ -46,8 +53,7 @@ function showNow() {
   const { phase, stay } = state, weighed = stay?.weighed;
   write('plate', phase === 'empty' ? '–' : stay ? onVehicle(stay.plate) : t('some_load'));
   write('happens', happensOf(state));
-  write('kg', t('on_it', { kg: kg(state.kg) }));
-  write('todo', todoOf(state));
+  writeWithPlate('todo', todoOf(state), stay?.plate);
   part('now').dataset.look = !weighed || phase === 'empty' ? '' : weighed.plate === stay.plate ? 'ok' : 'bad';
 }
 
@@ -144,6 +150,7 @@ function slide() {
 }
 
 async function main() {
+  window.name = 'weighbridge-demo';      // so that a link of the clerk's page finds this tab again
   part('language').replaceChildren(...Object.entries(NAMES).map(([value, textContent]) => make('option', { value, textContent })));
   while (!(day = await ask('GET', '/day'))) await new Promise(done => setTimeout(done, LOOK_EVERY));
   part('load').max = day.max;
