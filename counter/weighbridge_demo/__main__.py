@@ -9,7 +9,7 @@ import subprocess
 import sys
 from pathlib import Path
 
-from .demo import Addresses, Demo, FolderFault, Programs, Wish, ending, folder_of, held
+from .demo import Addresses, Demo, FolderFault, Programs, Wish, folder_of, held
 from .parts import PartFault
 
 FOLDER = Path(__file__).resolve().parent.parent
@@ -134,20 +134,23 @@ async def serve(demo: Demo, has_browser: bool) -> int:
         if it == signal.SIGHUP and signal.getsignal(it) == signal.SIG_IGN:
             continue  # by nohup
         asyncio.get_running_loop().add_signal_handler(it, stop)
+    signal.pthread_sigmask(signal.SIG_UNBLOCK, ENDED_BY)  # the launcher blocks them until now
     stopping = asyncio.ensure_future(stopped.wait())
     running = asyncio.ensure_future(run(demo, has_browser))
-    async with ending(demo):
+    try:
         await asyncio.wait([stopping, running], return_when=asyncio.FIRST_COMPLETED)
         if stopped.is_set():
-            running.cancel()
-            with contextlib.suppress(asyncio.CancelledError, PartFault):
-                await running
             return 0
         try:
             await running
         except PartFault as fault:
             tell(str(fault))
         return 1
+    finally:
+        stopping.cancel()
+        running.cancel()
+        await asyncio.wait([running])
+        await demo.end()
 
 
 async def run(demo: Demo, has_browser: bool) -> None:

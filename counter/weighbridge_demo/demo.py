@@ -10,7 +10,6 @@ import signal
 import socket
 import tempfile
 import time
-from collections.abc import AsyncIterator
 from dataclasses import dataclass
 from pathlib import Path
 from typing import IO, Any
@@ -307,15 +306,6 @@ class Demo:
         """Kill all parts at once."""
         for it in self.parts:
             it.send(signal.SIGKILL)
-
-
-@contextlib.asynccontextmanager
-async def ending(demo: Demo) -> AsyncIterator[None]:
-    """End the demo, whatever happens within."""
-    try:
-        yield
-    finally:
-        await demo.end()
 
 
 def zone_here() -> str:

@@ -98,7 +98,7 @@ async def run(name: str, words: list[str], given: str = "") -> str:
     """Return what a short program prints. Raises PartFault if it fails."""
     try:
         it = await asyncio.create_subprocess_exec(
-            *words,
+            *with_parent(words),
             stdin=asyncio.subprocess.PIPE,
             stdout=asyncio.subprocess.PIPE,
             stderr=asyncio.subprocess.PIPE,

@@ -39,13 +39,13 @@ const WORDS = {
   leaves: ['It drives off by itself.', 'Es fährt von selbst ab.', 'Il descend de lui-même.', 'Baja por sí solo.'],
   let_off: ['Press “Drive off”.', '„Abfahren“ drücken.', 'Appuyez sur « Le véhicule descend ».', 'Pulse «El vehículo baja».'],
   was_mistyped: ['Weighed as {typed}, but this is {plate}. At a true bridge: withdraw it, and let it drive off and on again.', 'Gewogen als {typed}, aber das ist {plate}. An einer echten Waage: stornieren, ab- und wieder auffahren lassen.', 'Pesé comme {typed}, mais c’est {plate}. Sur un vrai pont : annulez, faites descendre et remonter.', 'Pesado como {typed}, pero es {plate}. En una báscula de verdad: anúlelo y haga que baje y suba otra vez.'],
-  comes_in: ['is weighed in', 'wird eingewogen', 'pesée d’entrée', 'pesada de entrada'],
-  comes_out: ['is weighed out', 'wird ausgewogen', 'pesée de sortie', 'pesada de salida'],
-  comes_once: ['once, with the tare {tare} of its papers', 'einmal, mit der Tara {tare} aus seinen Papieren', 'une fois, avec la tare {tare} de ses papiers', 'una vez, con la tara {tare} de sus papeles'],
-  mark_weighed: ['weighed', 'gewogen', 'pesé', 'pesado'],
-  mark_mistyped: ['weighed with another plate', 'mit anderem Kennzeichen gewogen', 'pesé avec une autre immatriculation', 'pesado con otra matrícula'],
-  mark_unweighed: ['drove off without a weighing', 'ohne Wägung abgefahren', 'parti sans pesée', 'se fue sin pesada'],
-  mark_left_out: ['left out, because its other weighing is missing or open', 'ausgelassen, weil seine andere Wägung fehlt oder offen ist', 'omis, car son autre pesée manque ou est ouverte', 'omitido, porque su otra pesada falta o está abierta'],
+  comes_in: ['Weigh in', 'Einwiegen', 'Pesée d’entrée', 'Pesada de entrada'],
+  comes_out: ['Weigh out', 'Auswiegen', 'Pesée de sortie', 'Pesada de salida'],
+  comes_once: ['Weigh once, with the tare {tare} of its papers', 'Einmal wiegen, mit der Tara {tare} aus seinen Papieren', 'Une seule pesée, avec la tare {tare} de ses papiers', 'Una sola pesada, con la tara {tare} de sus papeles'],
+  mark_weighed: ['done', 'erledigt', 'faite', 'hecha'],
+  mark_mistyped: ['done with another plate', 'mit anderem Kennzeichen erledigt', 'faite avec une autre immatriculation', 'hecha con otra matrícula'],
+  mark_unweighed: ['drove off without it', 'ohne Wägung abgefahren', 'parti sans elle', 'se fue sin ella'],
+  mark_left_out: ['left out, because its other weighing is missing or open', 'ausgelassen, weil seine andere Wägung fehlt oder offen ist', 'omise, car son autre pesée manque ou est ouverte', 'omitida, porque su otra pesada falta o está abierta'],
 };
 
 const LANGUAGES = Object.keys(NAMES);
