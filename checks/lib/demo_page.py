@@ -10,8 +10,10 @@ from counter_looks import FAINT
 from countering import becomes, holds, same
 from demoing import WEIGHS_AFTER, Running
 
-WIDE = """return [...document.querySelectorAll('body *')].filter(it => it.checkVisibility() && !it.closest('#paper, .away, #visits') && it.getBoundingClientRect().right > innerWidth + 1)
-  .map(it => `${it.tagName}#${it.id}`).concat(document.documentElement.scrollWidth > innerWidth ? ['the page'] : [])"""
+# What is wider than the window without its scroll bar.
+WIDE = """const width = document.documentElement.clientWidth;
+return [...document.querySelectorAll('body *')].filter(it => it.checkVisibility() && !it.closest('#paper, .away') && it.getBoundingClientRect().right > width + 1)
+  .map(it => `wide: ${it.tagName}#${it.id}`).concat(document.documentElement.scrollWidth > width ? ['wide: the page'] : [])"""
 LOOKS = [
     (360, 740, False, "de"),
     (360, 740, True, "es"),
