@@ -171,7 +171,11 @@ def main(given: list[str] | None = None) -> int:
         folder = folder_of(words.folder)
         with held(folder):
             demo = Demo(programs, Wish(words.quick, words.empty), folder)
-            status = asyncio.run(serve(demo, not words.no_browser))
+            try:
+                status = asyncio.run(serve(demo, not words.no_browser))
+            except OSError as fault:  # a full disk, or a folder that was removed
+                tell(f"{folder}: {fault}; name a folder on another disk with --folder")
+                status = 1
     except FolderFault as fault:
         tell(str(fault))
         return 2

@@ -32,6 +32,7 @@ from .player import Player
 HOST = "127.0.0.1"
 STARTS_WITHIN = 30.0  # seconds for each part
 ZERO_WITHIN = 15.0
+ANSWERS_WITHIN = 5.0
 LOOK_EVERY = 0.05
 TRIES = 5  # with other ports, because another program may take one before a part does
 MARK = "weighbridge-demo.lock"  # what a folder of a demo has
@@ -74,7 +75,12 @@ def free_port() -> int:
 def folder_of(wish: Path | None) -> Path:
     """Return the folder of the demo, which is made if it isn't there. Raises FolderFault."""
     if wish is None:
-        return Path(tempfile.mkdtemp(prefix="weighbridge-demo-"))
+        try:
+            return Path(tempfile.mkdtemp(prefix="weighbridge-demo-"))
+        except OSError as fault:
+            raise FolderFault(
+                f"no temporary folder can be made, because {fault.strerror}; name a folder with --folder"
+            ) from None
     folder = wish.absolute()
     try:
         folder.mkdir(mode=0o700, parents=True, exist_ok=True)
@@ -149,9 +155,10 @@ class Demo:
         words = [self.programs.converter, "point", "--calibration", str(file)]
         for kg in LOADS:
             more = ["--load-kg", str(kg), "--interval", str(INTERVAL), "--spread", str(SPREAD)]
-            await run("the calibration", [*words, *more], lines_of_point(kg))
+            await run(f"the calibration, {file},", [*words, *more], lines_of_point(kg))
         await run(
-            "the calibration", [self.programs.converter, "finish", "--calibration", str(file)]
+            f"the calibration, {file},",
+            [self.programs.converter, "finish", "--calibration", str(file)],
         )
 
     async def _make_fifo(self, fifo: Path) -> None:
@@ -250,16 +257,18 @@ class Demo:
     async def _set_zero(self, clerk: str) -> None:
         """Set zero on the empty bridge, as an operator does in the morning. Raises PartFault."""
         until, said = time.monotonic() + ZERO_WITHIN, ""
-        async with aiohttp.ClientSession() as session:
+        timeout = aiohttp.ClientTimeout(total=ANSWERS_WITHIN)
+        async with aiohttp.ClientSession(timeout=timeout) as session:
             while time.monotonic() < until:
                 self.refuse_ended()
-                async with session.get(f"{clerk}health") as answer:
-                    is_up = answer.status == 200
-                if is_up:
-                    async with session.post(f"{clerk}zero") as answer:
-                        said = str((await answer.json()).get("said"))
-                    if said == "Z A":
-                        return
+                with contextlib.suppress(aiohttp.ClientError, asyncio.TimeoutError):
+                    async with session.get(f"{clerk}health") as answer:
+                        is_up = answer.status == 200
+                    if is_up:
+                        async with session.post(f"{clerk}zero") as answer:
+                            said = str((await answer.json()).get("said"))
+                        if said == "Z A":
+                            return
                 await asyncio.sleep(4 * LOOK_EVERY)
         raise PartFault(
             f"the counter gives no weight within {ZERO_WITHIN:g} s (zero: {said or 'not asked'}); see {self.folder}/counter.log and service.log"
