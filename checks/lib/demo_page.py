@@ -1,14 +1,18 @@
 """The page of the played bridge in Chromium, for checks/demo: what a learner does there, and how it looks in each size, light and language."""
 
+import re
 import shutil
 import tempfile
 import time
 
 from bridge import free_port
 from browser import Browser
+from counter_clerk import ENTER, F6, F9
 from counter_looks import FAINT
 from countering import becomes, holds, same
-from demoing import WEIGHS_AFTER, Running
+from demoing import WEIGHS_AFTER, Running, asked
+
+ARROW_LEFT, ARROW_RIGHT = "\ue012", "\ue014"
 
 # What is wider than the window without its scroll bar.
 WIDE = """const width = document.documentElement.clientWidth;
@@ -154,6 +158,47 @@ def clerks_page(demo, window):
     becomes("which opens the clerk's page", lambda: window.text("words") != "")
 
 
+def rare_things(demo, bridge, clerk):
+    """Practise what the page about the counter names: the empty bridge off zero, a plate like one on site, a tare from papers."""
+    demo.push("stop")
+    if not bridge.is_off("off"):
+        bridge.press("off")
+    becomes("the bridge is empty", lambda: demo.state()["phase"] == "empty")
+    becomes("the clerk's page too", lambda: "The bridge is empty" in clerk.text("words"))
+    bridge.browser.run("document.getElementById('load').focus()")
+    bridge.browser.keys(ARROW_RIGHT * 8)
+    becomes("the right arrow key pushes 160 kg", lambda: demo.state()["kg"] == 160)
+    becomes(
+        "after five seconds the clerk's page asks for zero",
+        lambda: clerk.text("words") == "The empty bridge shows 160 kg. Set zero.",
+    )
+    clerk.browser.keys(F9)
+    becomes("which F9 sets", lambda: re.search(r"^\D*0 kg", clerk.text("weight")))
+    bridge.browser.run("document.getElementById('load').focus()")
+    bridge.browser.keys(ARROW_LEFT * 8)
+    becomes("and the bridge is empty again", lambda: demo.state()["phase"] == "empty")
+    asked("POST", f"{demo.clerk}zero")
+    demo.push("load", {"kg": 19_120})
+    demo.becomes(has_settled)
+    same("RA-KM-1286 is weighed in", 201, demo.weigh("RARE-1", "RA-KM-1286", "first")[0])
+    demo.push("load", {"kg": 0})
+    demo.becomes(lambda it: it["phase"] == "empty")
+    demo.push("load", {"kg": 19_640})
+    demo.becomes(has_settled)
+    becomes("the next one stands", lambda: "Type the plate" in clerk.text("words"))
+    clerk.browser.keys("RA-KM 1268")
+    becomes(
+        "the clerk's page asks if it is RA-KM-1286",
+        lambda: "RA-KM-1286 is on site. Is it this one?" in clerk.text("words"),
+    )
+    clerk.browser.keys(F6)
+    becomes("F6 says that it isn't", lambda: "Ready." in clerk.text("words"))
+    clerk.browser.keys(ENTER)
+    becomes("and it is weighed in", lambda: "RA-KM-1268 is weighed in" in clerk.text("more"))
+    demo.push("load", {"kg": 0})
+    demo.becomes(lambda it: it["phase"] == "empty")
+
+
 def looks(demo, folder):
     """Look at both pages in each size, light and language."""
     for width, height, is_dark, lang in LOOKS:
@@ -191,6 +236,7 @@ def show(programs, folder=None):
         clerk = Window(demo.clerk)
         try:
             clerks_page(demo, clerk)
+            rare_things(demo, window, clerk)
         finally:
             clerk.close()
         demo.push("play")

@@ -194,6 +194,15 @@ class TheDay(unittest.TestCase):
             self.assertEqual((0, True), (it.kg % INTERVAL, 400 <= it.kg <= MAX))
             self.assertTrue(it.tare is None or it.tare < it.kg - 400)
 
+    def test_a_plate_comes_that_is_like_one_on_site(self):
+        """Walk through the day until RA-KM-1268 comes. RA-KM-1286 is then on site."""
+        on_site = set()
+        for it in visits_of_the_day():
+            if it.plate == "RA-KM-1268":
+                break
+            on_site ^= {it.plate}
+        self.assertIn("RA-KM-1286", on_site)
+
     def played(self, bridge, plate_of=lambda visit: visit.plate, skip=lambda number: False):
         """Play the day with a clerk who weighs each vehicle two seconds after it stands. Return the loads at those moments."""
         on_site, at, since, loads = {}, 0.0, None, []

@@ -27,7 +27,8 @@ class Vehicle:
     left_kg: int
 
 
-# A vehicle is weighed in when it came and out when it left. Two plates differ by one letter, so that the clerk's page asks which vehicle it is.
+# A vehicle is weighed in when it came and out when it left. While RA-KM-1286 is on site, RA-KM-1268 comes, so that the clerk's page asks which vehicle it
+# is.
 VEHICLES = (
     Vehicle("RA-KM-1236", "06:40", 18_340, "07:15", 8_140),
     Vehicle("HB-KW-77", "06:55", 11_280, "07:30", 37_460),
@@ -35,11 +36,11 @@ VEHICLES = (
     Vehicle("VER-X-901", "07:25", 34_660, "08:20", 13_900),
     Vehicle("OL-TR-415", "07:40", 12_540, "08:10", 38_320),
     Vehicle("DEL-H-58", "07:45", 9_760, "08:45", 17_980),
-    Vehicle("RA-KM-1286", "08:05", 19_120, "08:55", 8_260),
+    Vehicle("RA-KM-1286", "08:05", 19_120, "09:30", 8_260),
     Vehicle("WST-AB-330", "08:30", 39_480, "09:25", 14_220),
     Vehicle("CUX-G-1204", "08:40", 13_060, "09:10", 39_880),
     Vehicle("STD-PE-62", "09:05", 26_340, "09:50", 11_460),
-    Vehicle("NI-WF-808", "09:20", 7_980, "10:05", 15_740),
+    Vehicle("RA-KM-1268", "09:00", 19_640, "10:05", 8_300),
     Vehicle("HB-ZZ-4711", "09:40", 36_900, "10:35", 14_880),
     Vehicle("ROW-K-29", "09:55", 10_660, "10:40", 25_420),
     Vehicle("BRA-SH-17", "10:15", 12_820, "10:55", 39_040),

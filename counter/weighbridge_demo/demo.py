@@ -191,6 +191,7 @@ class Demo:
         self.parts.append(part)
         await part.start(has_input=True)
         assert part.process is not None and part.process.stdin is not None
+        self.player.pace = Pace(time.monotonic_ns())  # so that no line is late at the start
         self.tasks.append(asyncio.ensure_future(self.player.play(part.process.stdin)))
 
     async def _open_page(self) -> tuple[DemoPage, str]:
