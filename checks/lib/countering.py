@@ -353,7 +353,7 @@ def without_reset(folder):
     with open(path) as file:
         text = file.read()
     for old, new in (
-        ('struct.pack("ii", 1, 0)', 'struct.pack("ii", 0, 0)'),
+        ('"ii", 1, 0', '"ii", 0, 0'),
         ("self.transport.abort()", "self.transport.close()"),
     ):
         if text.count(old) != 1:
