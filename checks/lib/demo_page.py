@@ -14,7 +14,7 @@ from demoing import WEIGHS_AFTER, Running, asked
 
 ARROW_LEFT, ARROW_RIGHT = "\ue012", "\ue014"
 
-# What is wider than the window without its scroll bar.
+# Finds the elements that are wider than the window without its scroll bar.
 WIDE = """const width = document.documentElement.clientWidth;
 return [...document.querySelectorAll('body *')].filter(it => it.checkVisibility() && !it.closest('#paper, .away') && it.getBoundingClientRect().right > width + 1)
   .map(it => `wide: ${it.tagName}#${it.id}`).concat(document.documentElement.scrollWidth > width ? ['wide: the page'] : [])"""

@@ -84,8 +84,11 @@ def missing_of(programs: Programs) -> str | None:
     return None
 
 
-def tell_missing(path: str) -> None:
-    if is_checkout():
+def tell_missing(path: str, is_given: bool) -> None:
+    if is_given:
+        tell(f"{path}: there is no such program, or it can't be run")
+        tell("look at what you wrote after --weighbridge and --converter")
+    elif is_checkout():
         tell(f"{path}: there is no such program, because it isn't built yet")
         tell(
             "run ./weighbridge --version and ./weighbridge-converter --version first: they prove and build both programs"
@@ -154,7 +157,9 @@ async def serve(demo: Demo, has_browser: bool) -> int:
 
 
 async def run(demo: Demo, has_browser: bool) -> None:
+    say(f"Starting the converter, the service and the counter in {demo.folder}")
     addresses = await demo.start()
+    say()
     tell_addresses(addresses, demo.folder)
     if has_browser:
         open_browser(addresses.clerk)
@@ -165,7 +170,7 @@ def main(given: list[str] | None = None) -> int:
     words = words_of(sys.argv[1:] if given is None else given)
     programs = programs_of(words)
     if (missing := missing_of(programs)) is not None:
-        tell_missing(missing)
+        tell_missing(missing, missing in (words.weighbridge, words.converter))
         return 2
     try:
         folder = folder_of(words.folder)
