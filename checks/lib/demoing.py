@@ -3,6 +3,7 @@
 import json
 import os
 import re
+import shutil
 import signal
 import subprocess
 import tempfile
@@ -11,6 +12,8 @@ import time
 import urllib.error
 import urllib.parse
 import urllib.request
+
+from countering import failures
 
 TOP = os.path.dirname(os.path.dirname(os.path.dirname(os.path.abspath(__file__))))
 STARTS_WITHIN = 60  # seconds
@@ -180,6 +183,9 @@ class Running:
                 os.kill(number, signal.SIGKILL)
             except OSError:
                 pass
+        if not failures:
+            for it in re.findall(r"/\S*/weighbridge-demo-\w+", self.printed()):
+                shutil.rmtree(it, ignore_errors=True)
 
 
 class Busy:
