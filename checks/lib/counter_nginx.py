@@ -19,9 +19,11 @@ class Nginx:
         os.chmod(self.folder, 0o755)
         os.makedirs(f"{self.folder}/etc/nginx/conf.d")
         with open(f"{TOP}/docs/counter.md", encoding="utf-8") as page:
-            section = page.read().split("### Behind nginx")[1].split("\n### ")[0]
+            section = page.read().split("## Put nginx in front")[1].split("\n## ")[0]
         commands = "set -e\n" + "".join(
-            it for it in re.findall(r"(?:^    .*\n)+", section, re.M) if "systemctl" not in it
+            it
+            for it in re.findall(r"(?ms)^```sh root\n(.*?)^```", section)
+            if "systemctl" not in it
         )
         for old, new in (
             ("/etc/nginx", f"{self.folder}/etc/nginx"),
