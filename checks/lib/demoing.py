@@ -52,9 +52,17 @@ def processes_of(*folders):
 
 
 class Running:
-    """A demo that was started. `words` are more of its words."""
+    """A demo that was started. `words` are more of its words. `hangup` is what SIGHUP does to it, even if the check itself runs under nohup."""
 
-    def __init__(self, programs, *words, command=None, environment=None, before=()):
+    def __init__(
+        self,
+        programs,
+        *words,
+        command=None,
+        environment=None,
+        before=(),
+        hangup=signal.SIG_DFL,
+    ):
         self.begun = time.monotonic()
         self.process = subprocess.Popen(
             [*before, command or f"{TOP}/weighbridge-demo", *programs, *words],
@@ -64,6 +72,7 @@ class Running:
             text=True,
             env={**os.environ, **NO_DESKTOP, **(environment or {})},
             start_new_session=True,
+            preexec_fn=lambda: signal.signal(signal.SIGHUP, hangup),
         )
         self.out, self.err = [], []
         self.readers = [

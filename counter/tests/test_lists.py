@@ -1,12 +1,15 @@
 """The lists, texts made again, stored tares, the zero since a start, and the setup's mistakes."""
 
+import contextlib
 import datetime
+import io
 import os
 import tempfile
 import unittest
 import zoneinfo
 from pathlib import Path
 
+from weighbridge_counter.__main__ import main
 from weighbridge_counter.files import Files
 from weighbridge_counter.lists import Lists
 from weighbridge_counter.service import Service, program_of
@@ -357,6 +360,77 @@ class TheSetup(unittest.TestCase):
                 self.read(text)
             self.assertIn(wanted, str(caught.exception))
             self.assertIn(".toml: ", str(caught.exception))
+
+    def test_all_mistakes_are_named_at_once(self):
+        with tempfile.TemporaryDirectory() as folder:
+            papers = Path(folder) / "paper.toml"
+            papers.write_text(
+                'header = 1\n[[printer]]\nname = "A"\nto = "yard"\ncolumns = 5\ncut = 1\nx = 1\n'
+            )
+            with self.assertRaises(SetupFault) as caught:
+                self.read(
+                    'interval = 3\nmax = "9"\nzone = "Mars"\nlissten = 1\ndemo = true\nserial = ""\nlisten = "127.0.0.1:0"\n'
+                    f'office = "127.0.0.1:4001"\npapers = "{papers}"\n'
+                    '[[port]]\nname = "T"\nmay = "all"\nspeed = 1\n[[port]]\nlisten = "127.0.0.1:4001"\nname = 5\n'
+                )
+        keys = [": ".join(it.split(": ")[1:-1])[:40] for it in caught.exception.mistakes]
+        wanted = (
+            ["state", "listen", "zone", "max"]
+            + ["port 1: name", "port 1: listen", "port 1: may", "port 1: speed", "port 2: name"]
+            + ["header", "spool", "printer 1: name", "printer 1: to", "printer 1: columns"]
+            + ["printer 1: cut", "printer 1: x", "serial", "interval", "demo", "lissten", "office"]
+            + ["port 2: listen"]
+        )
+        for key in wanted:
+            self.assertEqual(
+                1,
+                sum(f".toml: {key}: " in it for it in caught.exception.mistakes),
+                f"{key}: {keys}",
+            )
+        self.assertEqual(len(wanted), len(caught.exception.mistakes), keys)
+
+    def test_digits_of_other_scripts_are_none(self):
+        for text in ('listen = "127.0.0.1:٨٠٩٠"', 'office = "١٢٧.0.0.1:8080"'):
+            with self.assertRaises(SetupFault):
+                self.read(f'state = "x"\n{text}')
+
+    def checked(self, text):
+        with tempfile.NamedTemporaryFile("w", suffix=".toml") as file:
+            file.write(text)
+            file.flush()
+            out, err = io.StringIO(), io.StringIO()
+            with contextlib.redirect_stdout(out), contextlib.redirect_stderr(err):
+                status = main(["--check", file.name])
+            return status, *(it.getvalue().replace(file.name, "FILE") for it in (out, err))
+
+    def test_a_check_says_where_the_page_will_be_and_makes_nothing(self):
+        with tempfile.TemporaryDirectory() as folder:
+            for state in (f"{folder}/new/state", folder):
+                self.assertEqual(
+                    (0, "FILE: in order; the page will be at http://127.0.0.1:8123/\n", ""),
+                    self.checked(f'state = "{state}"\nlisten = "127.0.0.1:8123"'),
+                )
+            self.assertEqual([], list(Path(folder).iterdir()))
+
+    def test_a_check_tries_the_folders(self):
+        with tempfile.TemporaryDirectory() as folder:
+            (Path(folder) / "file").touch()
+            papers = Path(folder) / "paper.toml"
+            papers.write_text('spool = "/proc/papers"')
+            status, said, faults = self.checked(
+                f'state = "{folder}/file/state"\npapers = "{papers}"'
+            )
+        self.assertEqual((1, ""), (status, said))
+        self.assertEqual(
+            [
+                f"weighbridge-counter: FILE: state: {folder}/file/state: it is missing, and {folder}/file can't take it: Not a directory",
+                "weighbridge-counter: FILE: the spool of papers: /proc/papers: it is missing, and /proc can't take it",
+            ],
+            [
+                ":".join(it.split(" (tried")[0].split(":")[:n])
+                for it, n in zip(faults.split("\n"), (6, 5))
+            ],
+        )
 
     def test_a_file_that_is_not_there(self):
         with self.assertRaises(SetupFault):

@@ -509,6 +509,8 @@ class TheSetup(unittest.TestCase):
             (yard + "columns = 20", "columns: write a whole number from 30 to 96"),
             (yard + 'code_pages = ["latin"]', "code_pages: write code pages"),
             (yard + 'code_pages = ["cp858=300"]', "code_pages: write code pages"),
+            (yard + 'code_pages = ["cp858=²"]', "code_pages: write code pages"),
+            (yard.replace(":9100", ":٩١٠٠"), "printer 1: to: write"),
             (yard + "status = 1", "status: write true or false"),
             (
                 yard.replace("tcp:192.0.2.50:9100", "file:/x") + 'form = "escpos58"\nstatus = true',
@@ -521,6 +523,31 @@ class TheSetup(unittest.TestCase):
                 self.read(text)
             self.assertIn(wanted, str(caught.exception))
             self.assertIn(".toml: ", str(caught.exception))
+
+    def test_all_mistakes_are_named_at_once(self):
+        with self.assertRaises(SetupFault) as caught:
+            self.read(
+                'language = "it"\nby_itself = "x"\n[[printer]]\nname = "a"\nto = 5\nform = "a4"\ncolumns = 1\n'
+                '[[printer]]\nname = "a"\nto = "usb:/dev/usb/lp0"\nform = "a4"\nstatus = 1\nheader = ["\\u0007"]\n'
+            )
+        keys = [
+            it.split(".toml: ")[1].split(": write")[0].split(": there")[0].split(": it is")[0]
+            for it in caught.exception.mistakes
+        ]
+        self.assertEqual(
+            [
+                "by_itself",
+                "language",
+                "printer 1: columns",
+                "printer 1: to",
+                "printer 2: form: such a printer gets ESC/POS",
+                "printer 2: header",
+                "printer 2: name",
+                "printer 2: status",
+                "spool",
+            ],
+            sorted(keys),
+        )
 
 
 class TheCommand(unittest.TestCase):

@@ -9,7 +9,7 @@ from pathlib import Path
 
 from aiohttp import web
 
-from weighbridge_paper.reader import SetupFault
+from weighbridge_paper.reader import SetupFault, trouble_of_folder
 
 from .counter import Counter
 from .ports import open_port
@@ -23,9 +23,9 @@ ABOUT = """Stands between the service of a weighbridge and everybody: holds its 
 It judges nothing and stores nothing legal, and may be killed at any time."""
 EXAMPLE = """example:
   weighbridge-counter /etc/weighbridge-counter.toml           serve; the page is then at the address after `listen`
-  weighbridge-counter --check /etc/weighbridge-counter.toml   only read the setup, and say what is wrong with it
+  weighbridge-counter --check /etc/weighbridge-counter.toml   serve nothing; say each mistake of the setup, or where the page will be
 
-status: 0 ended by a signal, 1 an address or a file can't be used, 2 the words or the setup are refused"""
+status: 0 ended by a signal, or the setup is in order, 1 an address, a folder or a file can't be used, 2 the words or the setup are refused"""
 
 
 def words_of(given: list[str]) -> argparse.Namespace:
@@ -42,7 +42,10 @@ def words_of(given: list[str]) -> argparse.Namespace:
         help="the setup, a TOML file; its example says each key",
     )
     words.add_argument(
-        "--check", dest="only_check", action="store_true", help="read the setup and end"
+        "--check",
+        dest="only_check",
+        action="store_true",
+        help="read the setup, try its folders, and end",
     )
     return words.parse_args(given)
 
@@ -71,16 +74,34 @@ async def serve(setup: Setup) -> None:
         running.result()
 
 
+def check(path: Path, setup: Setup) -> int:
+    """Say where the page of a setup without a mistake will be, or which folder of it can't be used."""
+    folders = [("state", setup.state)]
+    if setup.papers is not None:
+        folders.append(("the spool of papers", setup.papers.spool))
+    troubles = [(key, it) for key, folder in folders if (it := trouble_of_folder(folder))]
+    for key, trouble in troubles:
+        print(
+            f"weighbridge-counter: {path}: {key}: {trouble}: the counter couldn't keep its files; repair that, or name another folder",
+            file=sys.stderr,
+        )
+    if not troubles:
+        print(f"{path}: in order; the page will be at http://{setup.listen[0]}:{setup.listen[1]}/")
+    return int(bool(troubles))
+
+
 def main(given: list[str] | None = None) -> int:
     words = words_of(sys.argv[1:] if given is None else given)
     try:
         setup = read_setup(words.setup, FOLDER / "web")
         if (warning := warning_of(setup, words.setup)) is not None:
             print(f"weighbridge-counter: warning: {warning}", file=sys.stderr, flush=True)
-        if not words.only_check:
-            asyncio.run(serve(setup))
+        if words.only_check:
+            return check(words.setup, setup)
+        asyncio.run(serve(setup))
     except SetupFault as fault:
-        print(f"weighbridge-counter: {fault}", file=sys.stderr)
+        for line in fault.mistakes:
+            print(f"weighbridge-counter: {line}", file=sys.stderr)
         return 2
     except OSError as fault:
         print(f"weighbridge-counter: {fault}", file=sys.stderr)

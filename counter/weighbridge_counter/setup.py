@@ -1,13 +1,20 @@
-"""The setup: a TOML file. Each mistake in it is named by file, key and what to do."""
+"""The setup: a TOML file. Each mistake in it is named by file, key and what to do, all of them at once."""
 
 import json
-import re
 import zoneinfo
 from dataclasses import dataclass, field
 from pathlib import Path
 
 from weighbridge_paper.printers import Papers, read_papers
-from weighbridge_paper.reader import Address, Reader, SetupFault, table_of, tables_in, zone_of
+from weighbridge_paper.reader import (
+    NO_ADDRESS,
+    Address,
+    Reader,
+    SetupFault,
+    table_of,
+    tables_in,
+    zone_of,
+)
 from weighbridge_paper.text import DEMO
 
 INTERVALS = (1, 2, 5, 10, 20, 50)
@@ -57,10 +64,9 @@ def languages(web: Path) -> dict[str, str]:
 
 
 def read_setup(path: Path, web: Path) -> Setup:
-    """The setup of a file. Raises SetupFault."""
-    table = table_of(path)
-    ports = tables_in(table, "port", path)
-    reader, known = Reader(table, str(path)), languages(web)
+    """Return the setup of a file. Raise SetupFault with all mistakes of it, and of the file of the printers."""
+    reader, known = Reader(table_of(path), str(path), []), languages(web)
+    ports = tables_in(reader, "port")
     setup = Setup(
         state=Path(
             reader.text("state", None, "write the folder in which the counter keeps its files")
@@ -71,7 +77,7 @@ def read_setup(path: Path, web: Path) -> Setup:
         zone=zone_of(reader),
         company=reader.text("company", "Weighbridge", "write the name that stands on the page"),
         address=reader.texts("address", "write the lines below the name, as a list of texts"),
-        language=reader.choice("language", "en", tuple(known)),
+        language=reader.choice("language", "en", known),
         languages=known,
         interval=reader.number("interval", 20, 1, 50),
         max=reader.number("max", 60000, 500, 500000),
@@ -87,12 +93,13 @@ def read_setup(path: Path, web: Path) -> Setup:
         demo_page=demo_page_of(reader),
     )
     if setup.interval not in INTERVALS:
-        raise reader.fault(
+        reader.mistake(
             "interval", "write 1, 2, 5, 10, 20 or 50, as after --interval of the service"
         )
-    refuse_false_demo(setup, reader)
+    note_false_demo(setup, reader)
     reader.end()
-    refuse_twice(setup, path)
+    note_twice(setup, reader)
+    reader.refuse()
     return setup
 
 
@@ -101,10 +108,7 @@ def serial_of(reader: Reader) -> str | None:
     if "serial" not in reader.table:
         return None
     what = "write the serial as after --serial of the service: 1 to 16 characters of A-Z and 0-9"
-    serial = reader.text("serial", None, what)
-    if not re.fullmatch("[A-Z0-9]{1,16}", serial):
-        raise reader.fault("serial", what)
-    return serial
+    return reader.matching("serial", None, "[A-Z0-9]{1,16}", what)
 
 
 def demo_page_of(reader: Reader) -> str | None:
@@ -112,22 +116,19 @@ def demo_page_of(reader: Reader) -> str | None:
     if "demo_page" not in reader.table:
         return None
     what = 'write an address of this machine, as "http://127.0.0.1:8091/"'
-    page = reader.text("demo_page", None, what)
-    if not re.fullmatch(r"http://127(\.\d{1,3}){3}:\d{1,5}/", page):
-        raise reader.fault("demo_page", what)
-    return page
+    return reader.matching("demo_page", None, r"http://127(\.[0-9]{1,3}){3}:[0-9]{1,5}/", what)
 
 
-def refuse_false_demo(setup: Setup, reader: Reader) -> None:
-    """Refuse a demo whose legal texts wouldn't say DEMO, so that no true weighing is taken for a played one."""
+def note_false_demo(setup: Setup, reader: Reader) -> None:
+    """Note a demo whose legal texts wouldn't say DEMO, so that no true weighing is taken for a played one."""
     if setup.is_demo and setup.serial != DEMO:
-        raise reader.fault(
+        reader.mistake(
             "demo",
             f'the serial is in each legal text, so that of a demo must be {DEMO}: write serial = "{DEMO}" here and '
             f"--serial {DEMO} after the service, or remove demo",
         )
     if setup.demo_page is not None and not setup.is_demo:
-        raise reader.fault(
+        reader.mistake(
             "demo_page", "only a demo has such a page: write demo = true too, or remove it"
         )
 
@@ -140,26 +141,29 @@ def warning_of(setup: Setup, path: Path) -> str | None:
 
 
 def papers_of(reader: Reader) -> Papers | None:
-    """The printers, if a file of them is named."""
+    """Return the printers, if a file of them is named."""
     if "papers" not in reader.table:
         return None
-    return read_papers(
-        Path(
-            reader.text(
-                "papers",
-                None,
-                "write the file of the printers, as /etc/weighbridge-paper.toml, or take the key out",
-            )
-        )
+    path = reader.text(
+        "papers",
+        None,
+        "write the file of the printers, as /etc/weighbridge-paper.toml, or take the key out",
     )
+    try:
+        return read_papers(Path(path)) if path else None
+    except SetupFault as fault:
+        reader.mistakes.extend(fault.mistakes)
+        return None
 
 
 def port_of(reader: Reader) -> Port:
-    name = reader.text("name", None, "write a name of small letters, digits and _, as till_1")
-    if not re.fullmatch("[a-z0-9_]{1,20}", name):
-        raise reader.fault("name", "write a name of small letters, digits and _, as till_1")
     port = Port(
-        name,
+        reader.matching(
+            "name",
+            None,
+            "[a-z0-9_]{1,20}",
+            "write a name of small letters, digits and _, as till_1",
+        ),
         reader.address("listen", None),
         reader.choice("may", "read", ("read", "change")) == "change",
     )
@@ -167,23 +171,25 @@ def port_of(reader: Reader) -> Port:
     return port
 
 
-def refuse_twice(setup: Setup, path: Path) -> None:
-    """No address and no name may be there twice."""
-    known = {setup.listen: "listen", setup.terminal: "terminal"}
-    if setup.office in known:
-        raise SetupFault(
-            f"{path}: office: it is the address of {known[setup.office]}: take the one after --office of the service"
-        )
-    known[setup.office] = "office"
+def note_twice(setup: Setup, reader: Reader) -> None:
+    """Note each address and each name that another key has already."""
+    known: dict[Address, str] = {}
+    for key, address, what_to_do in (
+        ("listen", setup.listen, "take another port"),
+        ("terminal", setup.terminal, "take the one after --terminal of the service"),
+        ("office", setup.office, "take the one after --office of the service"),
+        *(
+            (f"port {at}: listen", it.listen, "take another port")
+            for at, it in enumerate(setup.ports, 1)
+        ),
+    ):
+        if address != NO_ADDRESS and address in known:
+            reader.mistake(key, f"it is the address of {known[address]}: {what_to_do}")
+        known.setdefault(address, key.removesuffix(": listen"))
     names: set[str] = set()
     for at, port in enumerate(setup.ports, 1):
-        if port.listen in known:
-            raise SetupFault(
-                f"{path}: port {at}: listen: it is the address of {known[port.listen]}: take another port"
+        if port.name and port.name in names:
+            reader.mistake(
+                f"port {at}: name", f"there is a port {port.name} already: take another name"
             )
-        if port.name in names:
-            raise SetupFault(
-                f"{path}: port {at}: name: there is a port {port.name} already: take another name"
-            )
-        known[port.listen] = f"port {at}"
         names.add(port.name)

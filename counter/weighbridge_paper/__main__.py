@@ -10,7 +10,7 @@ from .devices import TROUBLES
 from .layout import given_of
 from .printers import Papers, Printer, read_papers
 from .printing import Worker
-from .reader import SetupFault
+from .reader import SetupFault, trouble_of_folder
 from .spool import Job, Spool
 from .text import NoText, Text, check_digests, read_text
 from .words import FREE_LINES
@@ -82,7 +82,10 @@ def words_of(given: list[str]) -> argparse.Namespace:
         "--drop", metavar="JOB", type=int, help="a job that waits or failed is printed no more"
     )
     words.add_argument(
-        "--check", dest="only_check", action="store_true", help="read the setup and end"
+        "--check",
+        dest="only_check",
+        action="store_true",
+        help="read the setup, try its folder, and end",
     )
     asked = words.parse_args(given)
     if asked.printer is None and not (
@@ -204,13 +207,28 @@ def carry_out(asked: argparse.Namespace, papers: Papers) -> int:
     return print_text(asked, printer, spool)
 
 
+def check(setup: Path, papers: Papers) -> int:
+    """Say what a setup without a mistake means, or why its spool can't be used."""
+    if (trouble := trouble_of_folder(papers.spool)) is not None:
+        say(
+            f"{setup}: spool: {trouble}: nothing could be printed; repair that, or name another folder"
+        )
+        return 1
+    printers = ", ".join(it.name for it in papers.printers) or "none"
+    print(
+        f"{setup}: in order; printers: {printers}; each weighing is printed by: {papers.by_itself or 'none'}"
+    )
+    return 0
+
+
 def main(given: list[str] | None = None) -> int:
     asked = words_of(sys.argv[1:] if given is None else given)
     try:
         papers = read_papers(asked.setup)
-        return 0 if asked.only_check else carry_out(asked, papers)
+        return check(asked.setup, papers) if asked.only_check else carry_out(asked, papers)
     except SetupFault as fault:
-        say(str(fault))
+        for line in fault.mistakes:
+            say(line)
         return 2
     except NoText as fault:
         say(f"this is no text to print: {fault}")

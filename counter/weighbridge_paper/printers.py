@@ -7,18 +7,18 @@ from pathlib import Path
 from .escpos import PAGES
 from .layout import Template
 from .forms import FORMS
-from .reader import Reader, SetupFault, table_of, tables_in, zone_of
+from .reader import Reader, table_of, tables_in, zone_of
 from .words import LANGUAGES
 
 COLUMNS = {"escpos80": 48, "escpos58": 32}
 NARROWEST, WIDEST = 30, 96
 MOST_LINES, LONGEST_LINE = 8, 100  # of a header or footer
 LINES = {
-    "tcp": r"tcp:([^\s:]+):(\d{1,5})",
+    "tcp": r"tcp:([^\s:]+):([0-9]{1,5})",
     "usb": r"usb:(/\S+)",
-    "serial": r"serial:(/[^\s:]+):(\d{3,7})",
+    "serial": r"serial:(/[^\s:]+):([0-9]{3,7})",
 }
-QUEUES = {"cups": r"cups:([^\s/#@]+)(?:@([^\s:]+:\d{1,5}))?", "file": r"file:(/\S*)"}
+QUEUES = {"cups": r"cups:([^\s/#@]+)(?:@([^\s:]+:[0-9]{1,5}))?", "file": r"file:(/\S*)"}
 HOW_TO = 'write "tcp:192.0.2.50:9100", "usb:/dev/usb/lp0", "serial:/dev/ttyS0:19200", "cups:QUEUE", "cups:QUEUE@127.0.0.1:631" or "file:/FOLDER"'
 
 
@@ -52,10 +52,9 @@ class Papers:
 
 
 def read_papers(path: Path) -> Papers:
-    """The printers of a file. Raises SetupFault."""
-    table = table_of(path)
-    tables = tables_in(table, "printer", path)
-    reader = Reader(table, str(path))
+    """Return the printers of a file. Raise SetupFault with all mistakes of it."""
+    reader = Reader(table_of(path), str(path), [])
+    tables = tables_in(reader, "printer")
     spool = Path(
         reader.text(
             "spool",
@@ -67,16 +66,14 @@ def read_papers(path: Path) -> Papers:
     printers = tuple(printer_of(it, template) for it in tables)
     names = [it.name for it in printers]
     for at, name in enumerate(names, 1):
-        if name in names[: at - 1]:
-            raise SetupFault(
-                f"{path}: printer {at}: name: there is a printer {name} already: take another name"
+        if name and name in names[: at - 1]:
+            reader.mistake(
+                f"printer {at}: name", f"there is a printer {name} already: take another name"
             )
-    by_itself = reader.text(
-        "by_itself", names[0] if names else "none", 'write the name of a printer, or "none"'
-    )
-    if by_itself not in (*names, "none"):
-        raise reader.fault("by_itself", f'write {" or ".join(names)}, or "none"')
+    given = tuple(filter(None, names))
+    by_itself = reader.choice("by_itself", (*given, "none")[0], (*given, "none"))
     reader.end()
+    reader.refuse()
     return Papers(spool, template, printers, None if by_itself == "none" else by_itself)
 
 
@@ -90,7 +87,7 @@ def template_of(reader: Reader, of_all: Template) -> Template:
         if len(found[key]) > MOST_LINES or any(
             len(it) > LONGEST_LINE or not it.isprintable() for it in found[key]
         ):
-            raise reader.fault(key, what)
+            reader.mistake(key, what)
     return Template(
         found["header"],
         found["footer"],
@@ -101,32 +98,32 @@ def template_of(reader: Reader, of_all: Template) -> Template:
 
 def printer_of(reader: Reader, of_all: Template) -> Printer:
     what = "write a name of small letters, digits and _, as yard_1"
-    name = reader.text("name", None, what)
-    if not re.fullmatch("[a-z0-9_]{1,20}", name):
-        raise reader.fault("name", what)
+    name = reader.matching("name", None, "[a-z0-9_]{1,20}", what)
     way, place, detail = way_of(reader)
-    form = reader.choice("form", "escpos80" if way in LINES else "a4", (*COLUMNS, *FORMS))
+    form = reader.choice("form", "a4" if way in QUEUES else "escpos80", (*COLUMNS, *FORMS))
     if form in COLUMNS and way == "cups":
-        raise reader.fault("form", f"a queue of CUPS gets PDF: write {', '.join(FORMS)}")
-    if form not in COLUMNS and way in LINES:
-        raise reader.fault("form", f"such a printer gets ESC/POS: write {' or '.join(COLUMNS)}")
+        reader.mistake("form", f"a queue of CUPS gets PDF: write {', '.join(FORMS)}")
+    if form in FORMS and way in LINES:
+        reader.mistake("form", f"such a printer gets ESC/POS: write {' or '.join(COLUMNS)}")
     template = template_of(reader, of_all)
-    if form not in COLUMNS:
+    if form in FORMS and way not in LINES:
         reader.end()
         return Printer(name, way, place, detail, form, template)
-    columns = reader.number("columns", COLUMNS[form], NARROWEST, WIDEST)
+    columns = reader.number("columns", COLUMNS.get(form, NARROWEST), NARROWEST, WIDEST)
     pages = tuple(
         page_of(reader, it)
         for it in reader.texts("code_pages", 'write a list, as ["cp858"]') or ("cp858",)
     )
     has_status, is_cut = reader.flag("status", way != "file"), reader.flag("cut", True)
     if has_status and way == "file":
-        raise reader.fault("status", "a file answers nothing: write false, or take it out")
+        reader.mistake("status", "a file answers nothing: write false, or take it out")
     reader.end()
     return Printer(name, way, place, detail, form, template, columns, pages, has_status, is_cut)
 
 
 def way_of(reader: Reader) -> tuple[str, str, str]:
+    """Return way, place and detail. Return three empty texts after a mistake."""
+    before = len(reader.mistakes)
     to = reader.text("to", None, HOW_TO)
     for way, form in {**LINES, **QUEUES}.items():
         found = re.fullmatch(form, to)
@@ -135,13 +132,16 @@ def way_of(reader: Reader) -> tuple[str, str, str]:
             if way == "tcp" and not 0 < int(detail) < 65536:
                 break
             return way, found[1], detail
-    raise reader.fault("to", HOW_TO)
+    if len(reader.mistakes) == before:
+        reader.mistake("to", HOW_TO)
+    return "", "", ""
 
 
 def page_of(reader: Reader, text: str) -> tuple[str, int]:
     """A code page, and its number at the printer: `cp858`, or `cp858=19` if the printer's list is another one."""
     name, _, number = text.partition("=")
     what = f'write code pages of the printer\'s list, as "cp858", or with its number there, "cp858=19"; there are {", ".join(PAGES)}'
-    if name not in PAGES or (number and not (number.isdigit() and int(number) < 256)):
-        raise reader.fault("code_pages", what)
+    if name not in PAGES or not re.fullmatch("([0-9]{1,3})?", number) or int(number or 0) > 255:
+        reader.mistake("code_pages", what)
+        return name, 0
     return name, int(number) if number else PAGES[name]
