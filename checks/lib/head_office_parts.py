@@ -2131,7 +2131,9 @@ def show_sealed(office, folder):
     )
     same("  which is what the entries say", "", differences(office))
     command = next(
-        line.strip() for line in open(f"{top}/docs/head_office.md") if "basenc --base16 -d" in line
+        line.strip()
+        for line in open(f"{top}/docs/head_office_archive.md")
+        if "basenc --base16 -d" in line
     )
     shown = subprocess.run(
         [

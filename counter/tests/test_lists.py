@@ -2,10 +2,12 @@
 
 import contextlib
 import datetime
+import errno
 import io
 import os
 import tempfile
 import unittest
+import unittest.mock
 import zoneinfo
 from pathlib import Path
 
@@ -431,6 +433,17 @@ class TheSetup(unittest.TestCase):
                 for it, n in zip(faults.split("\n"), (6, 5))
             ],
         )
+
+    def test_a_check_finds_a_full_disk(self):
+        full = unittest.mock.MagicMock()
+        full.__enter__().write.side_effect = OSError(errno.ENOSPC, "No space left on device")
+        with tempfile.TemporaryDirectory() as folder:
+            with unittest.mock.patch(
+                "weighbridge_paper.reader.tempfile.TemporaryFile", return_value=full
+            ):
+                status, said, faults = self.checked(f'state = "{folder}"')
+        self.assertEqual((1, ""), (status, said))
+        self.assertIn(f"state: {folder}: No space left on device", faults)
 
     def test_a_file_that_is_not_there(self):
         with self.assertRaises(SetupFault):
