@@ -69,7 +69,11 @@ while True:
             file=sys.stderr,
         )
         sys.exit(3)
-    print(f"no answer yet ({status:03}); asking again", file=sys.stderr, flush=True)
+    print(
+        f"no answer yet from http://{OFFICE} ({status or 'no whole answer'}); asking again with the same key",
+        file=sys.stderr,
+        flush=True,
+    )
     time.sleep(1)
 print(
     text if status == 201 else reason(text),

@@ -52,7 +52,8 @@ while [ "$status" = 000 ] || [ "$status" -ge 500 ]; do
         echo "if it has left, don't: look for the key $key in the office's journal.csv" >&2
         exit 3
     fi
-    echo "no answer yet ($status); asking again" >&2
+    [ "$status" != 000 ] || status='no whole answer'
+    echo "no answer yet from ${WEIGHBRIDGE:-http://127.0.0.1:8080} ($status); asking again with the same key" >&2
     sleep 1
     ask
 done

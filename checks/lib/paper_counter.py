@@ -240,7 +240,7 @@ def taken_by_verify(bridge, played):
         same(
             "and names another digest",
             (1, True),
-            (it.returncode, "has another digest than is known" in it.stdout),
+            (it.returncode, "doesn't have the known digest" in it.stdout),
         )
 
 

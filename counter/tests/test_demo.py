@@ -1,7 +1,10 @@
 """The demo: its pace, its bridge and its day, on a played clock; the counter's setting, and what papers say of a demo."""
 
+import contextlib
+import io
 import random
 import re
+import socket
 import tempfile
 import unittest
 import zoneinfo
@@ -9,6 +12,7 @@ from pathlib import Path
 from types import SimpleNamespace
 
 from aiohttp.test_utils import make_mocked_request
+from weighbridge_counter.__main__ import main as counter_main
 from weighbridge_counter.routes import Routes, as_text
 from weighbridge_counter.setup import read_setup, warning_of
 from weighbridge_demo.bridge import (
@@ -28,6 +32,7 @@ from weighbridge_demo.bridge import (
 from weighbridge_demo.cell import EMPTY as EMPTY_COUNTS
 from weighbridge_demo.cell import COUNTS_PER_KG, INTERVAL, MAX, NOISE, counts_of, lines_of_point
 from weighbridge_demo.day import FIRST, SECOND, SINGLE, some_visit, visits_of_the_day
+from weighbridge_demo.demo import PORT_IS_TAKEN
 from weighbridge_demo.hearing import events_of
 from weighbridge_demo.pace import MOST_LATE, PERIOD, Pace
 from weighbridge_demo.player import Player
@@ -41,6 +46,13 @@ from weighbridge_paper.text import read_text
 from weighbridge_paper.words import LANGUAGES
 
 from .papers import Sample
+
+
+def free() -> int:
+    """Return a port on which nobody listens now."""
+    with socket.create_server(("127.0.0.1", 0)) as it:
+        return int(it.getsockname()[1])
+
 
 WEB = Path(__file__).resolve().parent.parent / "web"
 COUNTS_PER_TENTH = COUNTS_PER_KG * INTERVAL / 10
@@ -362,6 +374,23 @@ class WhatTheCounterTells(unittest.IsolatedAsyncioTestCase):
                 yield it
 
         self.assertEqual([("entry", {"a": 1})], [it async for it in events_of(lines())])
+
+
+class APortThatIsTaken(unittest.TestCase):
+    def test_the_counter_says_so_in_the_words_that_a_demo_knows(self):
+        with tempfile.TemporaryDirectory() as folder, socket.create_server(
+            ("127.0.0.1", 0)
+        ) as taken:
+            port, setup = taken.getsockname()[1], Path(folder) / "counter.toml"
+            for lines in (
+                f'listen = "127.0.0.1:{port}"\n',
+                f'listen = "127.0.0.1:{free()}"\n[[port]]\nname = "till"\nlisten = "127.0.0.1:{port}"\n',
+            ):
+                setup.write_text(f'state = "{folder}/state"\n{lines}')
+                said = io.StringIO()
+                with contextlib.redirect_stderr(said):
+                    self.assertEqual(1, counter_main([str(setup)]))
+                self.assertIn(f"127.0.0.1:{port} can't be used: {PORT_IS_TAKEN}", said.getvalue())
 
 
 class TheSetting(unittest.TestCase):

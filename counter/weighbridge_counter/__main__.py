@@ -3,13 +3,15 @@
 import argparse
 import asyncio
 import contextlib
+import os
 import signal
 import sys
+from collections.abc import Iterator
 from pathlib import Path
 
 from aiohttp import web
 
-from weighbridge_paper.reader import SetupFault, trouble_of_folder
+from weighbridge_paper.reader import Address, SetupFault, trouble_of_folder
 
 from .counter import Counter
 from .ports import open_port
@@ -50,12 +52,28 @@ def words_of(given: list[str]) -> argparse.Namespace:
     return words.parse_args(given)
 
 
+@contextlib.contextmanager
+def of_address(key: str, address: Address) -> Iterator[None]:
+    """Name the key and the address in the OSError of a listener that can't be opened."""
+    try:
+        yield
+    except OSError as fault:
+        why = os.strerror(fault.errno) if fault.errno else str(fault)
+        raise OSError(
+            f"{key}: {address[0]}:{address[1]} can't be used: {why}; stop the program that listens there, or name another port"
+        ) from None
+
+
 async def serve(setup: Setup) -> None:
     counter = Counter(setup)
     runner = web.AppRunner(Routes(counter, FOLDER).application(), access_log=None)
     await runner.setup()
-    await web.TCPSite(runner, *setup.listen, shutdown_timeout=0.2).start()
-    ports = [await open_port(counter.terminal, port) for port in setup.ports]
+    with of_address("listen", setup.listen):
+        await web.TCPSite(runner, *setup.listen, shutdown_timeout=0.2).start()
+    ports = []
+    for port in setup.ports:
+        with of_address(f"port {port.name}", port.listen):
+            ports.append(await open_port(counter.terminal, port))
     for port, listener in zip(setup.ports, ports):
         print(f"counter: port {port.name} on {port.listen[0]}:{port.listen[1]}", file=sys.stderr)
     print(f"counter: http://{setup.listen[0]}:{setup.listen[1]}/", file=sys.stderr, flush=True)

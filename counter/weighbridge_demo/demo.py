@@ -2,6 +2,7 @@
 
 import asyncio
 import contextlib
+import errno
 import fcntl
 import json
 import os
@@ -34,6 +35,7 @@ STARTS_WITHIN = 30.0  # seconds for each part
 ZERO_WITHIN = 15.0
 ANSWERS_WITHIN = 5.0
 LOOK_EVERY = 0.05
+PORT_IS_TAKEN = os.strerror(errno.EADDRINUSE)  # as the counter says it
 TRIES = 5  # with other ports, because another program may take one before a part does
 MARK = "weighbridge-demo.lock"  # what a folder of a demo has
 COUNTER_ENDS_WITHIN = 4.0  # seconds: it finishes a weighing that is under way
@@ -229,7 +231,7 @@ class Demo:
             part = Part(
                 "the counter", [self.programs.counter, str(setup)], log, COUNTER_ENDS_WITHIN
             )
-            if await self._begins(part, listen, "address already in use", left):
+            if await self._begins(part, listen, PORT_IS_TAKEN, left):
                 return f"http://{listen}/", till
         raise AssertionError
 

@@ -192,9 +192,12 @@ def carry_out(asked: argparse.Namespace, papers: Papers) -> int:
     if asked.is_list:
         show(spool.jobs("waits", "begun", "failed"))
         return 0
-    for number, act in ((asked.again, spool.again), (asked.drop, spool.drop)):
+    for number, act, why in (
+        (asked.again, spool.again, "didn't fail"),
+        (asked.drop, spool.drop, "neither waits nor failed"),
+    ):
         if number is not None and not act(number):
-            say(f"job {number} isn't one that can be: look at --list")
+            say(f"job {number} {why}, so nothing was done; --list shows the jobs")
             return 2
     if asked.printer is None:
         return 0

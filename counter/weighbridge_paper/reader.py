@@ -116,10 +116,16 @@ def table_of(path: Path) -> dict[str, Any]:
     """Return what a file says. Raise SetupFault if it can't be read."""
     try:
         return tomllib.loads(path.read_text(encoding="utf-8"))
-    except (OSError, UnicodeDecodeError) as fault:
-        raise SetupFault(f"{path}: it can't be read: {fault}") from None
+    except OSError as fault:
+        raise SetupFault(
+            f"{path}: it can't be read: {fault.strerror}; name the setup's file"
+        ) from None
+    except UnicodeDecodeError as fault:
+        raise SetupFault(f"{path}: it can't be read: {fault}; save it as UTF-8") from None
     except tomllib.TOMLDecodeError as fault:
-        raise SetupFault(f"{path}: it is no TOML: {fault}") from None
+        raise SetupFault(
+            f"{path}: it is no TOML: {fault}; compare the line with the package's example"
+        ) from None
 
 
 def tables_in(reader: Reader, name: str) -> list[Reader]:
