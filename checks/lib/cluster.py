@@ -14,6 +14,7 @@ import re
 import shutil
 import subprocess
 import tempfile
+import time
 
 OWNER = "keeper"
 
@@ -176,9 +177,11 @@ class Cluster:
         }
 
     def run(self, words, user=OWNER, database="head_office", given=None, **more):
-        """The status of a program that connects to it, and all that it printed."""
+        """Return the status of a program that connects to it, and all that it printed. `took` is then its time in seconds."""
         environment = {**self.environment(user, database), **more}
+        began = time.monotonic()
         it = subprocess.run(words, input=given, capture_output=True, env=environment, timeout=300)
+        self.took = time.monotonic() - began
         return it.returncode, english((it.stdout + it.stderr).decode(errors="replace"))
 
     def ask(self, *statements, user=OWNER, database="head_office"):
