@@ -54,7 +54,7 @@ MESSAGES += (
 
 
 def in_english():
-    """Return patterns of the server's messages in another language, each with its English text."""
+    """Return patterns of the server's messages in another language, each with its English text and the longest part that it always has."""
     if not LOCALE:
         return []
     with open(f"/usr/share/locale/{LOCALE[:2]}/LC_MESSAGES/postgres-15.mo", "rb") as it:
@@ -81,6 +81,7 @@ def in_english():
                 (
                     re.compile(pattern + r"(?=\n|$)" if pieces[-1] == "" else pattern),
                     re.sub(r"%[-\d.]*l*[sduxXc]", "\0", english),
+                    max(re.split(r"%(?:\d+\$)?[-\d.]*l*[sduxXc]|[^\0-\x7f]", other), key=len),
                 )
             )
     return sorted(found, key=lambda it: -len(it[1]))
@@ -91,10 +92,13 @@ IN_ENGLISH = in_english()
 
 def english(said):
     """Return a text in which the messages that the cases look for are English again."""
+    possible = [it for it in IN_ENGLISH if it[2] in said]
+    if not possible:
+        return said
     lines = said.split("\n")
     for at, line in enumerate(lines):
-        for pattern, message in IN_ENGLISH:
-            if it := pattern.search(line):
+        for pattern, message, part in possible:
+            if part in line and (it := pattern.search(line)):
                 values = iter(it.groups())
                 lines[at] = (
                     line[: it.start()]
