@@ -179,7 +179,7 @@ class Day:
 
 def show(program):
     print(
-        f"---- a day of {VEHICLES} vehicles with {len(FAULTS)} faults, at the page alone",
+        f"---- a day of {VEHICLES} vehicles with {len(FAULTS)} faults, only at the page",
         flush=True,
     )
     bridge = Bridge(program, 10).start_counter()

@@ -129,7 +129,7 @@ def fields_of_answers(nginx):
     same("a refusal has no cookie", None, head_of(nginx, "/", *WRONG)[1].get("set-cookie"))
     cookie = head_of(nginx, "/", *KNOWN)[1].get("set-cookie", "")
     holds(
-        "the cookie is for this site alone, and no script reads it",
+        "the cookie is for this site only, and no script reads it",
         all(it in cookie for it in ("Secure", "HttpOnly", "SameSite=Strict")),
         cookie,
     )
@@ -165,7 +165,7 @@ def guesses(nginx, cookie):
     looked_at = sum(it != "429" for it in found)
     # nginx reads its clock once a round, and on a busy machine lets some more through
     holds(
-        "of 150 guesses without waiting few are looked at",
+        "of 150 guesses without waiting nginx examines few",
         looked_at <= TRIES + took + 10,
         f"{looked_at} in {took:.1f} s",
     )
@@ -201,7 +201,7 @@ def many_open(nginx, cookie):
     for it in streams:
         it.close()
     same(
-        "one address has so many requests open, and no more",
+        "one address has 100 requests open, and no more",
         (MOST_OPEN, 10),
         (answers.count("200"), answers.count("429")),
     )

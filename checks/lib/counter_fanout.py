@@ -372,9 +372,7 @@ def another_at_the_terminal(bridge):
         told = [it["link"] for name, it in bridge.events(6) if name == "state"]
     bridge.service.send_signal(18)
     bridge.wait_until_up()
-    same(
-        "a service that stands still is told as one that doesn't answer", {"up", "held"}, set(told)
-    )
+    same("a service that stands still shows as one that doesn't answer", {"up", "held"}, set(told))
 
 
 def show(program, pace, kills):

@@ -239,7 +239,7 @@ def kept_tares(bridge):
     bridge.start_counter()
     kept = next(it for name, it in bridge.events(1.0) if name == "lists")["tares"]
     same(
-        "it is there after a start, with who kept it",
+        "it is there after a start, with the clerk who kept it",
         (5000, "anna", False),
         (kept["AB-12"]["kg"], kept["AB-12"]["by"], kept["AB-12"]["is_over"]),
     )

@@ -191,7 +191,7 @@ def refusals(bridge, clerk):
     clerk.keys(ENTER)
     clerk.sees("The bridge was not empty since the last weighing.")
     same(
-        "the office's name stands below",
+        "the office's name is below",
         "Nothing was stored. (refused 11 not_cleared)",
         clerk.more(),
     )
@@ -261,7 +261,7 @@ def kept_over_a_load(bridge, clerk):
     )
     clerk.load()
     clerk.sees(
-        "No answer came to: First weighing, OLD-1", what="one of long ago isn't sent by itself"
+        "No answer came to: First weighing, OLD-1", what="one of long ago isn't sent automatically"
     )
     same("nothing was stored of it", False, bridge.has_key("page-old"))
     clerk.browser.click("#choices button:last-child")
@@ -298,7 +298,7 @@ def killed_within_a_press(bridge, clerk):
         stored = sum(it[3] == plate for it in bridge.entries())
         said = clerk.words()
         holds(
-            f"{what}: what the clerk was told is what is stored",
+            f"{what}: what the clerk read is what is stored",
             (stored == 1) == ("Slip" in said) or "drive" in said,
             f"{stored} stored, {said}",
         )

@@ -525,7 +525,7 @@ def show_newest_by_itself(office, folder):
         book.write(f"{folder}/self/journal.csv", 40)
         until(lambda: subprocess.run(["curl", "-sf", "-o", "/dev/null", address]).returncode == 0)
         shows(
-            "the first load of a journal is a whole one by itself",
+            "the first load of a journal is a whole one of its own",
             0,
             "^SELF: records 40, added 40",
             40,
@@ -676,7 +676,7 @@ def show_floods(office, folder):
         "SELECT to_char(max(at) AT TIME ZONE 'Europe/Berlin', 'YYYY-MM-DD HH24:MI') FROM head_office.refusal WHERE bridge = 'FLOOD' AND reason = 'older'"
     )
     case(
-        "  beside the refused loads, of the bridge's own zone",
+        "  next to the refused loads, of the bridge's own zone",
         f'<tr><td>FLOOD</td><td>loads</td><td>{at}</td><td class="n">100</td>' in page,
         at,
     )
@@ -767,7 +767,7 @@ def show_overdue(office, folder):
     with open(book.add("single", "F-1").write(f"{folder}/t.csv", 0), "a") as it:
         it.writelines(book.line(number) + "\n" for number in range(25, 32))
     office.shows(
-        "the newest entries alone are loaded",
+        "only the newest entries are loaded",
         0,
         "^PART: records 7, added 1, findings 0",
         "PART",
@@ -959,7 +959,7 @@ def show_ages(office, folder, held):
         with open(f"{folder}/t.csv", "w") as it:
             it.write(cut)
         office.shows(
-            f"an export that is cut {name} is told as such",
+            f"an export that is cut {name} is named as such",
             2,
             "^CUT: refused: the export is cut off in its last line$",
             "CUT",
@@ -1083,7 +1083,7 @@ def show_named(office, folder):
         "INSERT INTO head_office.instrument VALUES ('NAME1', 'ALIAS')",
     )
     office.shows(
-        "a journal that stands under two names",
+        "a journal with two names",
         1,
         "^two names 1: journal [0-9]+ of NAME has this entry$",
         "ALIAS",
@@ -1232,9 +1232,7 @@ def show_sums(office, folder):
     book.rows[0]["own_previous"] = "0" * 63 + "1"
     book.chain().fill(6)
     office.load("LATER", book.write(f"{folder}/t.csv", fetched=time.time()))
-    same(
-        "a journal that was brought over, and isn't registered as such yet", "", differences(office)
-    )
+    same("a journal that was migrated, and isn't registered as such yet", "", differences(office))
     office.told(
         "INSERT INTO head_office.follower SELECT 'LATER', max(journal), min(journal) FROM head_office.journal WHERE bridge = 'LATER'"
     )
@@ -1386,7 +1384,7 @@ def show_upgrade(office, folder, loaded_by_1):
         cluster.told("SELECT count(*) FROM pg_constraint WHERE NOT convalidated", database="four"),
     )
     same(
-        "  the table of the entries wasn't written anew",
+        "  the table of the entries wasn't written again",
         stands,
         cluster.told(stored.format("entry_before"), database="four"),
     )
@@ -1546,7 +1544,7 @@ def show_copy_of_before(cluster, folder):
         files.append([(it, os.stat(it).st_mtime_ns) for it in before])
         time.sleep(1.1)
     case(
-        "  what stood before there were tables of years is copied once",
+        "  what was stored before there were tables of years is copied once",
         status == 0 and len(files[0]) == 1 and files[0] == files[1],
         (said, files),
     )
@@ -1784,7 +1782,7 @@ def show_years(office, folder, held):
     process.wait(60)
     stands = "SELECT bridge, e.tableoid::regclass, count(*) FROM head_office.entry e JOIN head_office.journal USING (journal) WHERE bridge ~ '^TURN' GROUP BY 1, 2 ORDER BY 1"
     same(
-        "  each stands in one table",
+        "  each is in one table",
         f"TURN|head_office.entry_{now - 2}|6\nTURNS|head_office.entry_before|6",
         office.reads(stands),
     )
@@ -1847,7 +1845,7 @@ def show_pages(office, folder):
     )
     found = re.findall(r"<dt>(.*?)</dt>", page)
     case(
-        "what is to be done is told once of each kind of finding",
+        "the page says once what to do about each kind of finding",
         found
         and len(set(found)) == len(found)
         and set(re.findall(r'<td title="[^"]*">([a-z ]+)</td>', page)) <= set(found),
@@ -2216,11 +2214,11 @@ def show_ten(office, folder):
     it = Database(office, "ten")
     done = {
         "a weight changed": lambda book: book.change(20, gross=9_000),
-        "a weight changed and its digest made anew": lambda book: (
+        "a weight changed and its digest computed again": lambda book: (
             book.change(20, gross=9_000),
             book.rows[19].update(digest=one_digest(book, 20)),
         ),
-        "a weight changed and each digest made anew": lambda book: book.change(
+        "a weight changed and each digest computed again": lambda book: book.change(
             20, gross=9_000
         ).chain(20),
         "an entry taken out": lambda book: (20,),

@@ -378,7 +378,7 @@ def with_a_printer(program, pictures):
         clerk.sees("Ready.")
         clerk.keys(ENTER)
         becomes(
-            "a weighing at the page prints by itself",
+            "a weighing at the page prints automatically",
             lambda: [marks(it) for it in played.printed] == [0],
         )
         clerk.keys(F8)

@@ -141,7 +141,7 @@ def cut_gone_and_back():
     )
     played.state = ""
     same(
-        "with paper it goes on where it was: one paper, whole",
+        "with paper it continues where it was: one paper, whole",
         (0, [2, 0], 1),
         (it.wait(20), [marks(it) for it in played.printed], len(played.begun)),
     )

@@ -93,7 +93,7 @@ def gone(cups):
     cups.stop()
     status = desk.run(USUAL["second"].text, "--printer", "desk", "--within", "1")
     same(
-        "a CUPS that is gone is told in words",
+        "a CUPS that is gone is named in words",
         (1, True),
         (status[0], "it can't be reached" in status[2]),
     )

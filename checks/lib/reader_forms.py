@@ -131,7 +131,7 @@ def reads_forms(folder):
         ("a sign of its own", {0: 0, 1: 1_234, 9: 0x0018}, "--status 9 --negative 8", "-1234"),
         ("no sign", {0: 0, 1: 1_234, 9: 0x0010}, "--status 9 --negative 8", "1234"),
         (
-            "a fault beside a sign",
+            "a fault next to a sign",
             {0: 0, 1: 1_234, 9: 0x0018},
             "--status 9 --negative 8 --faulty 16",
             "lost",

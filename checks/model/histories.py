@@ -101,7 +101,7 @@ history(
 )
 history("05 nothing weighed", ["t SI", "t S", "r lost 20"], ["t S I", "t S I"])
 history(
-    "06 lost starts the window anew",
+    "06 lost starts the window again",
     ["r 9170 4", "r lost", "t SI", "r 9170 3", "t SI", "r 9170", "t SI"],
     ["t S I", "t S D      18340 kg", "t S S      18340 kg"],
 )

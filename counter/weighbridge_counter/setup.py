@@ -147,7 +147,7 @@ def papers_of(reader: Reader) -> Papers | None:
     path = reader.text(
         "papers",
         None,
-        "write the file of the printers, as /etc/weighbridge-paper.toml, or take the key out",
+        "write the file of the printers, as /etc/weighbridge-paper.toml, or remove the key",
     )
     try:
         return read_papers(Path(path)) if path else None

@@ -62,7 +62,7 @@ class Wire:
     def __init__(self, handle: int, has_status: bool) -> None:
         self.handle, self.has_status, self.has_begun = handle, has_status, False
         self.is_behind = (
-            False  # whether GS r was answered, also while something else was waited for
+            False  # whether GS r was answered, even while something else was waited for
         )
         os.set_blocking(handle, False)
 

@@ -116,7 +116,7 @@ def printer_of(reader: Reader, of_all: Template) -> Printer:
     )
     has_status, is_cut = reader.flag("status", way != "file"), reader.flag("cut", True)
     if has_status and way == "file":
-        reader.mistake("status", "a file answers nothing: write false, or take it out")
+        reader.mistake("status", "a file answers nothing: write false, or remove it")
     reader.end()
     return Printer(name, way, place, detail, form, template, columns, pages, has_status, is_cut)
 

@@ -104,7 +104,7 @@ class Reader:
     def end(self) -> None:
         """Note each key that nobody took."""
         for key in self.table:
-            self.mistake(key, "there is no such key: look at its spelling, or take it out")
+            self.mistake(key, "there is no such key: look at its spelling, or remove it")
 
     def refuse(self) -> None:
         """Raise SetupFault if a mistake was noted."""
