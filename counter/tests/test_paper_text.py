@@ -122,7 +122,7 @@ class TheText(unittest.TestCase):
             (TICKET.replace("FIRST NO 1", "FIRST NO 3"), "its First doesn't stand before it"),
             (
                 TICKET.replace("2025-03-10 08:00:00", "2025-03-11 08:00:00"),
-                "its First isn't before it",
+                "its First doesn't stand before it",
             ),
             (TICKET.replace("E 20 kg", "E 3 kg"), "interval, Max or moment"),
             (TICKET.replace("MAX 60000", "MAX 600000"), "interval, Max or moment"),
