@@ -1,0 +1,58 @@
+"""When the system had a request for a service, as /proc/net/tcp shows it. It needs Linux and python3.
+
+A client can believe that it is connected before the service's system has the connection. So the age of a request that the service can know begins
+later than the time at which its client sent it."""
+
+import threading
+import time
+
+LOOK = 0.02  # seconds between two polls
+ESTABLISHED, SYN_RECEIVED, CLOSE_WAIT, LISTENS = "01", "03", "08", "0A"
+
+
+class Arrivals(threading.Thread):
+    """Notes, for each connection to a port of this machine, when a poll first found a byte in its socket, or that the service had accepted it."""
+
+    def __init__(self, port):
+        super().__init__(daemon=True)
+        self.own = f"0100007F:{port:04X}"
+        self.came = {}  # by the client's port
+        self.waiting = 0  # connections in the listener's queue at the last poll
+        self.sockets = 0  # connections in any state before their end, at the last poll
+        self.polled = threading.Event()
+        self.over = threading.Event()
+        self.start()
+
+    def run(self):
+        while not self.over.is_set():
+            self.poll()
+            self.polled.set()
+            time.sleep(LOOK)
+
+    def poll(self):
+        now, sockets = time.monotonic(), 0
+        with open("/proc/net/tcp") as it:
+            rows = [line.split()[1:10] for line in it]
+        for own, other, state, queues, *_, inode in rows:
+            if own != self.own:
+                continue
+            held = int(queues.partition(":")[2], 16)
+            if state == LISTENS:
+                self.waiting = held
+            elif state in (SYN_RECEIVED, ESTABLISHED, CLOSE_WAIT):
+                sockets += 1
+                if state != SYN_RECEIVED and (held or inode != "0"):
+                    self.came.setdefault(int(other.partition(":")[2], 16), now)
+        self.sockets = sockets
+
+    def since(self, port, sent):
+        """Returns when the system had the request that the client at this port sent. A request that the service answered between two polls had no delay."""
+        return max(sent, self.came.get(port, sent))
+
+    def next_poll(self):
+        self.polled.clear()
+        self.polled.wait(10)
+
+    def close(self):
+        self.over.set()
+        self.join()
