@@ -9,7 +9,18 @@ import threading
 import time
 
 import bridge
-from converting import OLD, POINTS, Running, calibrate, holds, line_of, lines, ran, same
+from converting import (
+    OLD,
+    POINTS,
+    Running,
+    calibrate,
+    holds,
+    line_of,
+    lines,
+    ran,
+    same,
+    undisturbed,
+)
 from devices import wait_for
 
 
@@ -343,6 +354,11 @@ def bad_clients(folder):
     even = os.path.join(folder, "even")
     os.makedirs(even)
     calibrate(even, [(0, 0), (2_000_000, 2_000_000)])
+    undisturbed("clients that come and go", come_and_go, even)
+    undisturbed("a client that doesn't read", does_not_read, even)
+
+
+def come_and_go(even):
     running = Running(even)
     numbers = Numbers(running, 50)
     time.sleep(2)
@@ -378,6 +394,8 @@ def bad_clients(folder):
         flush=True,
     )
 
+
+def does_not_read(even):
     running = Running(even)
     client = running.client(room=2_048)
     client.reads.clear()
@@ -427,6 +445,10 @@ def tell_delays(what, delays):
 
 def delays(folder):
     """From a count to its line, of 10,000 lines at 200 a second."""
+    undisturbed("10,000 lines", delays_of_10_000, folder)
+
+
+def delays_of_10_000(folder):
     running = Running(os.path.join(folder, "even"))
     client = running.client()
     time.sleep(0.2)

@@ -1,5 +1,6 @@
-"""What the parts of checks/converters share: its words, what it counts as a failure, the program in a run, and a client of it."""
+"""What the parts of checks/converters share: its words, what it counts as a failure, its watch for stalls, the program in a run, and a client of it."""
 
+import atexit
 import os
 import socket
 import subprocess
@@ -10,6 +11,7 @@ from fractions import Fraction
 
 import bridge
 from devices import begun, wait_for
+from stalls import Stalls
 
 TOP = os.path.dirname(os.path.dirname(os.path.dirname(os.path.abspath(__file__))))
 GIVEN = [it for it in sys.argv[1:] if it != "--long"]
@@ -28,6 +30,15 @@ OLD = 1.25
 # Where pymodbus lies: that of this system, and those that are given.
 PYMODBUS = [None, *filter(None, os.environ.get("WEIGHBRIDGE_PYMODBUS", "").split(":"))]
 failures = []
+# In each thread that makes an attempt, the failures of that attempt.
+attempts = threading.local()
+ATTEMPTS = 4
+# Of what a part tries, the least share that has to be judged because no stall touched it.
+JUDGED = 0.8
+# How old a reading may be when it comes.
+NEW = 0.25
+stalls = Stalls()
+atexit.register(stalls.close)
 
 
 def fails_too(fault):
@@ -40,9 +51,42 @@ threading.excepthook = fails_too
 
 
 def holds(what, is_so):
-    if not is_so:
+    if is_so:
+        return
+    if (failed := getattr(attempts, "failed", None)) is not None:
+        failed.append(what)
+    else:
         failures.append(what)
-        print(f"FAILED: {what}", flush=True)
+        print(f"FAILED: {what}\n", end="", flush=True)
+
+
+def undisturbed(name, attempt, *given):
+    """Makes an attempt. If one fails while the machine stands still, this makes it again, up to four times in all."""
+    for number in range(1, ATTEMPTS + 1):
+        attempts.failed, begin = [], time.monotonic()
+        try:
+            attempt(*given)
+        finally:
+            failed, attempts.failed = attempts.failed, None
+        is_disturbed = bool(failed) and stalls.touch(begin, time.monotonic())
+        if not is_disturbed:
+            break
+        print(
+            f"{name}: attempt {number} failed, and the machine stood still in it: {failed[0]}\n",
+            end="",
+            flush=True,
+        )
+    if is_disturbed:
+        failed.append(f"{name}: the machine stood still in each of {ATTEMPTS} attempts")
+    for what in failed:
+        holds(what, False)
+
+
+def is_judged_enough(name, judged, count):
+    holds(
+        f"{name}: {judged} of {count} lines are judged, because a stall touched the others",
+        judged >= JUDGED * count,
+    )
 
 
 def same(what, wanted, found):

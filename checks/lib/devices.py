@@ -35,11 +35,12 @@ def write(path, text):
 
 
 def wait_for(what, holds, seconds=10):
-    until = time.monotonic() + seconds
-    while not holds():
-        if time.monotonic() > until:
-            raise SystemExit(f"converters: {what} didn't come within {seconds} s")
+    # Count steps, because the clock continues while the machine stands still.
+    for _ in range(int(seconds * 100)):
+        if holds():
+            return
         time.sleep(0.01)
+    raise SystemExit(f"converters: {what} didn't come within {seconds} s")
 
 
 class Modbus:

@@ -13,14 +13,18 @@ import bridge
 import odd_modbus
 from converting import (
     IS_LONG,
+    NEW,
     PROGRAM,
     PYMODBUS,
     READERS,
     Running,
     holds,
+    is_judged_enough,
     line_of,
     same,
+    stalls,
     tenths,
+    undisturbed,
     with_pymodbus,
 )
 from devices import begun, wait_for
@@ -67,46 +71,45 @@ def is_lost(name, device, folder, rate=10):
     wanted = line_of(232_000)
     wait_for(f"{name}: a first line", lambda: wanted in client.texts(), 20)
     for fault, begins, ends in device.faults():
-        before = len(chain.told_lines())
-        begins()
-        time.sleep(0.8)
-        start = len(client.lines)
-        time.sleep(1.4)
-        during = client.texts()[start:]
-        told = chain.told_lines()[before:]
-        ends()
-        device.put(96_766)
-        wait_for(
-            f"{name}, {fault}: a line after it", lambda: client.texts()[-1] == line_of(96_766), 20
+        undisturbed(
+            f"{name}, {fault}", has_fault, f"{name}, {fault}", device, chain, client, begins, ends
         )
-        time.sleep(0.5)
-        after = chain.told_lines()[before:]
-        texts = set(client.texts())
-        holds(
-            f"{name}, {fault}: all lines are lost while it lasts: {during[:5]}",
-            during and set(during) == {"lost"},
-        )
-        holds(
-            f"{name}, {fault}: lines come at the pace: {len(during)}",
-            0.3 * 1.4 * rate <= len(during) <= 1.3 * 1.4 * rate + 1,
-        )
-        holds(
-            f"{name}, {fault}: one line when it begins: {told}",
-            len(told) == 1 and "are lost: " in told[0],
-        )
-        holds(
-            f"{name}, {fault}: one line when it ends: {after[1:]}",
-            len(after) == 2 and "are back" in after[1],
-        )
-        holds(
-            f"{name}, {fault}: no other load comes: {texts}",
-            texts <= {wanted, line_of(96_766), "lost"},
-        )
-        print(f"{name}, {fault}: {told[0].partition('lost: ')[2] if told else ''}", flush=True)
-        device.put(232_000)
-        wait_for(f"{name}: the load again", lambda: client.texts()[-1] == wanted)
     client.close()
     chain.close()
+
+
+def has_fault(name, device, chain, client, begins, ends, rate=10):
+    wanted, other = line_of(232_000), line_of(96_766)
+    before = len(chain.told_lines())
+    begins()
+    time.sleep(0.8)
+    start = len(client.lines)
+    time.sleep(1.4)
+    during = client.texts()[start:]
+    told = chain.told_lines()[before:]
+    ends()
+    device.put(96_766)
+    wait_for(f"{name}: a line after it", lambda: client.texts()[-1] == other, 20)
+    time.sleep(0.5)
+    after = chain.told_lines()[before:]
+    texts = set(client.texts())
+    holds(
+        f"{name}: all lines are lost while it lasts: {during[:5]}",
+        during and set(during) == {"lost"},
+    )
+    holds(
+        f"{name}: lines come at the pace: {len(during)}",
+        0.3 * 1.4 * rate <= len(during) <= 1.3 * 1.4 * rate + 1,
+    )
+    holds(f"{name}: one line when it begins: {told}", len(told) == 1 and "are lost: " in told[0])
+    holds(
+        f"{name}: one line when it ends: {after[1:]}",
+        len(after) == 2 and "are back" in after[1],
+    )
+    holds(f"{name}: no other load comes: {texts}", texts <= {wanted, other, "lost"})
+    print(f"{name}: {told[0].partition('lost: ')[2] if told else ''}", flush=True)
+    device.put(232_000)
+    wait_for(f"{name}: the load again", lambda: client.texts()[-1] == wanted)
 
 
 # How a server answers, and how many of 40 readings are lost, from and to.
@@ -128,7 +131,12 @@ ODD = (
 def reads_odd_answers():
     """Answers that are not as they should be, over TCP."""
     for folder in PYMODBUS:
-        tried = [threading.Thread(target=reads_one_odd, args=(folder, *kind)) for kind in ODD]
+        tried = [
+            threading.Thread(
+                target=undisturbed, args=(f"answers {named(it[0])}", reads_one_odd, folder, *it)
+            )
+            for it in ODD
+        ]
         for it in tried:
             it.start()
         for it in tried:
@@ -139,9 +147,13 @@ def reads_odd_answers():
         )
 
 
+def named(answers):
+    return answers.__name__.replace("_", " ")
+
+
 def reads_one_odd(folder, answers, least, most):
     server = odd_modbus.OddModbus(bridge.HOST, answers)
-    name = answers.__name__.replace("_", " ")
+    name = named(answers)
     command = [
         os.path.join(READERS, "modbus"),
         "--tcp",
@@ -182,7 +194,10 @@ def comes_back():
         for period in (0.02, 0.1, 0.12, 0.15, 0.2)
         for off in (0.5, 2.0, 30.0 if IS_LONG else 5.0)
     ]
-    tried = [threading.Thread(target=comes_back_after, args=it) for it in cases]
+    tried = [
+        threading.Thread(target=undisturbed, args=(f"a period of {it[0]} s", comes_back_after, *it))
+        for it in cases
+    ]
     for it in tried:
         it.start()
     for it in tried:
@@ -232,7 +247,7 @@ def has_faults(name, device, folder, seconds, environment=None):
     shutil.copy(os.path.join(folder, "even", "calibration"), own)
     chain = Running(own, device.words(), environment=environment)
     client = chain.client()
-    time.sleep(seconds)
+    stalls.sleep(seconds)
     client.close()
     device.close()
     chain.close()
@@ -240,17 +255,23 @@ def has_faults(name, device, folder, seconds, environment=None):
     ages = [device.age(value, at) for at, value in found]
     never = [value for (_, value), age in zip(found, ages) if age is None]
     known = [age for age in ages if age is not None]
-    oldest = max(known, default=9.0)
+    judged = [
+        age
+        for (at, _), age in zip(found, ages)
+        if age is not None and not stalls.touch(at - age, at)
+    ]
+    oldest = max(judged, default=9.0)
     holds(f"{name}: no line is a value that the device never held: {never[:5]}", not never)
-    holds(f"{name}: no line is older than 250 ms: {oldest * 1000:.0f} ms", oldest <= 0.25)
+    holds(f"{name}: no line is older than 250 ms: {oldest * 1000:.0f} ms", oldest <= NEW)
+    is_judged_enough(name, len(judged), len(known))
     holds(
         f"{name}: {len(found)} of {len(client.lines)} lines have a load",
         len(found) > len(client.lines) / 4 > seconds,
     )
     lost = len(client.lines) - len(found)
     times = (
-        f"median {statistics.median(known) * 1000:.0f} ms, greatest {oldest * 1000:.0f} ms"
-        if known
+        f"median {statistics.median(judged) * 1000:.0f} ms, greatest {oldest * 1000:.0f} ms"
+        if judged
         else "none"
     )
     print(
