@@ -7,7 +7,14 @@ import threading
 import time
 
 LOOK = 0.02  # seconds between two polls
-ESTABLISHED, SYN_RECEIVED, CLOSE_WAIT, LISTENS = "01", "03", "08", "0A"
+ESTABLISHED, SYN_SENT, SYN_RECEIVED, FIN_WAIT, CLOSE_WAIT, LISTENS = (
+    "01",
+    "02",
+    "03",
+    "04",
+    "08",
+    "0A",
+)
 
 
 class Arrivals(threading.Thread):
@@ -18,7 +25,7 @@ class Arrivals(threading.Thread):
         self.own = f"0100007F:{port:04X}"
         self.came = {}  # by the client's port
         self.waiting = 0  # connections in the listener's queue at the last poll
-        self.sockets = 0  # connections in any state before their end, at the last poll
+        self.sockets = 0  # of both sides before their end, at the last poll
         self.polled = threading.Event()
         self.over = threading.Event()
         self.start()
@@ -34,6 +41,8 @@ class Arrivals(threading.Thread):
         with open("/proc/net/tcp") as it:
             rows = [line.split()[1:10] for line in it]
         for own, other, state, queues, *_, inode in rows:
+            # a connection of which only the client's system knows comes into the queue later
+            sockets += other == self.own and state in (ESTABLISHED, SYN_SENT, FIN_WAIT)
             if own != self.own:
                 continue
             held = int(queues.partition(":")[2], 16)
