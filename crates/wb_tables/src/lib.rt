@@ -11,3 +11,4 @@ pub mod queries;
 pub mod rows;
 pub mod spent;
 pub mod tables;
+pub mod texts;
