@@ -1,7 +1,7 @@
 -- Calls of the store that only read it, one after the other.
 use Rattle.std.proofs.Common.{◌≡◌, ◌∙◌, inl, inr, ap, sym, refl, Bool, true, false, ◌||◌, List, Result, Ok, Err, MatchResult}
 use Rattle.wb_office.proofs.Common.{Ghosts, EntryParts, StoreFault, Closed, Disk, Memory, closed_by, IsHonest, StoreView, StoreStands, Closes, Keeps, SpentKey}
-use Rattle.wb_office.specs.helpers.LookUps.{LooksUpInStore}
+use Rattle.wb_store.specs.Keeping.{LooksUpInStore}
 
 the_fault : {X : Type 0} → Result X StoreFault → StoreFault
 the_fault (Ok x) = Disk
@@ -90,12 +90,12 @@ module _ {D : Type 0} (g : Ghosts D) where
 
   -- a refused look-up has told nothing
   pub nothing_told : {old new : StoreView D} {X : Type 0} {f : StoreFault} {P : List EntryParts → List SpentKey → X → Type 0} → Reads old new {X = X} (Err f) → LooksUpInStore g old new (Err f) P
-  nothing_told l = record { tells = λ es ks s h. _; keeps = l.keeps; closes = l.closes }
+  nothing_told l = record { found = λ es ks s h. _; keeps = l.keeps; closes = l.closes }
 
   -- what a look-up tells
   pub told : {old new : StoreView D} {X : Type 0} {x : X} {P : List EntryParts → List SpentKey → X → Type 0} → Reads old new {X = X} (Ok x)
       → ((es : List EntryParts) (ks : List SpentKey) → StoreStands g old es ks → IsHonest g new → P es ks x) → LooksUpInStore g old new (Ok x) P
-  told l tells = record { tells = tells; keeps = l.keeps; closes = l.closes }
+  told l tells = record { found = tells; keeps = l.keeps; closes = l.closes }
 
   -- something is made of what was found, unless memory is refused
   pub worked_out : {old new : StoreView D} {X Y : Type 0} {x : X} {P : List EntryParts → List SpentKey → Y → Type 0} {Q : Y → Type 0} (r : Result Y StoreFault) → Reads old new {X = X} (Ok x)

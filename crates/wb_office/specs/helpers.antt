@@ -3,7 +3,6 @@ pub mod EvidenceShown
 pub mod ExportRecord
 pub mod IndicatedLoad
 pub mod JudgedByVerdict
-pub mod LookUps
 pub mod Partners
 pub mod PurgeDue
 pub mod WantOfMemory

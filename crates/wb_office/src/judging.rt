@@ -8,12 +8,12 @@ ghost use Rattle.wb_office.specs.Conditions.{holds_of, is_other, key_gone};
 ghost use Rattle.wb_office.specs.Situation.{Asking, IsOnLists};
 ghost use Rattle.wb_office.specs.helpers.EvidenceShown.{Shows, ShowsScale};
 ghost use Rattle.wb_office.specs.helpers.JudgedByVerdict.{AsksFor, IsOnScale, MeetsVerdict, is_plain};
-ghost use Rattle.wb_office.specs.helpers.LookUps.{LooksUpInStore};
 ghost use Rattle.wb_office.specs.helpers.Partners.{is_damaged_with};
 ghost use Rattle.wb_scale.specs.Indication.{IsIndicationInRange};
 ghost use Rattle.wb_scale.specs.Tare.{IsTare};
 ghost use Rattle.wb_tables.specs.Lists.{AreLists, entry_by_key};
 ghost use Rattle.wb_store.specs.Sight.{IsSeen, overview};
+ghost use Rattle.wb_store.specs.Keeping.{LooksUpInStore};
 
 use crate::conditions::is_second;
 use crate::evidence::{Evidence, OfScale};

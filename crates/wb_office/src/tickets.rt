@@ -9,9 +9,9 @@ ghost use Rattle.wb_messages.specs.Content.{content_or_refusal};
 ghost use Rattle.wb_office.specs.Serves.{Serves, is_store_refusal};
 ghost use Rattle.wb_office.specs.Wanted.{IsWanted};
 ghost use Rattle.wb_messages.specs.declared.request.Request.TheVariants as request;
-ghost use Rattle.wb_office.specs.helpers.LookUps.{LooksUpInStore};
 ghost use Rattle.wb_office.specs.helpers.Partners.{IsPairOf, IsPaired};
 ghost use Rattle.wb_scale.specs.State.{State};
+ghost use Rattle.wb_store.specs.Keeping.{LooksUpInStore};
 
 use crate::judging::is_damaged;
 use crate::weighing::told_again;

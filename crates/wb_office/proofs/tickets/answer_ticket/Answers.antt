@@ -9,7 +9,7 @@ pub returns : goal.returns
 returns g c = λ scale at.
     let l = c.in_ok-found.ensures in
     read_serves g.D.Store at (IsWanted (request.Ticket c.args.number)) scale c.ticket.result (reads g.D.Store l.keeps l.closes) c.ticket.ensures.plain (λ w n s h.
-    let pair = l.tells w.entries w.spent s h in
+    let pair = l.found w.entries w.spent s h in
     record {
       want = wanted (request.Ticket c.args.number) w 0;
       is = record { bound = 0; is_bound = tt; is = refl };
