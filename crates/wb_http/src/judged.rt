@@ -77,6 +77,13 @@ impl Judged {
         self.result
     }
 
+    /// Returns what it was judged as.
+    pub fn result(&self) -> &Result<Request, HttpFault>
+        ensures { WasJudged self.now result.now }
+    {
+        &self.result
+    }
+
     /// The request's bytes.
     pub fn bytes(&self) -> &[u8]
         ensures { result.now ≡ self.now }

@@ -50,7 +50,7 @@ fn date_of(seconds: u64) -> [u8; 29]
 }
 
 /// The status of an answer: created for a weighing or void, else fine.
-fn answer_status(request: &Request) -> StatusCode
+pub(crate) fn answer_status(request: &Request) -> StatusCode
     ensures value { result ≡ status_of_answer request.now }
     ensures phrase { length (phrase_of_status result) ≤ 32 }
 {
@@ -66,7 +66,7 @@ fn answer_status(request: &Request) -> StatusCode
     }
 }
 
-fn refusal_status(refusal: Refusal) -> StatusCode
+pub(crate) fn refusal_status(refusal: Refusal) -> StatusCode
     ensures value { result ≡ status_of_refusal refusal }
     ensures phrase { length (phrase_of_status result) ≤ 32 }
 {

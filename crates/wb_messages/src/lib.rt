@@ -5,10 +5,12 @@
 
 mod answer;
 mod event;
+mod notice;
 mod refusal;
 mod request;
 
 pub use answer::{Answer, CsvText};
 pub use event::Event;
+pub use notice::{EntryName, Notice};
 pub use refusal::Refusal;
 pub use request::Request;

@@ -8,6 +8,7 @@ pub mod Answer
 pub mod Wanted
 pub mod Serves
 pub mod WithoutStore
+pub mod NamedEntry
 -- Requests one after the other, stops among them, and the laws on them.
 pub mod CourseOfRequests
 pub mod Laws

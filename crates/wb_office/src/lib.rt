@@ -25,4 +25,4 @@ mod weighing;
 pub use journal_export::journal_text;
 pub use office::Office;
 pub use tickets_export::tickets_text;
-pub use wb_messages::{Answer, CsvText, Refusal, Request};
+pub use wb_messages::{Answer, CsvText, EntryName, Refusal, Request};

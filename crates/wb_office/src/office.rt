@@ -1,5 +1,6 @@
 //! The office.
-ghost use Rattle.std.specs.Prelude.{◌≡◌, Err, Ok, false, true};
+ghost use Rattle.std.specs.Prelude.{◌≡◌, Err, None, Ok, false, true};
+ghost use Rattle.wb_office.specs.NamedEntry.{Names, entry_answered};
 ghost use Rattle.wb_office.specs.Serves.{Serves};
 ghost use Rattle.wb_office.specs.Wanted.{IsWanted, asks_store};
 ghost use Rattle.wb_office.specs.WithoutStore.{Outright};
@@ -15,7 +16,7 @@ use sqlite::Alter;
 use std::alloc::Global;
 use std::marker::Model;
 use wb_journal::{Kind, Moment};
-use wb_messages::{Answer, Refusal, Request};
+use wb_messages::{Answer, EntryName, Refusal, Request};
 use wb_scale::Scale;
 use wb_store::Store;
 use wb_window::Window;
@@ -66,6 +67,29 @@ impl<D: Alter> Office<D> {
         ensures outright { asks_store request ≡ false → (self.new ≡ self.old)
             × (scale.new ≡ scale.old) × Outright scale.old request result }
     {
+        let mut name = None;
+        self.answer_naming(alloc, scale, at, request, &mut name)
+    }
+
+    /// Answers a request as `answer` does, and leaves in `name` the entry that a weighing or void stored, now or earlier under its key. It leaves
+    /// `None` at every other answer and at a refusal.
+    pub fn answer_naming<W: Window>(
+        &mut self,
+        alloc: Global,
+        scale: &mut Scale<W>,
+        at: Moment,
+        request: Request,
+        name: &mut Option<EntryName>,
+    ) -> Result<Answer, Refusal>
+        ensures serves { asks_store request ≡ true
+            → Serves D.Store self.old self.new scale.old scale.new at result (IsWanted request) }
+        ensures outright { asks_store request ≡ false → (self.new ≡ self.old)
+            × (scale.new ≡ scale.old) × Outright scale.old request result }
+        ensures names { Names D.Store self.old self.new scale.old at result name.new
+            (λ w. entry_answered w request) }
+        ensures nameless { asks_store request ≡ false → name.new ≡ None }
+    {
+        *name = None;
         match request {
             Request::Weigh { key, kind, plate } => {
                 let asked = WeighingRequest {
@@ -74,7 +98,7 @@ impl<D: Alter> Office<D> {
                     kind,
                     plate,
                 };
-                answer_weighing(&mut self.store, scale, asked)
+                answer_weighing(&mut self.store, scale, asked, name)
             }
             Request::VoidOpen { key, plate } => {
                 let asked = WeighingRequest {
@@ -83,7 +107,7 @@ impl<D: Alter> Office<D> {
                     kind: Kind::Void,
                     plate,
                 };
-                answer_weighing(&mut self.store, scale, asked)
+                answer_weighing(&mut self.store, scale, asked, name)
             }
             Request::Ticket(0) => Err(Refusal::NoTicket),
             Request::Ticket(number) => answer_ticket(&mut self.store, number),

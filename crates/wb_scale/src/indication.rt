@@ -7,6 +7,7 @@ ghost use Rattle.wb_scale.specs.Indication.{IsIndicationInRange, indicated, indi
 ghost use Rattle.wb_scale.specs.Moment.{readings};
 ghost use Rattle.wb_scale.specs.Stands.{ScaleStands};
 ghost use Rattle.wb_scale.specs.Tare.{IsTare, tare_now};
+ghost use Rattle.wb_scale.specs.Zero.{zero_now};
 ghost use Rattle.wb_scale.specs.helpers.Load.{IsAbove};
 ghost use Rattle.wb_window.specs.Stability.{is_stable};
 
@@ -34,6 +35,14 @@ impl<W: Window> Scale<W> {
             (readings (moments self.now.setup h)) }
     {
         self.window.stable()
+    }
+
+    /// Returns the zero in tenths of e from the calibration zero, within 2 % of Max on either side.
+    pub fn zero_tenths(&self) -> i32
+        ensures value { (h : List Call) → ScaleStands self.now h
+            → result ≡ zero_now (moments self.now.setup h) }
+    {
+        self.zero
     }
 
     /// The tare in force.

@@ -14,7 +14,7 @@ use std::test::Fail;
 use wb_fixtures::ROAD;
 use wb_instrument::{Instrument, Parts};
 use wb_journal::{Key, Kind, Moment, Plate};
-use wb_office::{Answer, Office, Request};
+use wb_office::{Answer, EntryName, Office, Request};
 use wb_scale::Scale;
 use wb_store::Store;
 use wb_window::{Reading, RingWindow};
@@ -179,10 +179,33 @@ fn is_answered<D: Alter>(
     wanted: &str,
 ) -> Result<bool, Fail> {
     let at = Moment::new(at).ok_or("moment")?;
-    Ok(match office.answer(alloc, scale, at, request) {
-        Ok(answer) => is_wanted(&answer, wanted),
-        Err(refusal) => refusal.name() == wanted,
+    let mut name = None;
+    let is_weighing = matches!(request, Request::Weigh { .. } | Request::VoidOpen { .. });
+    let result = office.answer_naming(alloc, scale, at, request, &mut name);
+    Ok(match result {
+        Ok(answer) => is_wanted(&answer, wanted) && is_named(&answer, name.as_ref(), is_weighing),
+        Err(refusal) => refusal.name() == wanted && name.is_none(),
     })
+}
+
+/// Returns true if a weighing or void is answered with the name of its entry, and every other request without a name.
+fn is_named(answer: &Answer, name: Option<&EntryName>, is_weighing: bool) -> bool {
+    match (answer, name) {
+        (Answer::Slip(text) | Answer::Ticket(text), Some(name)) => {
+            is_weighing && is_of(text.as_str(), name).unwrap_or(false)
+        }
+        (_, Some(_)) => false,
+        (_, None) => !is_weighing,
+    }
+}
+
+/// Returns true if the name has the number of a slip or ticket and its last digest, which is its own.
+fn is_of(text: &str, name: &EntryName) -> Option<bool> {
+    let (title, _) = text.split_once("\n")?;
+    let (_, number) = title.rsplit_once(" ")?;
+    let (_, end) = text.rsplit_once("DIGEST ")?;
+    let (digest, _) = end.split_once("\n")?;
+    Some(number.parse::<u32>().ok()? == name.number && digest == name.digest.as_str())
 }
 
 fn is_wanted(answer: &Answer, wanted: &str) -> bool {

@@ -3,19 +3,19 @@ use Rattle.wb_office.proofs.Common.{text_of_indication}
 use Rattle.wb_journal.specs.declared.kind.Kind.TheVariants as kind
 use Rattle.wb_messages.specs.declared.request.Request.TheVariants as request
 use Rattle.wb_office.proofs.Serving.{serves_weighing}
-use Rattle.wb_office.proofs.office.Office.answer.Goals as goal
+use Rattle.wb_office.proofs.office.Office.answer_naming.Goals as goal
 
 pub returns-in-Weigh-clause-serves : goal.returns-in-Weigh-clause-serves
 returns-in-Weigh-clause-serves g c = λ asks.
     rw (sym c.self.view_is, c.in-Weigh.is)
     (serves_weighing g.D.Store (record { at = c.args.at; key = c.in-Weigh.key; kind = c.in-Weigh.kind; plate = c.in-Weigh.plate }) (request.Weigh c.in-Weigh.key c.in-Weigh.kind c.in-Weigh.plate)
-    (λ w b. refl) (λ w. tt) c.answer_weighing.ensures)
+    (λ w b. refl) (λ w. tt) c.answer_weighing.ensures.serves)
 
 pub returns-in-VoidOpen-clause-serves : goal.returns-in-VoidOpen-clause-serves
 returns-in-VoidOpen-clause-serves g c = λ asks.
     rw (sym c.self.view_is, c.in-VoidOpen.is)
     (serves_weighing g.D.Store (record { at = c.args.at; key = c.in-VoidOpen.key; kind = kind.Void; plate = c.in-VoidOpen.plate }) (request.VoidOpen c.in-VoidOpen.key c.in-VoidOpen.plate)
-    (λ w b. refl) (λ w. tt) c.answer_weighing-in-VoidOpen.ensures)
+    (λ w b. refl) (λ w. tt) c.answer_weighing-in-VoidOpen.ensures.serves)
 
 pub returns-in-Ticket-clause-serves : goal.returns-in-Ticket-clause-serves
 returns-in-Ticket-clause-serves g c = λ asks. rw (sym c.self.view_is, c.in-Ticket.is) (c.answer_ticket.ensures c.args.scale.now c.args.at)
