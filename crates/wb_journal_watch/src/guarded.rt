@@ -5,11 +5,10 @@ use crate::pace::Pace;
 use crate::zero_note::ZeroNote;
 use std::os::unix::fs::MetadataExt;
 use std::{fs, io};
-use wb_file::witness::{Witness, entry_of, is_stored};
+use wb_file::witness::{Newest, Witness};
 use wb_input::{Converter, REQUEST_ROOM, TERMINAL_ROOM, Taken};
 use wb_journal::Moment;
-use wb_station::{Exchange, Sources};
-use wb_store::StoreFault;
+use wb_station::{EntryName, Exchange, Notice, Sources};
 
 /// A file that is open, by its path, its device and its number there. No other file has these two while it is open.
 #[derive(Drop)]
@@ -77,6 +76,8 @@ pub struct Guarded<'a, S: Sources + Drop> {
     /// The sources that are guarded.
     pub sources: S,
     is_lost: bool,
+    /// Whether the next response reports an entry that must not be answered.
+    is_withheld: bool,
 }
 
 impl<'a, S: Sources + Drop> Guarded<'a, S> {
@@ -98,6 +99,7 @@ impl<'a, S: Sources + Drop> Guarded<'a, S> {
                 pace: Pace::new(rt, stated),
                 sources,
                 is_lost: false,
+                is_withheld: false,
             }),
             (Err(_), _) | (_, Err(_)) => None,
         }
@@ -125,15 +127,17 @@ impl<'a, S: Sources + Drop> Guarded<'a, S> {
         false
     }
 
-    /// Whether a response that tells of a stored entry may leave: its journal is where it was, and its witness has it.
-    fn may_answer(&mut self, response: &[u8]) -> bool {
+    /// Returns true if the response that reports this entry may leave: its journal is where it was, and its witness has the entry.
+    fn may_answer(&mut self, entry: &EntryName) -> bool {
         if !self.stands() {
             return false;
         }
-        if let Some(entry) = entry_of(response) {
-            if self.witness.note(&entry) {
-                return true;
-            }
+        let newest = Newest {
+            number: entry.number,
+            digest: entry.digest.copied(),
+        };
+        if self.witness.note(&newest) {
+            return true;
         }
         self.is_lost = true;
         let _ = eprintln!(self.rt;
@@ -152,7 +156,6 @@ impl<S: Sources + Drop> Sources for Guarded<'_, S> {
             return Converter::Fault;
         }
         let given = self.sources.converter();
-        self.zero.see(given);
         self.pace.see(given);
         given
     }
@@ -162,7 +165,6 @@ impl<S: Sources + Drop> Sources for Guarded<'_, S> {
     }
 
     fn reply(&mut self, bytes: &[u8]) {
-        self.zero.see_replies(bytes);
         self.sources.reply(bytes);
     }
 
@@ -180,14 +182,28 @@ impl<S: Sources + Drop> Sources for Guarded<'_, S> {
     }
 
     fn respond(&mut self, bytes: &[u8]) {
-        if is_stored(bytes) && !self.may_answer(bytes) {
+        if self.is_withheld {
             self.sources.respond(b"");
         } else {
             self.sources.respond(bytes);
         }
+        self.is_withheld = false;
     }
 
-    fn store_fault(&mut self, fault: StoreFault) {
-        self.sources.store_fault(fault);
+    fn notice(&mut self, notice: &Notice) {
+        match notice {
+            Notice::ZeroSet(tenths) => self.zero.note(*tenths),
+            Notice::Answered {
+                status: _,
+                entry: Some(entry),
+                fault: _,
+            } => self.is_withheld = !self.may_answer(entry),
+            Notice::Answered {
+                status: _,
+                entry: None,
+                fault: _,
+            } => self.is_withheld = false,
+        }
+        self.sources.notice(notice);
     }
 }

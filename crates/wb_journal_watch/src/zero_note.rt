@@ -2,8 +2,6 @@
 use std::fs::{File, OpenOptions};
 use std::os::unix::fs::{FileExt, OpenOptionsExt};
 use std::{fs, io, str};
-use wb_input::Converter;
-use wb_window::Reading;
 
 /// What the name of the file has behind that of the journal's.
 const ENDING: &str = "-zero";
@@ -17,7 +15,6 @@ pub(crate) struct ZeroNote<'a> {
     rt: &'a HostRuntime,
     /// None once it couldn't be made, read or written.
     file: Option<File>,
-    reading: Reading,
 }
 
 impl<'a> ZeroNote<'a> {
@@ -31,28 +28,11 @@ impl<'a> ZeroNote<'a> {
                 None
             }
         };
-        ZeroNote {
-            rt,
-            file,
-            reading: Reading::Lost,
-        }
+        ZeroNote { rt, file }
     }
 
-    /// Sees what the converter gave.
-    pub(crate) fn see(&mut self, given: Converter) {
-        if let Converter::Line(reading) = given {
-            self.reading = reading;
-        }
-    }
-
-    /// Sees the replies at an event. Where zero was set it is the load of the last reading, which is noted.
-    pub(crate) fn see_replies(&mut self, replies: &[u8]) {
-        let Reading::Load(tenths) = self.reading else {
-            return;
-        };
-        if !tells_zero(replies) {
-            return;
-        }
+    /// Notes what zero was set to, in tenths of e.
+    pub(crate) fn note(&mut self, tenths: i32) {
         if let Some(file) = &self.file {
             if let Err(error) = note(self.rt, file, tenths) {
                 tell_fault(self.rt, &error);
@@ -66,13 +46,6 @@ fn tell_fault(rt: &HostRuntime, error: &io::Error) {
     let _ = eprintln!(rt;
         "the note of the zero, beside the journal: {error}; the next start won't tell that it forgot the zero"
     );
-}
-
-/// Whether one of the replies is that zero was set.
-fn tells_zero(replies: &[u8]) -> bool {
-    replies
-        .split(|byte| *byte == b'\n')
-        .any(|reply| reply == b"Z A\r".as_slice())
 }
 
 /// Opens the note, tells what it says, and notes that the zero is the calibration's.

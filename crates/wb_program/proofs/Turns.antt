@@ -1,5 +1,5 @@
 -- Events handled, one after the other, and turns of them.
-use Rattle.std.proofs.Common.{◌≡◌, ℕ, ◌+◌, ◌<◌, Bool, false, List, [], ◌∷◌, ◌++◌, length, map, Option, Some, inl, inr, refl, sym, ap, subst, ◌∙◌, arith}
+use Rattle.std.proofs.Common.{◌≡◌, ℕ, ◌+◌, ◌<◌, Bool, false, List, [], ◌∷◌, ◌++◌, length, map, Option, Some, inl, inr, refl, sym, ap, subst, ◌∙◌, append_assoc, arith}
 use Rattle.std.specs.Prelude.{⊤, Ok, Err}
 use Rattle.std.specs.declared.result.Result.{Result}
 use Rattle.std.proofs.lemmas.List.{append-nil, map-append}
@@ -10,10 +10,13 @@ use Rattle.wb_program.specs.declared.serving.Stop.TheVariants as stop
 use Rattle.wb_input.specs.declared.sources.Converter.TheVariants.{Line}
 use Rattle.wb_program.specs.Served.{EndsAfter, Handled, Served}
 use Rattle.wb_program.specs.helpers.TurnParts.{ExchangeEnds, ExchangeServed, StretchServed, end_of, TurnEnds, TurnServed}
-use Rattle.wb_station.specs.SourceAnswers.{Answer, SourceTells, Told, asked, bytes_asked, converted, exchanged, timed, took}
+use Rattle.wb_station.specs.SourceAnswers.{Answer, Handed, SourceTells, Told, asked, bytes_asked, converted, exchanged, timed, took}
 use Rattle.wb_station.specs.declared.sources.Exchange.{Exchange}
 use Rattle.wb_program.specs.Turns.{Begun, Turn, all_handed_on, answers_begun, answers_of, answers_of_request, handed_on, happenings_of_request, happenings_begun, happenings_of, stretch}
-use Rattle.wb_program.proofs.SourceAnswers.{all_handed_on_append, tells_append, tells_none}
+use Rattle.wb_messages.specs.declared.notice.Notice.{Notice}
+use Rattle.wb_program.proofs.SourceAnswers.{all_handed_on_append, only_output, tells_append, tells_none, without_notices_append}
+use Rattle.wb_program.specs.HandedOn.{HandsOn, RanHandingOn, without_notices}
+use Rattle.wb_station.specs.Notices.{IsNoticed}
 use Rattle.wb_sics.specs.Stands.{TerminalState}
 use Rattle.wb_station.proofs.offered.Runs.{ran_append, ran_more, ran_none, unmarked_happening}
 use Rattle.wb_station.specs.Account.{Out}
@@ -24,35 +27,74 @@ use Rattle.wb_store.specs.Journal.{StoreView}
 use Rattle.wb_window.specs.declared.reading.Reading.{Reading}
 
 module _ {D : Type 0} (g : Ghosts D) where
+  -- ---- happenings one after the other
+
+  handing_append : (ps qs : List Happening) (outs more : List Out) (hs ks : List Handed) (t : TerminalState) (j : StoreView D) (t' : TerminalState) (j' : StoreView D) (t'' : TerminalState) (j'' : StoreView D)
+      → RanHandingOn g ps t j t' j' outs hs → RanHandingOn g qs t' j' t'' j'' more ks → RanHandingOn g (qs ++ ps) t j t'' j'' (more ++ outs) (ks ++ hs)
+  handing_append ps [] outs more hs ks t j t' j' t'' j'' first next =
+      subst (λ x. RanHandingOn g ps t j x j'' (more ++ outs) (ks ++ hs)) (sym next.0)
+      (subst (λ x. RanHandingOn g ps t j t' x (more ++ outs) (ks ++ hs)) (sym next.1)
+      (subst (λ l. RanHandingOn g ps t j t' j' (l ++ outs) (ks ++ hs)) (sym next.2)
+      (subst (λ l. RanHandingOn g ps t j t' j' outs (l ++ hs)) (sym next.3) first)))
+  handing_append ps (q ∷ qs) outs [] hs ks t j t' j' t'' j'' first next = absurd next
+  handing_append ps (q ∷ qs) outs (out ∷ more) hs ks t j t' j' t'' j'' first next = (
+    next.0,
+    next.1,
+    next.2 ++ hs,
+    next.3,
+    next.4,
+    handing_append ps qs outs more hs next.2 t j t' j' next.0 next.1 first next.5,
+    next.6,
+    next.7,
+    next.8,
+    ap (λ l. l ++ hs) next.9 ∙ append_assoc next.3 next.2 hs,
+  )
+
   -- a call answered, and nothing happened
   pub handled_none : (t : TerminalState) (j : StoreView D) (a b : Option Told) (answers : List Answer) → SourceTells answers [] a b → Handled g t j t j a b answers []
-  handled_none t j a b answers told = record { happenings = []; outs = []; as_happened = refl; ran = ran_none g t j; told = told }
+  handled_none t j a b answers told = record {
+    happenings = [];
+    outs = [];
+    handed = [];
+    as_happened = refl;
+    ran = ran_none g t j;
+    handing = (refl, refl, refl, refl);
+    put_out = refl;
+    told = told;
+  }
 
-  -- something happened, and what was put out was handed on
-  pub handled_one : (p : Happening) (out : Out) (t : TerminalState) (j : StoreView D) (t' : TerminalState) (j' : StoreView D) (a b : Option Told)
-      → Took g p out t j t' j' → SourceTells [] (handed_on out) a b → Handled g t j t' j' a b [] (unmarked p ∷ [])
-  handled_one p out t j t' j' a b taken told = record {
+  -- something happened, and its notice and what was put out were handed on
+  pub handled_one : (p : Happening) (out : Out) (notice : Option Notice) (t : TerminalState) (j : StoreView D) (t' : TerminalState) (j' : StoreView D) (a b : Option Told)
+      → Took g p out t j t' j' → IsNoticed g p out t j j' notice → HandsOn out notice a b → Handled g t j t' j' a b [] (unmarked p ∷ [])
+  handled_one p out notice t j t' j' a b taken noted (hs, is, told) = record {
     happenings = p ∷ [];
     outs = out ∷ [];
+    handed = hs;
     as_happened = refl;
     ran = ran_more g [] [] p out t j t j t' j' (ran_none g t j) taken;
-    told = subst (λ hs. SourceTells [] hs a b) (sym (append-nil (handed_on out))) told;
+    handing = (t, j, [], hs, notice, (refl, refl, refl, refl), taken, noted, is, sym (append-nil hs));
+    put_out = only_output out notice hs is ∙ sym (append-nil (handed_on out));
+    told = told;
   }
 
   -- an event was taken
-  pub handled_event : (e : Event) (unmade : Bool) (out : Out) (t : TerminalState) (j : StoreView D) (t' : TerminalState) (j' : StoreView D) (a b : Option Told)
-      → Took g (happening unmade e) out t j t' j' → SourceTells [] (handed_on out) a b → Handled g t j t' j' a b [] (happening false e ∷ [])
-  handled_event e unmade out t j t' j' a b taken told =
-      subst (λ p. Handled g t j t' j' a b [] (p ∷ [])) (unmarked_happening unmade e) (handled_one (happening unmade e) out t j t' j' a b taken told)
+  pub handled_event : (e : Event) (unmade : Bool) (out : Out) (notice : Option Notice) (t : TerminalState) (j : StoreView D) (t' : TerminalState) (j' : StoreView D) (a b : Option Told)
+      → Took g (happening unmade e) out t j t' j' → IsNoticed g (happening unmade e) out t j j' notice → HandsOn out notice a b → Handled g t j t' j' a b [] (happening false e ∷ [])
+  handled_event e unmade out notice t j t' j' a b taken noted told =
+      subst (λ p. Handled g t j t' j' a b [] (p ∷ [])) (unmarked_happening unmade e) (handled_one (happening unmade e) out notice t j t' j' a b taken noted told)
 
   pub handled_append : (xs bs : List Answer) (ps qs : List Happening) (t : TerminalState) (j : StoreView D) (t' : TerminalState) (j' : StoreView D) (t'' : TerminalState) (j'' : StoreView D) (a b c : Option Told)
       → Handled g t j t' j' a b xs ps → Handled g t' j' t'' j'' b c bs qs → Handled g t j t'' j'' a c (bs ++ xs) (qs ++ ps)
   handled_append xs bs ps qs t j t' j' t'' j'' a b c first next = record {
     happenings = next.happenings ++ first.happenings;
     outs = next.outs ++ first.outs;
+    handed = next.handed ++ first.handed;
     as_happened = map-append unmarked next.happenings first.happenings ∙ ap (λ l. l ++ map unmarked first.happenings) next.as_happened ∙ ap (λ l. qs ++ l) first.as_happened;
     ran = ran_append g first.happenings next.happenings first.outs next.outs t j t' j' t'' j'' first.ran next.ran;
-    told = subst (λ hs. SourceTells (bs ++ xs) hs a c) (sym (all_handed_on_append first.outs next.outs)) (tells_append xs bs (all_handed_on first.outs) (all_handed_on next.outs) a b c first.told next.told);
+    handing = handing_append first.happenings next.happenings first.outs next.outs first.handed next.handed t j t' j' t'' j'' first.handing next.handing;
+    put_out = without_notices_append first.handed next.handed ∙ ap (λ l. l ++ without_notices first.handed) next.put_out ∙ ap (λ l. all_handed_on next.outs ++ l) first.put_out
+        ∙ sym (all_handed_on_append first.outs next.outs);
+    told = tells_append xs bs first.handed next.handed a b c first.told next.told;
   }
 
   -- a call answered, and then something happened
@@ -61,9 +103,12 @@ module _ {D : Type 0} (g : Ghosts D) where
   handled_answer answers ps t j t' j' a b c told next = record {
     happenings = next.happenings;
     outs = next.outs;
+    handed = next.handed;
     as_happened = next.as_happened;
     ran = next.ran;
-    told = subst (λ hs. SourceTells answers hs a c) (append-nil (all_handed_on next.outs)) (tells_append answers [] [] (all_handed_on next.outs) a b c told next.told);
+    handing = next.handing;
+    put_out = next.put_out;
+    told = subst (λ hs. SourceTells answers hs a c) (append-nil next.handed) (tells_append answers [] [] next.handed a b c told next.told);
   }
 
   -- ---- an exchange

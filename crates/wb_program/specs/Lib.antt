@@ -3,6 +3,7 @@ pub mod PrintedOutputs
 pub mod Replayed
 -- The service: what comes in a turn, and how it ends.
 pub mod Turns
+pub mod HandedOn
 pub mod Served
 -- What a check, the exports and a migration print.
 pub mod CheckAndExports

@@ -1,7 +1,9 @@
 //! The service: turns of a station over its sources.
+ghost use Rattle.std.specs.Option.{option_copied};
 ghost use Rattle.std.specs.Prelude.{◌≡◌, ◌∷◌, [], false, map, reverse};
 ghost use Rattle.wb_program.specs.Served.{Handled, Served};
 ghost use Rattle.wb_program.specs.Statuses.{status_of_serve};
+ghost use Rattle.wb_program.specs.HandedOn.{HandsOn, MayNoticeIfAny};
 ghost use Rattle.wb_program.specs.Turns.{handed_on};
 ghost use Rattle.wb_program.specs.helpers.TurnParts.{ExchangeServed, StretchServed, end_of, TurnServed};
 ghost use Rattle.wb_messages.specs.Happening.{IsTaken, byte as byte_happening, happening, office as office_happening};
@@ -12,8 +14,7 @@ use sqlite::Alter;
 use thiserror::Error;
 use wb_input::{Converter, REQUEST_ROOM, TERMINAL_ROOM};
 use wb_journal::Moment;
-use wb_station::{Event, Incoming, Judged, Output, Sources, Station, reply_bytes};
-use wb_store::StoreFault;
+use wb_station::{Event, Incoming, Judged, Notice, Output, Sources, Station, Turned, reply_bytes};
 use wb_window::Window;
 
 /// How serving ended.
@@ -164,18 +165,8 @@ fn handle_judged<W: Window, D: Alter, S: Sources>(
         station.new.terminal station.new.office (S.told sources.old) (S.told sources.new)
         [] (office_happening moment request false ∷ []) }
 {
-    let output = station.answer(moment, request);
-    hand_on(output, sources);
-    tell_store_fault(station.store_fault(), sources);
-}
-
-/// Tells why the store refused a request, if it did.
-fn tell_store_fault<S: Sources>(fault: Option<StoreFault>, sources: &mut S)
-    ensures { SourceTells [] [] (S.told sources.old) (S.told sources.new) }
-{
-    if let Some(fault) = fault {
-        sources.store_fault(fault);
-    }
+    let turned = station.answer_noticing(moment, request);
+    hand_on(turned, sources);
 }
 
 /// Hands an event to the station, and hands on what it puts out.
@@ -189,12 +180,29 @@ fn handle<W: Window, D: Alter, S: Sources>(
         station.new.terminal station.new.office (S.told sources.old) (S.told sources.new)
         [] (happening false event.now ∷ []) }
 {
-    let output = station.turn(event);
-    hand_on(output, sources);
+    let turned = station.turn_noticing(event);
+    hand_on(turned, sources);
 }
 
-/// Hands on what a station put out; no replies are nothing to hand on.
-fn hand_on<S: Sources>(output: Output<'_>, sources: &mut S)
+/// Passes on what a station notices and outputs at an event, the notice first.
+fn hand_on<S: Sources>(turned: Turned<'_>, sources: &mut S)
+    ensures { HandsOn (out_shown turned.entry.output) (option_copied turned.entry.notice)
+        (S.told sources.old) (S.told sources.new) }
+{
+    hand_on_notice(turned.notice, sources);
+    hand_on_output(turned.output, sources);
+}
+
+fn hand_on_notice<S: Sources>(notice: Option<&Notice>, sources: &mut S)
+    ensures { MayNoticeIfAny (option_copied notice.entry) (S.told sources.old) (S.told sources.new) }
+{
+    if let Some(notice) = notice {
+        sources.notice(notice);
+    }
+}
+
+/// Passes on what a station outputs; no replies are nothing to pass on.
+fn hand_on_output<S: Sources>(output: Output<'_>, sources: &mut S)
     ensures { SourceTells [] (handed_on (out_shown output.entry)) (S.told sources.old) (S.told sources.new) }
 {
     match output {

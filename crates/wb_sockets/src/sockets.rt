@@ -16,7 +16,7 @@ use wb_connections::{
 };
 use wb_input::{Converter, REQUEST_ROOM, TERMINAL_ROOM, Taken};
 use wb_journal::Moment;
-use wb_station::{Exchange, Incoming, Judged, Sources};
+use wb_station::{Exchange, Incoming, Judged, Notice, Sources};
 use wb_store::StoreFault;
 use wb_window::Reading;
 
@@ -63,6 +63,10 @@ where
     asked: Option<Instant>,
     /// What that request asks, if what happens is told.
     request: RequestText,
+    /// The status of its response.
+    status: u16,
+    /// Why the store refused it, if it did.
+    fault: Option<StoreFault>,
 }
 
 impl<'a, R: Clock + Eprint + AllocGlobal, L: OpenListener + Drop> Sockets<'a, R, L>
@@ -97,6 +101,8 @@ where
                 now,
                 asked: None,
                 request: RequestText::new(),
+                status: 0,
+                fault: None,
             }),
             Err(error) => Err(StartFault::from(error)),
         }
@@ -167,7 +173,7 @@ where
         let request = self.clients.office.take(now)?;
         self.asked = Some(now);
         if self.report.is_on() {
-            self.request = asked(request.bytes());
+            self.request = asked(&request);
         }
         Some(request)
     }
@@ -180,7 +186,11 @@ where
 
     /// Tells what was asked and answered, to whom, and how long that took.
     fn tell_exchange(&self, peer: SocketAddr, response: &[u8], took: Duration) {
-        let (asked, answered, millis) = (&self.request, Answered(response), took.as_millis());
+        let answered = Answered {
+            status: self.status,
+            response,
+        };
+        let (asked, millis) = (&self.request, took.as_millis());
         self.report.line(format_args!("office {peer}: {asked}: {answered} in {millis} ms"));
     }
 
@@ -247,11 +257,22 @@ where
         if let Some(peer) = peer {
             self.tell_exchange(peer, bytes, took);
         }
+        if let Some(fault) = self.fault.take() {
+            self.report
+                .line(format_args!("journal: fault of the store {fault}"));
+        }
     }
 
-    fn store_fault(&mut self, fault: StoreFault) {
-        self.report
-            .line(format_args!("journal: fault of the store {fault}"));
+    fn notice(&mut self, notice: &Notice) {
+        if let Notice::Answered {
+            status,
+            entry: _,
+            fault,
+        } = notice
+        {
+            self.status = *status;
+            self.fault = *fault;
+        }
     }
 }
 

@@ -2,6 +2,8 @@
 use arrayvec::ArrayString;
 use std::fmt;
 use std::fmt::{Display, Write};
+use wb_messages::Request;
+use wb_station::Judged;
 
 /// The most bytes that are told of one part.
 const MOST: usize = 64;
@@ -26,9 +28,9 @@ impl Display for Shown<'_> {
     }
 }
 
-/// A request's method and target, and the key of its form, if it has one.
-pub(crate) fn asked(request: &[u8]) -> RequestText {
-    let (head, form) = parts_of(request);
+/// Returns the first line of a request as it came, and the key of a weighing or void. Only the key of a request with a fault of HTTP is read from its form.
+pub(crate) fn asked(request: &Judged) -> RequestText {
+    let (head, form) = parts_of(request.bytes());
     let line = first_line(head);
     let mut told = RequestText::new();
     let _ = write!(
@@ -36,25 +38,33 @@ pub(crate) fn asked(request: &[u8]) -> RequestText {
         "{}",
         Shown(line.strip_suffix(b" HTTP/1.1").unwrap_or(line))
     );
-    if let Some(key) = key_of(form) {
+    let key = match request.result() {
+        Ok(Request::Weigh { key, .. }) | Ok(Request::VoidOpen { key, .. }) => {
+            Some(key.as_str().as_bytes())
+        }
+        Ok(_) => None,
+        Err(_) => key_of(form),
+    };
+    if let Some(key) = key {
         let _ = write!(told, " key {}", Shown(key));
     }
     told
 }
 
-/// A response's status, and the first line of its body, unless that is a table.
+/// A response's status, and the first line of its body, unless that is a table. A response that was withheld is `nothing`.
 #[derive(Clone, Copy)]
-pub(crate) struct Answered<'a>(pub(crate) &'a [u8]);
+pub(crate) struct Answered<'a> {
+    pub(crate) status: u16,
+    pub(crate) response: &'a [u8],
+}
 
 impl Display for Answered<'_> {
     fn fmt<W: fmt::Write>(&self, f: &mut fmt::Formatter<W>) -> fmt::Result {
-        let (head, body) = parts_of(self.0);
-        let status = first_line(head).strip_prefix(b"HTTP/1.1 ");
-        write!(
-            f,
-            "{}",
-            Shown(status.and_then(|rest| rest.get(..3)).unwrap_or(b""))
-        )?;
+        if self.response.is_empty() {
+            return f.write_str("nothing");
+        }
+        let (_, body) = parts_of(self.response);
+        write!(f, "{}", self.status)?;
         let line = first_line(body);
         if line.is_empty() || line.contains(&b',') {
             return Ok(());

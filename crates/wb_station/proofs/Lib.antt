@@ -2,6 +2,7 @@ mod Accounts
 mod BytesOfReplies
 mod Courses
 mod HeardEvents
+mod Notices
 mod OfficeRequests
 mod OneHistory
 mod RunsSoFar

@@ -146,7 +146,7 @@ module _ {D : Type 0} (g : Ghosts D) (at : ℕ) (bytes : List ℕ) (request : Re
   abbrev pub t' : TerminalState
   t' = record t { scale = scale' }
 
-  now : (a : Account) → TerminalStands t a.terminal → IsNow t.scale at (situation_at t.scale.setup at a)
+  pub now : (a : Account) → TerminalStands t a.terminal → IsNow t.scale at (situation_at t.scale.setup at a)
   now a st = record { setup = refl; calls = calls t.scale.setup a.terminal; stands = st.now.scale; history = refl; moment = refl }
 
   of_setup : (marks : Bool) → Marks t.scale scale' marks → scale'.setup ≡ t.scale.setup
@@ -162,7 +162,7 @@ module _ {D : Type 0} (g : Ghosts D) (at : ℕ) (bytes : List ℕ) (request : Re
   still_hears false same unmade h ears =
       record { events = ears.events; stands = subst (λ sc. TerminalStands (record t { scale = sc }) ears.events) (sym same) ears.stands; of_history = ears.of_history }
 
-  is_open : is_store_refusal result ≡ false → j.is_closed ≡ false
+  pub is_open : is_store_refusal result ≡ false → j.is_closed ≡ false
   is_open plain = go j.is_closed refl
     where
       go : (c : Bool) → j.is_closed ≡ c → j.is_closed ≡ false
@@ -404,7 +404,7 @@ answers_outright at bytes request judged t result is out response h ears = recor
 -- ---- what became of a request
 
 -- a refusal of the store is told as want of memory is
-refusal_told : (request : Request) (r : Result Answer Refusal) → is_store_refusal r ≡ true → response_to_result request (content_or_refusal r) ≡ response_to_fault Memory
+pub refusal_told : (request : Request) (r : Result Answer Refusal) → is_store_refusal r ≡ true → response_to_result request (content_or_refusal r) ≡ response_to_fault Memory
 refusal_told request (Ok answer) is = absurd (cc is)
 refusal_told request (Err (Store fault)) is = refl
 refusal_told request (Err KeyReused) is = absurd (cc is)

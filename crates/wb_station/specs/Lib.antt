@@ -2,6 +2,7 @@
 pub mod Account
 pub mod Unmade
 pub mod Stands
+pub mod Notices
 pub mod RunOfEvents
 pub mod Laws
 pub mod CourseOfHistory

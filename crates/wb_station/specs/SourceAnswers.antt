@@ -1,6 +1,7 @@
 -- What sources of events answer, and what they are handed.
 use Rattle.std.specs.Prelude.{◌≡◌, ◌≤◌, ◌⊎◌, ℕ, Bool, List, [], ◌∷◌, ◌++◌, take, Option, Some, None, option_map}
 use Rattle.wb_input.specs.declared.sources.Converter.{Converter}
+use Rattle.wb_messages.specs.declared.notice.Notice.{Notice}
 use Rattle.wb_station.specs.declared.sources.Incoming.{Incoming}
 use Rattle.wb_station.specs.declared.sources.Incoming.TheVariants.{Bytes, Judged}
 use Rattle.wb_station.specs.declared.sources.Exchange.{Exchange}
@@ -16,12 +17,13 @@ pub data Answer : Type 0 where
   -- of the clock: the moment, if it is one of the moments
   timed : Option ℕ → Answer
 
--- bytes that were handed in
+-- what the sources got: bytes, and what an event settled
 pub data Handed : Type 0 where
   to_terminal : List ℕ → Handed
   to_office : List ℕ → Handed
+  noticed : Notice → Handed
 
--- what the calls answered, and the bytes that were handed in, both the newest first
+-- what the calls answered, and what the sources got, both the newest first
 pub record Told : Type 0 where
   pub answers : List Answer
   pub handed : List Handed
@@ -32,6 +34,10 @@ tells_more answers handed told = record { answers = answers ++ told.answers; han
 -- it answered and was handed these too; or it doesn't tell, or kept a fault
 abbrev pub SourceTells : List Answer → List Handed → Option Told → Option Told → Type 0
 SourceTells answers handed old new = (new ≡ None) ⊎ (new ≡ option_map (tells_more answers handed) old)
+
+-- it got a notice, which it reports or drops
+abbrev pub MayNotice : Notice → Option Told → Option Told → Type 0
+MayNotice notice old new = SourceTells [] [] old new ⊎ SourceTells [] (noticed notice ∷ []) old new
 
 -- ---- a request with its moment
 

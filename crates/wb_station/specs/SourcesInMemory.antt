@@ -3,8 +3,8 @@ use Rattle.std.specs.Prelude.{Bool, true, false, List, map, reverse, Option, Som
 use Rattle.wb_station.specs.declared.list_sources.Answered.{Answered}
 use Rattle.wb_station.specs.declared.list_sources.Answered.TheVariants as kept
 use Rattle.wb_station.specs.declared.list_sources.HandedIn.{HandedIn}
-use Rattle.wb_station.specs.declared.list_sources.HandedIn.TheVariants.{Reply, Response}
-use Rattle.wb_station.specs.SourceAnswers.{Answer, Handed, Told, asked, converted, timed, to_office, to_terminal, took}
+use Rattle.wb_station.specs.declared.list_sources.HandedIn.TheVariants.{Noticed, Reply, Response}
+use Rattle.wb_station.specs.SourceAnswers.{Answer, Handed, Told, asked, converted, noticed, timed, to_office, to_terminal, took}
 
 abbrev pub answer_of : Answered → Answer
 answer_of (kept.Converter converter) = converted converter
@@ -16,6 +16,7 @@ answer_of (kept.Moment moment) = timed moment
 abbrev pub handed_of : HandedIn → Handed
 handed_of (Reply bytes) = to_terminal bytes.items
 handed_of (Response bytes) = to_office bytes.items
+handed_of (Noticed notice) = noticed notice
 
 -- what was kept, the newest first; nothing once a fault was kept
 abbrev pub told_of : Bool → List Answered → List HandedIn → Option Told

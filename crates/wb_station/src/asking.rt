@@ -1,10 +1,13 @@
-//! What follows once a request was judged: the office answers it, or its fault is reported, and the response is left in the room.
-//! Why the store refused it, if it did, is told beside it, since the response has only that it did.
-ghost use Rattle.std.specs.Prelude.{Bool, List, Ok, ℕ};
+//! What follows once a request was judged: the office answers it, or its fault is reported. The response is left in the room, and what it
+//! reports is returned as a notice.
+ghost use Rattle.std.specs.Prelude.{◌≡◌, Bool, List, None, Ok, Some, ℕ};
 ghost use Rattle.wb_station.specs.Account.{IsResponseOut, responded};
+ghost use Rattle.wb_http.specs.Faults.{fault_status};
 ghost use Rattle.wb_messages.specs.Happening.{office as office_happening};
 ghost use Rattle.wb_http.specs.HttpJudgement.{IsJudged};
 ghost use Rattle.wb_http.specs.Response.{response_to_fault};
+ghost use Rattle.wb_messages.specs.declared.notice.Notice.TheVariants.{Answered};
+ghost use Rattle.wb_station.specs.Notices.{IsAnswerNoticed};
 ghost use Rattle.wb_station.specs.Stands.{Took};
 ghost use Rattle.wb_http.specs.UnlessMemoryRefused.{WasJudged};
 
@@ -12,7 +15,7 @@ use sqlite::Alter;
 use std::alloc::Global;
 use wb_http::{HttpFault, Outcome, ResponseRoom, response_bytes};
 use wb_journal::Moment;
-use wb_messages::{Answer, Refusal, Request};
+use wb_messages::{Answer, Notice, Refusal, Request};
 use wb_office::Office;
 use wb_sics::Terminal;
 use wb_store::StoreFault;
@@ -26,17 +29,17 @@ pub(crate) fn ask<W: Window, D: Alter>(
     room: &mut ResponseRoom,
     moment: Moment,
     judged: Result<Request, HttpFault>,
-) -> Option<StoreFault>
-    ensures { (bytes : List ℕ) → WasJudged bytes judged → (unmade : Bool)
+) -> Notice
+    ensures took { (bytes : List ℕ) → WasJudged bytes judged → (unmade : Bool)
         × Took D.Store (office_happening moment bytes unmade)
         (responded room.new) terminal.old office.old terminal.new office.new }
+    ensures noticed { (bytes : List ℕ) → WasJudged bytes judged
+        → IsAnswerNoticed D.Store moment bytes (responded room.new)
+        terminal.old office.old office.new (Some result) }
 {
     match judged {
         Ok(request) => answer(alloc, terminal, office, room, moment, request),
-        Err(fault) => {
-            put_fault(room, moment, fault);
-            None
-        }
+        Err(fault) => put_fault(room, moment, fault),
     }
 }
 
@@ -49,26 +52,33 @@ fn answer<W: Window, D: Alter>(
     room: &mut ResponseRoom,
     moment: Moment,
     request: Request,
-) -> Option<StoreFault>
-    ensures { (bytes : List ℕ) → IsJudged bytes (Ok request) → (unmade : Bool)
+) -> Notice
+    ensures took { (bytes : List ℕ) → IsJudged bytes (Ok request) → (unmade : Bool)
         × Took D.Store (office_happening moment bytes unmade)
         (responded room.new) terminal.old office.old terminal.new office.new }
+    ensures noticed { (bytes : List ℕ) → IsJudged bytes (Ok request)
+        → IsAnswerNoticed D.Store moment bytes (responded room.new)
+        terminal.old office.old office.new (Some result) }
 {
     let asked = request.copied();
-    let result = office.answer(alloc, terminal.scale_mut(), moment, request);
-    let fault = fault_of(&result);
+    let mut name = None;
+    let result = office.answer_naming(alloc, terminal.scale_mut(), moment, request, &mut name);
     let outcome = Outcome::Office {
         request: &asked,
         result: &result,
     };
+    let status = outcome.status().as_u16();
     if response_bytes(moment, outcome, room).is_err() {
-        put_fault(room, moment, HttpFault::Memory);
-        return fault;
+        return put_fault(room, moment, HttpFault::Memory);
     }
-    fault
+    Notice::Answered {
+        status,
+        entry: name,
+        fault: fault_of(&result),
+    }
 }
 
-/// Why the store refused a request, if it did.
+/// Returns why the store refused a request, if it did. No clause fixes it, and a test does.
 fn fault_of(answered: &Result<Answer, Refusal>) -> Option<StoreFault> {
     match answered {
         Err(Refusal::Store(fault)) => Some(*fault),
@@ -76,10 +86,16 @@ fn fault_of(answered: &Result<Answer, Refusal>) -> Option<StoreFault> {
     }
 }
 
-/// Leaves the response to a fault in the room.
-fn put_fault(room: &mut ResponseRoom, moment: Moment, fault: HttpFault)
-    ensures { IsResponseOut moment (response_to_fault fault) (responded room.new) }
+/// Leaves the response to a fault in the room, and returns its notice.
+fn put_fault(room: &mut ResponseRoom, moment: Moment, fault: HttpFault) -> Notice
+    ensures response { IsResponseOut moment (response_to_fault fault) (responded room.new) }
+    ensures notice { result ≡ Answered (fault_status fault) None None }
 {
     // it fits into the room
     let _ = response_bytes(moment, Outcome::Fault(fault), room);
+    Notice::Answered {
+        status: fault.status().as_u16(),
+        entry: None,
+        fault: None,
+    }
 }

@@ -1,4 +1,5 @@
 //! What comes to a station's terminal, and what a station puts out.
+use wb_messages::Notice;
 use wb_sics::Replies;
 use wb_window::Reading;
 
@@ -19,6 +20,14 @@ pub enum Output<'a> {
     Response(&'a [u8]),
     /// Nothing: at a hang-up.
     Nothing,
+}
+
+/// A station's output at an event, and its notice for the program around it.
+#[derive(Clone, Copy, Drop)]
+pub struct Turned<'a> {
+    pub output: Output<'a>,
+    /// That zero was set, or what a request was answered. `None` at most events.
+    pub notice: Option<&'a Notice>,
 }
 
 /// In which room an output is.

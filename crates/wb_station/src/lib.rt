@@ -18,7 +18,7 @@ mod run;
 mod sources;
 mod station;
 
-pub use event::Output;
+pub use event::{Output, Turned};
 pub use list_sources::{Answered, HandedIn, ListSources, ListTurn};
 pub use output_list::{OutputList, Placed};
 pub use outputs::{Outputs, Refused};
@@ -28,4 +28,4 @@ pub use station::{OpenRefused, Station};
 pub use wb_http::{
     HttpFault, Judged, Method, Outcome, ResponseRoom, Routes, request_of, response_bytes,
 };
-pub use wb_messages::Event;
+pub use wb_messages::{EntryName, Event, Notice};

@@ -8,6 +8,7 @@ use crate::sources::Sources;
 use std::alloc::Global;
 use wb_input::{Converter, REQUEST_ROOM, TERMINAL_ROOM, Taken};
 use wb_journal::Moment;
+use wb_messages::Notice;
 use wb_window::Reading;
 
 /// What comes in a turn.
@@ -34,11 +35,12 @@ pub enum Answered {
     Moment(Option<Moment>),
 }
 
-/// Bytes that were handed in.
+/// Bytes for the terminal or the office, or a notice, as the sources got them.
 #[derive(Debug, Drop)]
 pub enum HandedIn {
     Reply(Vec<u8>),
     Response(Vec<u8>),
+    Noticed(Notice),
 }
 
 /// Sources that hand out a list of turns, and keep what they answered and what they were handed, the oldest first. After the last
@@ -199,6 +201,10 @@ impl Sources for ListSources {
             Ok(copy) => self.keep_handed(HandedIn::Response(copy)),
             Err(_) => self.has_fault = true,
         }
+    }
+
+    fn notice(&mut self, notice: &Notice) {
+        self.keep_handed(HandedIn::Noticed(notice.copied()));
     }
 }
 

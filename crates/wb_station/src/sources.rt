@@ -1,12 +1,12 @@
 //! Where a service's events come from, and where what is put out goes.
 ghost use Rattle.std.specs.Prelude.{[], ◌∷◌, ◌≤◌, IfSome, Option, option_map, take};
 ghost use Rattle.wb_input.specs.Converted.{IsConverted};
-ghost use Rattle.wb_station.specs.SourceAnswers.{IsInRoom, Told, SourceTells, asked, converted, exchanged, timed, to_office, to_terminal, took};
+ghost use Rattle.wb_station.specs.SourceAnswers.{IsInRoom, MayNotice, Told, SourceTells, asked, converted, exchanged, timed, to_office, to_terminal, took};
 
 use wb_http::Judged;
 use wb_input::{Converter, REQUEST_ROOM, TERMINAL_ROOM, Taken};
 use wb_journal::Moment;
-use wb_store::StoreFault;
+use wb_messages::Notice;
 
 /// A request to the office as sources hand it out.
 #[derive(Drop)]
@@ -24,8 +24,8 @@ pub struct Exchange {
     pub moment: Option<Moment>,
 }
 
-/// Sources of events, seen, where they tell them, as what their calls answered and what bytes they were handed. A source that
-/// kept a fault doesn't tell them any more.
+/// Sources of events. Sources that report it show what their calls answered, and what bytes and notices they got. Sources that
+/// kept a fault report nothing more.
 pub trait Sources {
     ghost told: { Self → Option Told };
 
@@ -71,8 +71,8 @@ pub trait Sources {
     fn respond(&mut self, bytes: &[u8])
         ensures told { SourceTells [] (to_office bytes.now ∷ []) (told self.old) (told self.new) };
 
-    /// Takes why the store refused the judged request that was responded to last. Sources that don't tell it drop it.
-    fn store_fault(&mut self, _fault: StoreFault)
-        ensures told { SourceTells [] [] (told self.old) (told self.new) }
+    /// Takes what an event settled, before the replies or the response at it. Sources that need no notice drop it.
+    fn notice(&mut self, _notice: &Notice)
+        ensures told { MayNotice _notice.now (told self.old) (told self.new) }
     {}
 }

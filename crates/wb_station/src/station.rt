@@ -1,10 +1,12 @@
 //! The station: a terminal and an office over one scale, and what it puts out at each event.
 ghost use Rattle.std.specs.Borrow.{sem};
+ghost use Rattle.std.specs.Option.{option_copied};
 ghost use Rattle.std.specs.Prelude.{◌≡◌, [], Bool, IfErr, IfOk, List, ℕ};
 ghost use Rattle.wb_journal.specs.declared.entry.EntryParts.{EntryParts};
 ghost use Rattle.wb_station.specs.Account.{opened, replied};
 ghost use Rattle.wb_station.specs.AfterBorrow.{HoldsAfterBorrow};
 ghost use Rattle.wb_messages.specs.Happening.{IsTaken, happening, office as office_happening, reading as reading_happening};
+ghost use Rattle.wb_station.specs.Notices.{IsNoticed};
 ghost use Rattle.wb_station.specs.OutputShows.{out_shown};
 ghost use Rattle.wb_station.specs.Stands.{Hears, StationStands, Took};
 ghost use Rattle.wb_http.specs.UnlessMemoryRefused.{WasJudged};
@@ -14,18 +16,18 @@ ghost use Rattle.wb_tables.specs.Rows.{SpentKey};
 ghost use Rattle.wb_window.specs.Reading.{IsReading};
 
 use crate::asking::ask;
-use crate::event::{AtTerminal, Output, Room};
+use crate::event::{AtTerminal, Output, Room, Turned};
 use crate::hearing::hear;
 use sqlite::Alter;
 use std::alloc::Global;
 use wb_http::{HttpFault, Judged, ResponseRoom, Routes, request_of};
 use wb_instrument::Instrument;
 use wb_journal::Moment;
-use wb_messages::{Event, Request};
+use wb_messages::{Event, Notice, Request};
 use wb_office::Office;
 use wb_scale::Scale;
 use wb_sics::{Replies, Terminal};
-use wb_store::{Store, StoreFault};
+use wb_store::Store;
 use wb_window::{Reading, Window};
 
 /// A weighbridge: readings, the terminal's bytes and the office's requests come to it one by one.
@@ -41,8 +43,8 @@ pub struct Station<W: Window, D: Alter> {
     pub(crate) office: Office<D>,
     pub(crate) replies: Replies,
     pub(crate) response: ResponseRoom,
-    /// Why the store refused the request that was answered last, if it did.
-    pub(crate) store_fault: Option<StoreFault>,
+    /// What is noticed of the last event.
+    pub(crate) notice: Option<Notice>,
 }
 
 /// A station that was not opened, for want of memory: its window and its store.
@@ -90,7 +92,7 @@ impl<W: Window, D: Alter> Station<W, D> {
             office: Office::new(store),
             replies: Replies::new(),
             response,
-            store_fault: None,
+            notice: None,
         })
     }
 
@@ -103,6 +105,20 @@ impl<W: Window, D: Alter> Station<W, D> {
     {
         let room = self.take(event);
         self.output(room)
+    }
+
+    /// Processes an event as `turn` does, and returns with its output what the program around the station is notified of: that zero was set, or
+    /// what a request was answered.
+    pub fn turn_noticing(&mut self, event: &Event<'_>) -> Turned<'_>
+        requires { IsTaken event.now }
+        ensures* leaves { sem 𝓛 (HoldsAfterBorrow (the_row W.row D.row W.Window D.Store) self.entry (λ new. (unmade : Bool)
+            × Took D.Store (happening unmade event.now) (out_shown result.output)
+            self.old.terminal self.old.office new.terminal new.office
+            × IsNoticed D.Store (happening unmade event.now) (out_shown result.output)
+            self.old.terminal self.old.office new.office (option_copied result.notice))) }
+    {
+        let room = self.take(event);
+        self.turned(room)
     }
 
     /// Takes a reading, and shows the replies at it, as `turn` does. It has no room for a request, which makes it fast.
@@ -126,11 +142,24 @@ impl<W: Window, D: Alter> Station<W, D> {
         self.output(room)
     }
 
-    /// Why the store refused the request that was answered last, if it did: the response says only that it did.
-    pub fn store_fault(&self) -> Option<StoreFault>
-        ensures { result ≡ self.now.store_fault }
+    /// Answers a request that was judged, as `turn_noticing` does at its bytes.
+    pub fn answer_noticing(&mut self, moment: Moment, request: Judged) -> Turned<'_>
+        ensures* leaves { sem 𝓛 (HoldsAfterBorrow (the_row W.row D.row W.Window D.Store) self.entry (λ new. (unmade : Bool)
+            × Took D.Store (office_happening moment request unmade) (out_shown result.output)
+            self.old.terminal self.old.office new.terminal new.office
+            × IsNoticed D.Store (office_happening moment request unmade) (out_shown result.output)
+            self.old.terminal self.old.office new.office (option_copied result.notice))) }
     {
-        self.store_fault
+        let judged = request.into_result();
+        let room = self.ask(moment, judged);
+        self.turned(room)
+    }
+
+    /// Returns what the last event settled: that zero was set, or what a request was answered. `None` after most events.
+    pub fn notice(&self) -> Option<&Notice>
+        ensures { option_copied result ≡ self.now.notice }
+    {
+        self.notice.as_ref()
     }
 
     /// Takes an event, and makes what it puts out in a room.
@@ -138,7 +167,10 @@ impl<W: Window, D: Alter> Station<W, D> {
         requires { IsTaken event.now }
         ensures { (unmade : Bool) × Took D.Store (happening unmade event.now)
             (shown_in result self.new.replies.items self.new.response)
-            self.old.terminal self.old.office self.new.terminal self.new.office }
+            self.old.terminal self.old.office self.new.terminal self.new.office
+            × IsNoticed D.Store (happening unmade event.now)
+            (shown_in result self.new.replies.items self.new.response)
+            self.old.terminal self.old.office self.new.office self.new.notice }
     {
         match event {
             Event::Reading(reading) => {
@@ -148,9 +180,15 @@ impl<W: Window, D: Alter> Station<W, D> {
             Event::Byte(byte) => hear(
                 &mut self.terminal,
                 &mut self.replies,
+                &mut self.notice,
                 AtTerminal::Byte(*byte),
             ),
-            Event::Hangup => hear(&mut self.terminal, &mut self.replies, AtTerminal::Hangup),
+            Event::Hangup => hear(
+                &mut self.terminal,
+                &mut self.replies,
+                &mut self.notice,
+                AtTerminal::Hangup,
+            ),
             Event::Office { moment, bytes } => {
                 let judged = request_of(self.alloc, &self.routes, bytes);
                 self.ask(*moment, judged)
@@ -163,9 +201,12 @@ impl<W: Window, D: Alter> Station<W, D> {
         ensures { (bytes : List ℕ) → WasJudged bytes judged → (unmade : Bool)
             × Took D.Store (office_happening moment bytes unmade)
             (shown_in result self.new.replies.items self.new.response)
-            self.old.terminal self.old.office self.new.terminal self.new.office }
+            self.old.terminal self.old.office self.new.terminal self.new.office
+            × IsNoticed D.Store (office_happening moment bytes unmade)
+            (shown_in result self.new.replies.items self.new.response)
+            self.old.terminal self.old.office self.new.office self.new.notice }
     {
-        self.store_fault = ask(
+        let notice = ask(
             self.alloc,
             &mut self.terminal,
             &mut self.office,
@@ -173,20 +214,36 @@ impl<W: Window, D: Alter> Station<W, D> {
             moment,
             judged,
         );
+        self.notice = Some(notice);
         Room::Response
     }
 
     /// Takes a reading, and leaves the replies at it in their room.
     fn take_reading(&mut self, reading: Reading)
         requires { IsReading reading }
-        ensures { Took D.Store (reading_happening reading) (replied self.new.replies.items)
+        ensures took { Took D.Store (reading_happening reading) (replied self.new.replies.items)
             self.old.terminal self.old.office self.new.terminal self.new.office }
+        ensures noticed { IsNoticed D.Store (reading_happening reading) (replied self.new.replies.items)
+            self.old.terminal self.old.office self.new.office self.new.notice }
     {
         hear(
             &mut self.terminal,
             &mut self.replies,
+            &mut self.notice,
             AtTerminal::Reading(reading),
         );
+    }
+
+    /// Returns what is in a room, with the notice.
+    fn turned(&self, room: Room) -> Turned<'_>
+        ensures output { out_shown result.output
+            ≡ shown_in room self.now.replies.items self.now.response }
+        ensures notice { option_copied result.notice ≡ self.now.notice }
+    {
+        Turned {
+            output: self.output(room),
+            notice: self.notice.as_ref(),
+        }
     }
 
     /// What is in a room.

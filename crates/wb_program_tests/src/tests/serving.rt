@@ -9,7 +9,7 @@ use wb_input::Converter;
 use wb_instrument::Instrument;
 use wb_journal::Moment;
 use wb_program::{ServeEnd, serve};
-use wb_station::{Answered, HandedIn, ListSources, ListTurn, Station};
+use wb_station::{Answered, HandedIn, ListSources, ListTurn, Notice, Station};
 use wb_store::Store;
 use wb_window::{DequeWindow, Reading};
 
@@ -44,6 +44,11 @@ const ASKED: Turn = Turn {
 
 const LOADED: Turn = Turn {
     load: Some(9_170),
+    ..CALM
+};
+
+const OFF_ZERO: Turn = Turn {
+    load: Some(7),
     ..CALM
 };
 
@@ -87,8 +92,29 @@ const SERVICES: &[Service] = &[
         turns: &[CALM, LOADED, LOADED, LOADED, WEIGHED_AND_ASKED, WEIGHED],
         limit: 1_000,
         end: ServeEnd::Turns(6),
-        handed: "reply: S S      18340 kg\r\nresponse: HTTP/1.1 201 Created\r\nDate: Mon, 10 Mar 2025 08:00:00 GMT\r\nContent-Type: text/plain; charset=utf-8\r\nContent-Length: 183\r\nConnection: close\r\n\r\nWEIGHING SLIP 1\nPLATE AB-12\nFIRST NO 1\nAT 2025-03-10 08:00:00\nG      18340 kg\nE 20 kg MAX 60000 kg SERIAL WB01\nDIGEST a982a0aaef75f8622de6a96ef3a1d8ddd9de4bd18d9cda420eeb00dfbfcfa68c\nresponse: HTTP/1.1 201 Created\r\nDate: Mon, 10 Mar 2025 08:00:00 GMT\r\nContent-Type: text/plain; charset=utf-8\r\nContent-Length: 183\r\nConnection: close\r\n\r\nWEIGHING SLIP 1\nPLATE AB-12\nFIRST NO 1\nAT 2025-03-10 08:00:00\nG      18340 kg\nE 20 kg MAX 60000 kg SERIAL WB01\nDIGEST a982a0aaef75f8622de6a96ef3a1d8ddd9de4bd18d9cda420eeb00dfbfcfa68c\n",
+        handed: "reply: S S      18340 kg\r\nnotice: 201 1 a982a0aaef75f8622de6a96ef3a1d8ddd9de4bd18d9cda420eeb00dfbfcfa68c\nresponse: HTTP/1.1 201 Created\r\nDate: Mon, 10 Mar 2025 08:00:00 GMT\r\nContent-Type: text/plain; charset=utf-8\r\nContent-Length: 183\r\nConnection: close\r\n\r\nWEIGHING SLIP 1\nPLATE AB-12\nFIRST NO 1\nAT 2025-03-10 08:00:00\nG      18340 kg\nE 20 kg MAX 60000 kg SERIAL WB01\nDIGEST a982a0aaef75f8622de6a96ef3a1d8ddd9de4bd18d9cda420eeb00dfbfcfa68c\nnotice: 201 1 a982a0aaef75f8622de6a96ef3a1d8ddd9de4bd18d9cda420eeb00dfbfcfa68c\nresponse: HTTP/1.1 201 Created\r\nDate: Mon, 10 Mar 2025 08:00:00 GMT\r\nContent-Type: text/plain; charset=utf-8\r\nContent-Length: 183\r\nConnection: close\r\n\r\nWEIGHING SLIP 1\nPLATE AB-12\nFIRST NO 1\nAT 2025-03-10 08:00:00\nG      18340 kg\nE 20 kg MAX 60000 kg SERIAL WB01\nDIGEST a982a0aaef75f8622de6a96ef3a1d8ddd9de4bd18d9cda420eeb00dfbfcfa68c\n",
         answered: "0tnLtnLtnLtnLtomLtome",
+    },
+    Service {
+        shows: "a zero that was set, before its reply, and none that was refused",
+        turns: &[
+            OFF_ZERO,
+            OFF_ZERO,
+            OFF_ZERO,
+            Turn {
+                typed: "Z\nSI\n",
+                ..OFF_ZERO
+            },
+            Turn {
+                typed: "Z\n",
+                hung_up: true,
+                ..LOADED
+            },
+        ],
+        limit: 1_000,
+        end: ServeEnd::Turns(5),
+        handed: "notice: zero 7\nreply: Z A\r\nreply: S S          0 kg\r\n",
+        answered: "7tn7tn7tn7tnLhne",
     },
     Service {
         shows: "a hang-up after the bytes of its turn",
@@ -171,7 +197,7 @@ const SERVICES: &[Service] = &[
         }],
         limit: 1_000,
         end: ServeEnd::Turns(1),
-        handed: "response: HTTP/1.1 200 OK\r\nDate: Mon, 10 Mar 2025 08:00:00 GMT\r\nContent-Type: text/plain; charset=utf-8\r\nContent-Length: 8\r\nConnection: close\r\n\r\nNO LOAD\n",
+        handed: "notice: 200\nresponse: HTTP/1.1 200 OK\r\nDate: Mon, 10 Mar 2025 08:00:00 GMT\r\nContent-Type: text/plain; charset=utf-8\r\nContent-Length: 8\r\nConnection: close\r\n\r\nNO LOAD\n",
         answered: "xtome",
     },
     Service {
@@ -183,7 +209,7 @@ const SERVICES: &[Service] = &[
         }],
         limit: 1_000,
         end: ServeEnd::Turns(1),
-        handed: "response: HTTP/1.1 200 OK\r\nDate: Mon, 10 Mar 2025 08:00:00 GMT\r\nContent-Type: text/plain; charset=utf-8\r\nContent-Length: 39\r\nConnection: close\r\n\r\nMOVING G         20 kg N         20 kg\n",
+        handed: "notice: 200\nresponse: HTTP/1.1 200 OK\r\nDate: Mon, 10 Mar 2025 08:00:00 GMT\r\nContent-Type: text/plain; charset=utf-8\r\nContent-Length: 39\r\nConnection: close\r\n\r\nMOVING G         20 kg N         20 kg\n",
         answered: "7tome",
     },
 ];
@@ -343,15 +369,39 @@ fn list_turn(alloc: Global, turn: &Turn) -> Result<ListTurn, Fail> {
 /// What was handed in, one after the other, each with what it is.
 fn handed(alloc: Global, handed: &[HandedIn]) -> Result<String, Fail> {
     let mut text = String::new(alloc);
-    for bytes in handed {
-        let (kind, bytes) = match bytes {
-            HandedIn::Reply(bytes) => ("reply: ", bytes.as_slice()),
-            HandedIn::Response(bytes) => ("response: ", bytes.as_slice()),
-        };
-        text.push_str(kind)?;
-        text.push_str(std::str::from_utf8(bytes)?)?;
+    for it in handed {
+        match it {
+            HandedIn::Reply(bytes) => text.push_str(line(alloc, "reply: ", bytes)?.as_str())?,
+            HandedIn::Response(bytes) => text.push_str(line(alloc, "response: ", bytes)?.as_str())?,
+            HandedIn::Noticed(notice) => text.push_str(noticed(alloc, notice)?.as_str())?,
+        }
     }
     Ok(text)
+}
+
+fn line(alloc: Global, kind: &str, bytes: &Vec<u8>) -> Result<String, Fail> {
+    Ok(format!(in alloc; "{kind}{}", std::str::from_utf8(bytes.as_slice())?)?)
+}
+
+/// Returns a notice as a line: the zero, or the status with the number and the digest of the entry.
+fn noticed(alloc: Global, notice: &Notice) -> Result<String, Fail> {
+    Ok(match notice {
+        Notice::ZeroSet(tenths) => format!(in alloc; "notice: zero {tenths}\n")?,
+        Notice::Answered {
+            status,
+            entry: Some(entry),
+            fault: _,
+        } => format!(in alloc;
+            "notice: {status} {} {}\n",
+            entry.number,
+            entry.digest.as_str()
+        )?,
+        Notice::Answered {
+            status,
+            entry: None,
+            fault: _,
+        } => format!(in alloc; "notice: {status}\n")?,
+    })
 }
 
 fn answered(alloc: Global, answers: &[Answered]) -> Result<String, Fail> {

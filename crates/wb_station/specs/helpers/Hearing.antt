@@ -1,10 +1,12 @@
 -- What the terminal took, and where its replies are.
-use Rattle.std.specs.Prelude.{◌≡◌, List, [], ◌∷◌}
+use Rattle.std.specs.Prelude.{◌≡◌, List, [], ◌∷◌, Option, None}
+use Rattle.wb_messages.specs.declared.notice.Notice.{Notice}
 use Rattle.wb_sics.specs.declared.reply.Reply.{Reply}
 use Rattle.wb_sics.specs.Event as terminal
 use Rattle.wb_sics.specs.Event.{TerminalEvent}
 use Rattle.wb_sics.specs.Replies.{replies}
 use Rattle.wb_sics.specs.Stands.{TerminalStands, TerminalState, TerminalTakesAll}
+use Rattle.wb_station.specs.Notices.{zero_notice}
 use Rattle.wb_station.specs.declared.event.AtTerminal.{AtTerminal}
 use Rattle.wb_station.specs.declared.event.AtTerminal.TheVariants.{Byte, Hangup, Reading}
 use Rattle.wb_station.specs.declared.event.Room.{Room}
@@ -34,8 +36,15 @@ AreRepliesTo (Reading r) t rs = (events : List TerminalEvent) → TerminalStands
 AreRepliesTo (Byte b) t rs = (events : List TerminalEvent) → TerminalStands t events → rs ≡ replies t.scale.setup (terminal.byte b ∷ events)
 AreRepliesTo Hangup t rs = Unit {0}
 
--- the terminal took it, and left these replies in that room
-pub record Heard (event : AtTerminal) (t t' : TerminalState) (rs : List Reply) (room : Room) : Type 0 where
+-- what is noticed of it
+abbrev pub IsNoticeOf : AtTerminal → TerminalState → Option Notice → Type 0
+IsNoticeOf (Reading r) t notice = (events : List TerminalEvent) → TerminalStands t events → notice ≡ zero_notice t.scale.setup (terminal.reading r ∷ events)
+IsNoticeOf (Byte b) t notice = (events : List TerminalEvent) → TerminalStands t events → notice ≡ zero_notice t.scale.setup (terminal.byte b ∷ events)
+IsNoticeOf Hangup t notice = notice ≡ None
+
+-- the terminal took it, left these replies in that room, and this is noticed
+pub record Heard (event : AtTerminal) (t t' : TerminalState) (rs : List Reply) (n : Option Notice) (room : Room) : Type 0 where
   pub takes : TerminalTakesAll t t' (event_of event ∷ [])
   pub in_room : room ≡ room_of event
   pub replies : AreRepliesTo event t rs
+  pub notice : IsNoticeOf event t n

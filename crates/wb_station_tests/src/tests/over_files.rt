@@ -4,7 +4,7 @@ use sqlite::{Alter, Connection, FileStore, Files, Options};
 use sqlite_disk::{Disk, Fuse, Memory};
 use std::alloc::Global;
 use std::test::Fail;
-use wb_station::Station;
+use wb_station::{Notice, Station};
 use wb_store::{Store, StoreFault};
 use wb_window::{RingWindow, Window};
 
@@ -22,9 +22,13 @@ pub(super) const CHECK: &str = "GET /check HTTP/1.1\r\n\r\n";
 const STORE_REFUSED: &str = "503 refused 15 store\n";
 
 /// What a station does once its store is closed.
-const CLOSED: [Step; 4] = [
+const CLOSED: [Step; 2] = [
     Step::Ask(OF_AGE, CHECK, STORE_REFUSED),
     Step::Ask(OF_AGE, SECOND, STORE_REFUSED),
+];
+
+/// A weight that the terminal still shows then.
+const WEIGHED: [Step; 2] = [
     Step::Load(9_170, 4, ""),
     Step::Line("SI", "S S      18340 kg\r\n"),
 ];
@@ -144,11 +148,12 @@ fn are_answered<W: Window, D: Alter>(
     match hear_all(alloc, station, steps)? {
         Heard::Wanted => Ok(true),
         Heard::StoreRefused => {
-            is_fault(station.store_fault(), Some(StoreFault::Disk))?;
+            is_fault(station.notice(), Some(StoreFault::Disk))?;
             hear_wanted(alloc, station, &CLOSED)?;
-            is_fault(station.store_fault(), Some(StoreFault::Closed))?;
+            is_fault(station.notice(), Some(StoreFault::Closed))?;
+            hear_wanted(alloc, station, &WEIGHED)?;
             hear_wanted(alloc, station, &INDICATED)?;
-            is_fault(station.store_fault(), None)?;
+            is_fault(station.notice(), None)?;
             Ok(false)
         }
         Heard::Other => Err("another answer".into()),
@@ -156,11 +161,10 @@ fn are_answered<W: Window, D: Alter>(
 }
 
 /// Fails unless the store refused the last request for this reason, or not at all.
-fn is_fault(found: Option<StoreFault>, wanted: Option<StoreFault>) -> Result<(), Fail> {
-    if found == wanted {
-        Ok(())
-    } else {
-        Err("another fault of the store".into())
+fn is_fault(found: Option<&Notice>, wanted: Option<StoreFault>) -> Result<(), Fail> {
+    match found {
+        Some(Notice::Answered { fault, .. }) if *fault == wanted => Ok(()),
+        _ => Err("another fault of the store".into()),
     }
 }
 

@@ -3,7 +3,7 @@ use self::Change::{Cut, Nothing, Set, Zeros};
 use std::process::Abort;
 use std::str;
 use std::test::Fail;
-use wb_file::witness::{LINE, Newest, Said, WITNESS, entry_of, line_of, place_of, read};
+use wb_file::witness::{LINE, Newest, Said, WITNESS, line_of, place_of, read};
 use wb_journal::Digest;
 
 const DIGEST_OF_14: &str = "b3b5f9b7b253a32759e7f7696c8248ad2d85333673358587ad599ef71b8e7d3e";
@@ -106,41 +106,5 @@ fn writes_lines_by_turns(rt: HostRuntime) -> Result<(), Fail> {
     assert_line(&rt, 15, DIGEST_OF_15, Some(LINE_OF_15));
     assert_line(&rt, 15, "no text", None);
     assert_eq!(rt; (place_of(14), place_of(15)), (0, LINE as u64));
-    Ok(())
-}
-
-/// The number and the digest of the entry that a response tells, which has these.
-fn assert_entry(rt: &impl Abort, response: &str, wanted: Option<(u32, &str)>) {
-    match entry_of(response.as_bytes()) {
-        Some(found) => {
-            assert_eq!(rt;
-                Some((found.number, found.digest.as_str())),
-                wanted,
-                "{response}"
-            )
-        }
-        None => assert_eq!(rt; None, wanted, "{response}"),
-    }
-}
-
-const TICKET: &str =
-    "HTTP/1.1 201 Created\r\nContent-Length: 1\r\n\r\nWEIGHING TICKET 15\nPLATE AB-12\nFIRST NO 14\nDIGEST b3b5f9b7b253a32759e7f7696c8248ad2d85333673358587ad599ef71b8e7d3e\nSECOND NO 15\nDIGEST a982a0aaef75f8622de6a96ef3a1d8ddd9de4bd18d9cda420eeb00dfbfcfa68c\nN      10200 kg\n";
-
-const SLIP: &str =
-    "HTTP/1.1 201 Created\r\n\r\nWEIGHING SLIP 14\nPLATE AB-12\nVOID NO 14\nDIGEST b3b5f9b7b253a32759e7f7696c8248ad2d85333673358587ad599ef71b8e7d3e\n";
-
-const PRINTED_AGAIN: &str =
-    "HTTP/1.1 200 OK\r\n\r\nWEIGHING SLIP 14\nPLATE AB-12\nFIRST NO 14\nDIGEST b3b5f9b7b253a32759e7f7696c8248ad2d85333673358587ad599ef71b8e7d3e\n";
-
-#[test]
-fn finds_the_entry_of_a_response(rt: HostRuntime) -> Result<(), Fail> {
-    assert_entry(&rt, TICKET, Some((15, DIGEST_OF_15)));
-    assert_entry(&rt, SLIP, Some((14, DIGEST_OF_14)));
-    assert_entry(&rt, PRINTED_AGAIN, None);
-    assert_entry(
-        &rt,
-        "HTTP/1.1 409 Conflict\r\n\r\nrefused 11 not_cleared\n",
-        None,
-    );
     Ok(())
 }

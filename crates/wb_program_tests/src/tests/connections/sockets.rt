@@ -10,7 +10,7 @@ use std::time::Instant;
 use wb_connections::{ConverterLink, Source};
 use wb_input::{Converter, REQUEST_ROOM, TERMINAL_ROOM};
 use wb_sockets::Sockets;
-use wb_station::Sources;
+use wb_station::{Notice, Sources};
 use wb_window::Reading;
 use wb_window::Reading::{Load, Lost};
 
@@ -260,6 +260,11 @@ impl<'a> Desk<'a> {
         let (count, is_asked) = self.ask();
         if is_asked {
             self.bench.pass(took);
+            self.sockets.notice(&Notice::Answered {
+                status: 200,
+                entry: None,
+                fault: None,
+            });
             self.sockets.respond(ANSWER);
         }
         (said, count, is_asked)
