@@ -1,4 +1,4 @@
-"""What the parts of checks/converters share: its words, what it counts as a failure, its watch for stalls, the program in a run, and a client of it."""
+"""Tools that the parts of checks/converters share: its words, what it counts as a failure, its watch for stalls, the program in a run, and a client of it."""
 
 import atexit
 import os
