@@ -42,7 +42,7 @@ impl Evidence {
         ensures { (a : Asking) → Shows self.now a → result ≡ clock_back a }
     {
         match &self.journal.newest {
-            Some(newest) => self.at.seconds() < newest.moment().seconds(),
+            Some(newest) => self.asked.at.seconds() < newest.moment().seconds(),
             None => false,
         }
     }
@@ -52,7 +52,7 @@ impl Evidence {
         ensures judged { (a : Asking) → Shows self.now a → result ≡ first_refusal of_load a }
         ensures plain { IfSome result (λ why. is_of_store why ≡ false) }
     {
-        if weighs(self.kind) {
+        if weighs(self.asked.kind) {
             refusal_of_indication(self.scale.indicated)
         } else {
             None
@@ -103,8 +103,8 @@ impl Evidence {
     {
         match self.scale.tare {
             TareNow::Empty => false,
-            TareNow::Weighed(_) => weighs(self.kind),
-            TareNow::Preset(_) => weighs(self.kind) && !self.kind.is_single(),
+            TareNow::Weighed(_) => weighs(self.asked.kind),
+            TareNow::Preset(_) => weighs(self.asked.kind) && !self.asked.kind.is_single(),
         }
     }
 
@@ -113,28 +113,28 @@ impl Evidence {
         ensures { (a : Asking) → Shows self.now a → first_refusal of_load a ≡ None
             → result ≡ no_preset a }
     {
-        self.kind.is_single() && !is_preset_below(self.scale.tare, self.scale.indicated)
+        self.asked.kind.is_single() && !is_preset_below(self.scale.tare, self.scale.indicated)
     }
 
     /// Whether the bridge was to be cleared first.
     fn is_not_cleared(&self) -> bool
         ensures { (a : Asking) → Shows self.now a → result ≡ not_cleared a }
     {
-        weighs(self.kind) && !self.scale.is_cleared
+        weighs(self.asked.kind) && !self.scale.is_cleared
     }
 
     /// Whether a First finds a weighing of its plate open.
     fn is_already_open(&self) -> bool
         ensures { (a : Asking) → Shows self.now a → result ≡ already_open a }
     {
-        self.kind.is_first() && self.journal.open_weighing.is_some()
+        self.asked.kind.is_first() && self.journal.open_weighing.is_some()
     }
 
     /// Whether a Second or Void finds none.
     fn has_no_open(&self) -> bool
         ensures { (a : Asking) → Shows self.now a → result ≡ no_open a }
     {
-        self.kind.is_closing() && self.journal.open_weighing.is_none()
+        self.asked.kind.is_closing() && self.journal.open_weighing.is_none()
     }
 
     /// Whether the First that a Second would close isn't sound.
@@ -142,7 +142,7 @@ impl Evidence {
         ensures { (a : Asking) → Shows self.now a → result ≡ damaged_first a }
     {
         match &self.journal.open_weighing {
-            Some(open) => is_second(self.kind) && !is_sound(open),
+            Some(open) => is_second(self.asked.kind) && !is_sound(open),
             None => false,
         }
     }
@@ -151,7 +151,7 @@ impl Evidence {
     fn is_journal_full(&self) -> bool
         ensures { (a : Asking) → Shows self.now a → result ≡ journal_full a }
     {
-        lacks_places(self.capacity, &self.journal, places_of(self.kind))
+        lacks_places(self.capacity, &self.journal, places_of(self.asked.kind))
             || LAST_NUMBER < self.journal.next_number
     }
 }

@@ -1,5 +1,5 @@
-//! What a weighing or void whose key is new is judged on.
-use wb_journal::{Kind, Moment};
+//! What a weighing or void under a new key is judged on.
+use crate::judging::WeighingRequest;
 use wb_scale::{Indicated, TareNow};
 use wb_store::Overview;
 
@@ -12,11 +12,10 @@ pub(crate) struct OfScale {
     pub(crate) is_cleared: bool,
 }
 
-/// All of it, with what is asked for.
+/// A request, and what the setup, the scale and the journal say of it.
 #[derive(Debug, Drop)]
 pub(crate) struct Evidence {
-    pub(crate) kind: Kind,
-    pub(crate) at: Moment,
+    pub(crate) asked: WeighingRequest,
     /// The places of the journal.
     pub(crate) capacity: u32,
     pub(crate) scale: OfScale,

@@ -122,13 +122,12 @@ fn judge_new<W: Window>(journal: Overview, scale: &Scale<W>, asked: WeighingRequ
 {
     let instrument = scale.instrument();
     let evidence = Evidence {
-        kind: asked.kind,
-        at: asked.at,
+        asked,
         capacity: instrument.capacity(),
         scale: shown(scale),
         journal,
     };
-    judge_evidence(instrument, evidence, asked)
+    judge_evidence(instrument, evidence)
 }
 
 /// What the scale shows.
@@ -145,25 +144,25 @@ fn shown<W: Window>(scale: &Scale<W>) -> OfScale
 }
 
 /// Judges what the scale and the journal show.
-fn judge_evidence(instrument: &Instrument, evidence: Evidence, asked: WeighingRequest) -> Judgement
+fn judge_evidence(instrument: &Instrument, evidence: Evidence) -> Judgement
     requires setup { IsSetup instrument.now }
     requires load { IsIndicationInRange instrument.now evidence.scale.indicated }
     requires tare { IsTare instrument.now evidence.scale.tare }
     ensures plain { is_plain result ≡ true }
-    ensures judged { (a : Asking) → AsksFor asked a → a.now.setup ≡ instrument.now → Shows evidence a
+    ensures judged { (a : Asking) → a.now.setup ≡ instrument.now → Shows evidence a
         → entry_by_key a.now.entries a.key ≡ None → key_gone a ≡ false → MeetsVerdict result a }
 {
     if let Some(refusal) = evidence.refusal() {
         return Judgement::Refused(refusal);
     }
-    let WeighingRequest {
-        at: _,
-        key,
-        kind: _,
-        plate,
-    } = asked;
-    match new_entry(&evidence, key, plate, instrument) {
-        Some(entry) => Judgement::Accepted(entry, evidence.journal.open_weighing),
+    let Evidence {
+        asked,
+        capacity: _,
+        scale,
+        journal,
+    } = evidence;
+    match new_entry(asked, scale, &journal, instrument) {
+        Some(entry) => Judgement::Accepted(entry, journal.open_weighing),
         None => Judgement::Refused(Refusal::JournalFull),
     }
 }

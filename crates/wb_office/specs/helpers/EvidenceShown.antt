@@ -7,6 +7,7 @@ use Rattle.wb_store.specs.Sight.{overview}
 use Rattle.wb_office.specs.declared.evidence.Evidence.{Evidence}
 use Rattle.wb_office.specs.declared.evidence.OfScale.{OfScale}
 use Rattle.wb_office.specs.Situation.{Asking, Situation}
+use Rattle.wb_office.specs.helpers.JudgedByVerdict.{AsksFor}
 
 -- what the scale shows
 pub record ShowsScale (s : OfScale) (w : Situation) : Type 0 where
@@ -16,8 +17,7 @@ pub record ShowsScale (s : OfScale) (w : Situation) : Type 0 where
 
 -- all that a weighing or void with a new key is judged on
 pub record Shows (e : Evidence) (a : Asking) : Type 0 where
-  pub of_kind : e.kind ≡ a.kind
-  pub of_moment : e.at ≡ a.now.at
+  pub asks : AsksFor e.asked a
   pub most : e.capacity ≡ a.now.setup.capacity
   pub scale_shown : ShowsScale e.scale a.now
   pub journal_shown : e.journal ≡ overview a.now.entries a.now.spent a.plate

@@ -11,7 +11,7 @@ single_weighs Void s = s
 
 pub returns-then-is_single : goal.returns-then-is_single
 returns-then-is_single c = λ a shows fits.
-    let single : is_single_kind a.kind ≡ true = ap is_single_kind (sym shows.of_kind) ∙ sym c.is_single.ensures ∙ c.if-is_single.true in
+    let single : is_single_kind a.kind ≡ true = ap is_single_kind shows.asks.of_kind ∙ sym c.is_single.ensures ∙ c.if-is_single.true in
     let same : c.is_preset_below.result ≡ gross_is_above_preset (tare_now a.now.history) (gross a.now.history) = c.is_preset_below.ensures
     ∙ ap (λ t. is_preset_below_shown t c.args.self.now.scale.indicated) shows.scale_shown.in_force
     ∙ ap (λ i. is_preset_below_shown (tare_now a.now.history) i) shows.scale_shown.shown
