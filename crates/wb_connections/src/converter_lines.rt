@@ -3,83 +3,86 @@ ghost use Rattle.std.specs.Prelude.{IfSome};
 ghost use Rattle.wb_window.specs.Reading.{IsReading};
 
 use crate::limits::{ENDLESS_LINE, LINE};
-use wb_input::converter_line;
+use wb_input::{LineBuffer, converter_line};
 use wb_window::Reading;
 
 /// How many bytes are read at once: some fifty lines, so that what came during an exchange takes few reads.
 pub const CONVERTER_ROOM: usize = 512;
 
-/// A line and the CR before its LF.
+/// A line and the CR before its LF. A line of more bytes than [`LINE`] is no number, with or without a CR.
 const LINE_AND_CR: usize = LINE + 1;
 
-/// Bytes that came and are not used yet, and the beginning of the line that they are part of.
+/// Bytes that came and aren't used yet, and the line that they continue.
 #[derive(Drop)]
 pub struct Lines {
     /// Where the next bytes are put, once all that came are used.
     pub room: [u8; CONVERTER_ROOM],
     next: usize,
     end: usize,
-    line: [u8; LINE_AND_CR],
-    /// How many bytes came since the last LF; those that have no place in `line` are only counted.
+    line: LineBuffer<LINE_AND_CR>,
+    /// The bytes of the line so far, counted even after `line` keeps no more.
     count: usize,
-    /// Whether its end came, and its reading wasn't handed out yet.
+    /// Whether the line's LF came, and its reading wasn't returned yet.
     is_whole: bool,
 }
 
 impl Lines {
-    /// Before any byte came.
+    /// Creates lines of which no byte came.
     pub fn new() -> Self {
         Lines {
             room: [0; CONVERTER_ROOM],
             next: 0,
             end: 0,
-            line: [0; LINE_AND_CR],
+            line: LineBuffer::new(),
             count: 0,
             is_whole: false,
         }
     }
 
-    /// Takes so many bytes that were put into the room.
+    /// Makes the first `count` bytes of the room those to be used next.
     pub fn fill(&mut self, count: usize) {
         self.next = 0;
         self.end = count;
     }
 
-    /// Whether the line that has begun is too long to ever end.
+    /// Returns true if the line that has begun is too long to ever end.
     pub fn is_endless(&self) -> bool {
         self.count >= ENDLESS_LINE
     }
 
-    /// Makes the line that has begun a lost reading, whatever comes of it still.
+    /// Makes the line that has begun a lost reading, whatever of it is still to come.
     pub fn spoil(&mut self) {
         if self.count > 0 {
-            self.count = self.count.max(LINE_AND_CR.saturating_add(1));
+            self.line.spoil();
         }
     }
 
-    /// Whether a line waits whose end came. If none does, all bytes are used.
+    /// Returns true if a line waits whose LF came. If none does, all bytes are used, or the line is endless.
     pub fn has_line(&mut self) -> bool {
-        for _ in 0..CONVERTER_ROOM {
-            if self.is_whole || self.next >= self.end || self.is_endless() {
-                return self.is_whole;
-            }
-            let Some(byte) = self.room.get(self.next) else {
-                return false;
-            };
-            self.next = self.next.saturating_add(1);
-            if *byte == b'\n' {
-                self.is_whole = true;
-            } else {
-                if let Some(place) = self.line.get_mut(self.count) {
-                    *place = *byte;
-                }
-                self.count = self.count.saturating_add(1);
-            }
+        if !self.is_whole && !self.is_endless() {
+            self.continue_line();
         }
-        self.is_whole
+        self.is_whole && !self.is_endless()
     }
 
-    /// The reading of the next line whose end came. None once all bytes are used.
+    /// Adds the unused bytes up to the next LF to the line.
+    fn continue_line(&mut self) {
+        let Some(unused) = self.room.get(self.next..self.end) else {
+            return;
+        };
+        let (added, left) = match self.line.take(unused) {
+            Some(after) => {
+                self.is_whole = true;
+                let before = unused.len().saturating_sub(after.len()).saturating_sub(1);
+                (before, after.len())
+            }
+            None => (unused.len(), 0),
+        };
+        self.count = self.count.saturating_add(added);
+        self.next = self.end.saturating_sub(left);
+    }
+
+    /// Returns the reading of the next line whose LF came, or `None` if there is none.
     pub fn next_reading(&mut self) -> Option<Reading>
         ensures { IfSome result IsReading }
     {
@@ -90,27 +93,17 @@ impl Lines {
         }
     }
 
-    /// The reading of the line that has ended, and a new line begins.
+    /// Returns the reading of the line that has ended, and begins the next.
     fn finished_line(&mut self) -> Reading
         ensures { IsReading result }
     {
-        let count = self.count;
+        let reading = match self.line.line() {
+            Some(line) => converter_line(line),
+            None => Reading::Lost,
+        };
+        self.line.begin();
         self.count = 0;
         self.is_whole = false;
-        match self.line.get(..count) {
-            Some(line) => reading_of(line.strip_suffix(b"\r").unwrap_or(line)),
-            None => Reading::Lost,
-        }
-    }
-}
-
-/// The reading of a line without its end.
-fn reading_of(line: &[u8]) -> Reading
-    ensures { IsReading result }
-{
-    if line.len() <= LINE {
-        converter_line(line)
-    } else {
-        Reading::Lost
+        reading
     }
 }

@@ -1,6 +1,5 @@
 -- The rules, in the order in which to read them.
 pub mod Counts
-pub mod Cut
 pub mod Answer
 pub mod Outbox
 pub mod Sample

@@ -9,7 +9,6 @@
 mod answering;
 mod client;
 mod counts;
-mod cut_lines;
 mod filtering;
 mod median;
 mod outbox;
@@ -23,7 +22,6 @@ mod weights;
 pub use answering::{answer, answer_to};
 pub use client::Clients;
 pub use counts::counts_line;
-pub use cut_lines::CutLines;
 pub use filtering::Filtering;
 pub use outbox::{LINE_ROOM, Outbox};
 pub use per_interval::sensitivity;

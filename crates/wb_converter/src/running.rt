@@ -4,8 +4,7 @@ ghost use Rattle.wb_converter.specs.Statuses.{status_of_run};
 
 use crate::answering::{answer, answer_to};
 use crate::client::{Clients, is_waiting};
-use crate::counts::counts_line;
-use crate::cut_lines::CutLines;
+use crate::counts::{LINE, counts_line};
 use crate::filtering::Filtering;
 use crate::outbox::LINE_ROOM;
 use arrayvec::ArrayString;
@@ -16,6 +15,7 @@ use std::time::{Clock, Duration, Instant};
 use thiserror::Error;
 use wb_calibration::{Calibration, Filter};
 use wb_connections::Report;
+use wb_input::LineBuffer;
 
 /// How many bytes of lines are read at once.
 const ROOM: usize = 512;
@@ -53,7 +53,7 @@ impl RunEnd {
 /// What is known of the input.
 #[derive(Drop)]
 struct Input {
-    lines: CutLines,
+    line: LineBuffer<LINE>,
     /// The last readings, if a filter makes one value of them.
     filtering: Option<Filtering>,
     /// How many lines came.
@@ -81,7 +81,7 @@ where
         return RunEnd::Clock;
     };
     let mut state = Input {
-        lines: CutLines::new(),
+        line: LineBuffer::new(),
         filtering: match filter {
             Some(filter) => Some(Filtering::new(filter)),
             None => None,
@@ -142,13 +142,13 @@ impl Input {
     {
         let mut left = bytes;
         for _ in 0..ROOM {
-            let Some(after) = self.lines.take(left) else {
+            let Some(after) = self.line.take(left) else {
                 break;
             };
             left = after;
             self.count = self.count.saturating_add(1);
             clients.offer(&self.answer(calibration), self.looked);
-            self.lines.begin();
+            self.line.begin();
             let Ok(now) = Instant::now(rt) else {
                 return Some(RunEnd::Clock);
             };
@@ -159,7 +159,7 @@ impl Input {
 
     /// What is handed on for the line that ended.
     fn answer(&mut self, calibration: &Calibration) -> ArrayString<LINE_ROOM> {
-        let line = self.lines.line();
+        let line = self.line.line().unwrap_or(&[]);
         match &mut self.filtering {
             Some(filtering) => answer_to(calibration, filtering.take(counts_line(line))),
             None => answer(calibration, line),

@@ -1,11 +1,11 @@
 //! Counts under one load, read from lines.
 ghost use Rattle.std.specs.Prelude.{◌≡◌, ◌+◌, IfOk, vec_len};
 
-use crate::counts::counts_line;
-use crate::cut_lines::CutLines;
+use crate::counts::{LINE, counts_line};
 use std::alloc::Global;
 use std::io::Read;
 use thiserror::Error;
+use wb_input::LineBuffer;
 
 /// How many bytes of lines are read at once.
 const ROOM: usize = 512;
@@ -42,7 +42,7 @@ pub fn read_counts<I: Read>(
 ) -> Result<Vec<i32>, SampleFault>
     ensures { IfOk result (λ counts. vec_len counts ≡ lines) }
 {
-    let mut cut = CutLines::new();
+    let mut line = LineBuffer::<LINE>::new();
     let mut counts = Vec::new(alloc);
     let mut room = [0u8; ROOM];
     for _ in 0..READS {
@@ -51,7 +51,7 @@ pub fn read_counts<I: Read>(
         }
         match input.read(&mut room) {
             Ok(0) => return Err(SampleFault::Few(counts.len() as u64)),
-            Ok(count) => push_counts(&mut counts, &mut cut, &room[..count], lines)?,
+            Ok(count) => push_counts(&mut counts, &mut line, &room[..count], lines)?,
             Err(_) => return Err(SampleFault::Input),
         }
     }
@@ -61,7 +61,7 @@ pub fn read_counts<I: Read>(
 /// Appends the counts of the lines whose end is among these bytes, as long as there are fewer than so many.
 fn push_counts(
     counts: &mut Vec<i32>,
-    cut: &mut CutLines,
+    line: &mut LineBuffer<LINE>,
     bytes: &[u8],
     lines: u32,
 ) -> Result<(), SampleFault> {
@@ -70,12 +70,12 @@ fn push_counts(
         if counts.len() == lines as usize {
             return Ok(());
         }
-        let Some(after) = cut.take(left) else {
+        let Some(after) = line.take(left) else {
             return Ok(());
         };
         left = after;
-        push_line(counts, cut.line())?;
-        cut.begin();
+        push_line(counts, line.line().unwrap_or(&[]))?;
+        line.begin();
     }
     Ok(())
 }

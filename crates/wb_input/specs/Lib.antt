@@ -3,3 +3,4 @@ pub mod Digits
 pub mod Converted
 pub mod Number
 pub mod ConverterLines
+pub mod PartialLine

@@ -1,9 +1,9 @@
 //! Lines, and the words of a line.
 ghost use Rattle.std.specs.Prelude.{◌≡◌, ◌<◌, ◌≤◌, ◌+◌, ◌∷◌, [], IfSome, MatchOption, length};
-ghost use Rattle.std.specs.Str.Lines.{lines, strip_carriage_return as strip};
+ghost use Rattle.std.specs.Str.Lines.{lines};
 ghost use Rattle.wb_trace.specs.Words.{after_word, first_word};
 
-use wb_input::split_at_first;
+use wb_input::{split_at_first, without_carriage_return};
 
 /// The first line of what is left of a trace, without its LF or CR LF, and what follows it; none where nothing is
 /// left. A last line without an end counts.
@@ -19,17 +19,6 @@ pub fn first_line(rest: &[u8]) -> Option<(&[u8], &[u8])>
     match split_at_first(rest, b'\n') {
         Some((line, after)) => Some((without_carriage_return(line), after)),
         None => Some((rest, &[])),
-    }
-}
-
-/// A line without the CR at its end, if it has one.
-fn without_carriage_return(line: &[u8]) -> &[u8]
-    ensures value { result.now ≡ strip line.now }
-    ensures within { length result.now ≤ length line.now }
-{
-    match line {
-        [before @ .., last] => { if *last == b'\r' { before } else { line } }
-        [] => line,
     }
 }
 

@@ -7,9 +7,10 @@ use std::test::Fail;
 use wb_calibration::{Calibration, Filter, Point, Readings};
 use wb_calibration_file::{points_of, text_of};
 use wb_converter::{
-    CutLines, Filtering, Outbox, SampleFault, answer, counts_line, mean, read_counts, sensitivity,
+    Filtering, Outbox, SampleFault, answer, counts_line, mean, read_counts, sensitivity,
     spread, tenths_of_weights, with_point,
 };
+use wb_input::LineBuffer;
 
 /// Two counts a tenth, and 20 an interval.
 const POINTS: [Point; 2] = [
@@ -226,14 +227,22 @@ fn hands_out_the_newest_line(rt: HostRuntime) {
 
 #[test]
 fn cuts_lines(rt: HostRuntime) {
-    let mut lines = CutLines::new();
+    let mut lines = LineBuffer::<64>::new();
     assert!(rt; lines.take(b"12").is_none());
     assert!(rt; lines.take(b"3\r\n4") == Some(b"4".as_slice()));
-    assert!(rt; lines.line() == b"123".as_slice());
+    assert!(rt; lines.line() == Some(b"123".as_slice()));
     lines.begin();
     // 65 bytes in two pieces, of which the first is kept
     assert!(rt; lines.take(&[b'1'; 40]).is_none());
     assert!(rt; lines.take(&[b'1'; 25]).is_none());
     assert!(rt; lines.take(b"\n") == Some(b"".as_slice()));
-    assert!(rt; lines.line().is_empty(), "too long");
+    assert!(rt; lines.line().is_none(), "too long");
+    lines.begin();
+    assert!(rt; lines.take(b"1").is_none());
+    lines.spoil();
+    assert!(rt; lines.take(b"2\n3\n") == Some(b"3\n".as_slice()));
+    assert!(rt; lines.line().is_none(), "spoiled");
+    lines.begin();
+    assert!(rt; lines.take(b"3\n") == Some(b"".as_slice()));
+    assert!(rt; lines.line() == Some(b"3".as_slice()), "the line after a spoiled one");
 }
