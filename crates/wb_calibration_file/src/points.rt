@@ -6,8 +6,10 @@ ghost use Rattle.std.specs.Int.{w32};
 ghost use Rattle.std.specs.Prelude.{◌≡◌, ◌≤◌, ◌+◌, ◌*◌, ◌∷◌, ◌++◌, ℕ, ℤ, List, FitsSigned, IfSome, MatchOption, None, Some, length};
 ghost use Rattle.wb_calibration.specs.declared.point.Point.{Point};
 ghost use Rattle.wb_calibration_file.specs.File.{AreNumbers, IsNumbers, point_line, point_text, points_text};
+ghost use Rattle.wb_calibration_file.specs.declared.text.TheConstants.{TEXT_ROOM};
 ghost use Rattle.wb_calibration_file.specs.helpers.Behind.{IsBehindPoints};
 
+use crate::text::TEXT_ROOM;
 use arrayvec::{ArrayString, ArrayVec};
 use itoa::Buffer;
 use wb_calibration::{MOST_POINTS, Point};
@@ -17,7 +19,7 @@ use wb_input::{number, split_at_first};
 pub const MOST_READ: usize = MOST_POINTS + 1;
 
 /// The text of points: a line for each.
-pub fn text_of(points: &ArrayVec<Point, MOST_READ>) -> ArrayString<512>
+pub fn text_of(points: &ArrayVec<Point, MOST_READ>) -> ArrayString<TEXT_ROOM>
     ensures { result.bytes ≡ points_text points.now.items }
 {
     let mut text = ArrayString::new();
@@ -40,8 +42,8 @@ pub fn points_of(text: &[u8]) -> Option<ArrayVec<Point, MOST_READ>>
 }
 
 /// Appends a line for each point.
-pub(crate) fn push_points(text: &mut ArrayString<512>, points: &[Point])
-    requires { array_string_len text.old + 30 * length points.now ≤ 512 }
+pub(crate) fn push_points(text: &mut ArrayString<TEXT_ROOM>, points: &[Point])
+    requires { array_string_len text.old + 30 * length points.now ≤ TEXT_ROOM }
     ensures bytes { text.new.bytes ≡ text.old.bytes ++ points_text points.now }
     ensures room { array_string_len text.new ≤ array_string_len text.old + 30 * length points.now }
 {
@@ -55,8 +57,8 @@ pub(crate) fn push_points(text: &mut ArrayString<512>, points: &[Point])
 }
 
 /// Appends the line of a point.
-fn push_point(text: &mut ArrayString<512>, point: Point)
-    requires { array_string_len text.old + 30 ≤ 512 }
+fn push_point(text: &mut ArrayString<TEXT_ROOM>, point: Point)
+    requires { array_string_len text.old + 30 ≤ TEXT_ROOM }
     ensures bytes { text.new.bytes ≡ text.old.bytes ++ point_line point }
     ensures room { array_string_len text.new ≤ array_string_len text.old + 30 }
 {
@@ -68,8 +70,8 @@ fn push_point(text: &mut ArrayString<512>, point: Point)
 }
 
 /// Appends a number.
-fn push_number(text: &mut ArrayString<512>, number: i32)
-    requires { array_string_len text.old + 11 ≤ 512 }
+fn push_number(text: &mut ArrayString<TEXT_ROOM>, number: i32)
+    requires { array_string_len text.old + 11 ≤ TEXT_ROOM }
     ensures bytes { text.new.bytes ≡ text.old.bytes ++ signed_decimal number }
     ensures room { array_string_len text.new ≤ array_string_len text.old + 11 }
 {

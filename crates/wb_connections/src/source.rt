@@ -2,6 +2,7 @@
 ghost use Rattle.std.specs.Prelude.{◌≡◌};
 ghost use Rattle.wb_connections.specs.Known.{is_live};
 ghost use Rattle.wb_connections.specs.Ready.{FitsRoom};
+ghost use Rattle.wb_connections.specs.declared.converter_lines.TheConstants.{CONVERTER_ROOM};
 
 use crate::address::loopback;
 use crate::cause::Cause;
@@ -58,7 +59,7 @@ impl<S: Read + OpenStream + Drop> Source<S> {
 
     /// A read that doesn't wait.
     pub(crate) fn read_now(&mut self, room: &mut [u8; CONVERTER_ROOM]) -> Ready
-        ensures { FitsRoom result 512 }
+        ensures { FitsRoom result CONVERTER_ROOM }
     {
         match self {
             Source::Stream(stream) => match stream.set_nonblocking(true) {
@@ -77,7 +78,7 @@ impl<S: Read + OpenStream + Drop> Source<S> {
         left: Duration,
         room: &mut [u8; CONVERTER_ROOM],
     ) -> Ready
-        ensures { FitsRoom result 512 }
+        ensures { FitsRoom result CONVERTER_ROOM }
     {
         match self {
             Source::Stream(stream) => match set_to_wait(stream, left) {
@@ -113,7 +114,7 @@ fn other_end<S: OpenStream + Drop>(stream: S) -> Result<S, Cause> {
 
 /// A read of a device or FIFO that doesn't wait. These have no end: a device that gives none of its bytes any more is gone.
 fn read_device(file: &mut File, room: &mut [u8; CONVERTER_ROOM]) -> Ready
-    ensures { FitsRoom result 512 }
+    ensures { FitsRoom result CONVERTER_ROOM }
 {
     match read_ready(file, room) {
         Ready::End => Ready::Fault,

@@ -2,6 +2,7 @@
 ghost use Rattle.std.specs.Prelude.{◌≡◌, ◌≤◌, IsTrue};
 ghost use Rattle.wb_connections.specs.Age.{has_passed};
 ghost use Rattle.wb_connections.specs.declared.limits.TheConstants.{COMMAND_SECONDS};
+ghost use Rattle.wb_input.specs.declared.sources.TheConstants.{TERMINAL_ROOM};
 
 use crate::limits::{COMMAND_SECONDS, DEAF_SECONDS, IDLE_SECONDS, WAITING_REPLIES};
 use crate::ready::{Ready, is_past, read_ready, write_ready};
@@ -83,7 +84,7 @@ where
         report: &Report<'_, R>,
         room: &mut [u8; TERMINAL_ROOM],
     ) -> Taken
-        ensures fits { result.count ≤ 256 }
+        ensures fits { result.count ≤ TERMINAL_ROOM }
         ensures late { IsTrue (has_passed COMMAND_SECONDS self.old.came_after now) → result.count ≡ 0 }
     {
         if self.came.count > 0 && is_past(self.came_after, COMMAND_SECONDS, now) {

@@ -34,7 +34,7 @@ pub(crate) fn places_of(
     fields: &mut [HeaderSpan; 64],
 ) -> Result<RequestSpans, HttpFault>
     ensures read { IfOk result (λ r. (x : Received) × IsReadAt bytes.now fields.new r x) }
-    ensures within { IfOk result (λ r. IsRequestWithin (take 8192 bytes.now) fields.new r) }
+    ensures within { IfOk result (λ r. IsRequestWithin (take HEAD_LIMIT bytes.now) fields.new r) }
     ensures none { IfErr result (λ e. IsRead bytes.now None × (e ≡ fault_without_head bytes.now)) }
 {
     match find_head(front_of(bytes), fields) {
@@ -49,7 +49,7 @@ pub(crate) fn head_at<'a>(
     fields: &'a [HeaderSpan],
     places: RequestSpans,
 ) -> Head<'a>
-    requires { IsRequestWithin (take 8192 bytes.now) fields.now places }
+    requires { IsRequestWithin (take HEAD_LIMIT bytes.now) fields.now places }
     ensures head { (x : Received) → IsReadAt bytes.now fields.now places x → IsHeadOf result x }
     ensures within { All (IsHeaderWithin (length result.front.now)) result.fields.now }
 {
@@ -80,7 +80,7 @@ fn find_head(front: &[u8], fields: &mut [HeaderSpan; 64]) -> Option<RequestSpans
 
 /// The bytes in which a head may be.
 fn front_of(bytes: &[u8]) -> &[u8]
-    ensures { result.now ≡ take 8192 bytes.now }
+    ensures { result.now ≡ take HEAD_LIMIT bytes.now }
 {
     if HEAD_LIMIT < bytes.len() {
         &bytes[..HEAD_LIMIT]

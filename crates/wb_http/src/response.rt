@@ -2,6 +2,7 @@
 ghost use Rattle.std.specs.Prelude.{◌≡◌, ◌≤◌, IsOk, OnErr, OnOk, [], false, length, vec_capacity};
 ghost use Rattle.wb_messages.specs.Content.{content_of, content_or_refusal};
 ghost use Rattle.wb_http.specs.Response.{IsDateOf, IsResponse, has_export, is_csv, is_export, phrase_of_status, response_content, response_text, status_of_answer, status_of_refusal, response_to_answer, response_to_result};
+ghost use Rattle.wb_http.specs.declared.room.TheConstants.{ROOM};
 ghost use Rattle.wb_http.specs.helpers.ToldByParts.{told_by};
 
 use crate::body_lines::{Line, count_line, line_of_fault, line_of_refusal};
@@ -100,7 +101,7 @@ fn put_answer(
 ) -> Result<(), AllocError>
     requires phrase { length (phrase_of_status status) ≤ 32 }
     requires empty { room.old.items ≡ [] }
-    requires room { 2048 ≤ vec_capacity room.old }
+    requires room { ROOM ≤ vec_capacity room.old }
     ensures items { OnOk result (room.new.items
         ≡ response_text (response_to_answer status (content_of answer.now)) date.now) }
     ensures fits { is_csv (content_of answer.now) ≡ false → IsOk result }
@@ -145,7 +146,7 @@ fn put_line(
 ) -> Result<(), AllocError>
     requires phrase { length (phrase_of_status head.status) ≤ 32 }
     requires empty { room.old.items ≡ [] }
-    requires room { 2048 ≤ vec_capacity room.old }
+    requires room { ROOM ≤ vec_capacity room.old }
     ensures items { OnOk result (room.new.items
         ≡ response_text (told_by head line.now.bytes) date.now) }
     ensures fits { IsOk result }
@@ -157,7 +158,7 @@ fn put_line(
 /// The response to an outcome, in an empty room.
 fn put_outcome(room: &mut Vec<u8>, date: &[u8; 29], outcome: &Outcome<'_>) -> Result<(), AllocError>
     requires empty { room.old.items ≡ [] }
-    requires room { 2048 ≤ vec_capacity room.old }
+    requires room { ROOM ≤ vec_capacity room.old }
     ensures items { OnOk result (room.new.items ≡ response_text (response_content outcome.now) date.now) }
     ensures fits { has_export outcome.now ≡ false → IsOk result }
     ensures capacity { vec_capacity room.old ≤ vec_capacity room.new }
@@ -182,7 +183,7 @@ fn put_result(
     answered: &Result<Answer, Refusal>,
 ) -> Result<(), AllocError>
     requires empty { room.old.items ≡ [] }
-    requires room { 2048 ≤ vec_capacity room.old }
+    requires room { ROOM ≤ vec_capacity room.old }
     ensures items { OnOk result (room.new.items
         ≡ response_text (response_to_result request.now (content_or_refusal answered.now)) date.now) }
     ensures fits { is_export (content_or_refusal answered.now) ≡ false → IsOk result }

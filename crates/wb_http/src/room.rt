@@ -15,12 +15,13 @@ pub struct ResponseRoom {
 
 impl Model for ResponseRoom {
     ghost use Rattle.std.specs.Prelude.{◌≤◌, ℕ, List, vec_capacity};
+    ghost use Rattle.wb_http.specs.declared.room.TheConstants.{ROOM};
 
     ghost Value = { List ℕ };
 
     ghost view = { λ r. r.bytes.items };
 
-    ghost invariant = { λ r. 2048 ≤ vec_capacity r.bytes };
+    ghost invariant = { λ r. ROOM ≤ vec_capacity r.bytes };
 }
 
 impl ResponseRoom {

@@ -2,15 +2,18 @@
 use arrayvec::ArrayString;
 use std::marker::Model;
 
+/// The most bytes of a slip, a ticket or an indication.
+pub const TEXT_ROOM: usize = 512;
+
 /// An answer of the office.
 #[derive(Debug, Drop)]
 pub enum Answer {
     /// The slip of a First or Void.
-    Slip(ArrayString<512>),
+    Slip(ArrayString<TEXT_ROOM>),
     /// The ticket of a Single, or of a Second with its partner.
-    Ticket(ArrayString<512>),
+    Ticket(ArrayString<TEXT_ROOM>),
     /// What is indicated.
-    Text(ArrayString<512>),
+    Text(ArrayString<TEXT_ROOM>),
     /// An export.
     Csv(CsvText),
     /// So many entries were purged.

@@ -9,7 +9,7 @@ mod notice;
 mod refusal;
 mod request;
 
-pub use answer::{Answer, CsvText};
+pub use answer::{Answer, CsvText, TEXT_ROOM};
 pub use event::Event;
 pub use notice::{EntryName, Notice};
 pub use refusal::Refusal;

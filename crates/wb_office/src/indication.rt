@@ -7,10 +7,14 @@ ghost use Rattle.wb_scale.specs.Indication.{IsIndicationInRange};
 
 use arrayvec::ArrayString;
 use wb_instrument::{Instrument, weight_field};
+use wb_messages::TEXT_ROOM;
 use wb_scale::Indicated;
 
 /// Gross and net in kilograms, or why there are none.
-pub(crate) fn indication_text(instrument: &Instrument, indicated: Indicated) -> ArrayString<512>
+pub(crate) fn indication_text(
+    instrument: &Instrument,
+    indicated: Indicated,
+) -> ArrayString<TEXT_ROOM>
     requires setup { IsSetup instrument.now }
     requires load { IsIndicationInRange instrument.now indicated }
     ensures { result.bytes ≡ text_of_indication instrument.now indicated }
@@ -26,7 +30,7 @@ pub(crate) fn indication_text(instrument: &Instrument, indicated: Indicated) -> 
     }
 }
 
-fn text_of(words: &str) -> ArrayString<512>
+fn text_of(words: &str) -> ArrayString<TEXT_ROOM>
     requires { length words.now ≤ 32 }
     ensures value { result.bytes ≡ words.now }
     ensures fits { array_string_len result ≡ length words.now }
@@ -36,7 +40,7 @@ fn text_of(words: &str) -> ArrayString<512>
     text
 }
 
-fn weights(stable: bool, gross_kg: i32, net_kg: i32) -> ArrayString<512>
+fn weights(stable: bool, gross_kg: i32, net_kg: i32) -> ArrayString<TEXT_ROOM>
     ensures { result.bytes ≡ weights_text stable gross_kg net_kg }
 {
     let mut text = text_of(motion(stable));

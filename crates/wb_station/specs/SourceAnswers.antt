@@ -1,6 +1,7 @@
 -- What sources of events answer, and what they are handed.
 use Rattle.std.specs.Prelude.{◌≡◌, ◌≤◌, ◌⊎◌, ℕ, Bool, List, [], ◌∷◌, ◌++◌, take, Option, Some, None, option_map}
 use Rattle.wb_input.specs.declared.sources.Converter.{Converter}
+use Rattle.wb_input.specs.declared.sources.TheConstants.{REQUEST_ROOM}
 use Rattle.wb_messages.specs.declared.notice.Notice.{Notice}
 use Rattle.wb_station.specs.declared.sources.Incoming.{Incoming}
 use Rattle.wb_station.specs.declared.sources.Incoming.TheVariants.{Bytes, Judged}
@@ -48,7 +49,7 @@ bytes_asked (Judged request) room = request
 
 -- there are no more of them than there is room for
 abbrev pub IsInRoom : Incoming → Type 0
-IsInRoom (Bytes count) = count ≤ 9216
+IsInRoom (Bytes count) = count ≤ REQUEST_ROOM
 IsInRoom (Judged request) = Unit {0}
 
 -- that there is a request, and then its moment

@@ -1,6 +1,7 @@
 //! Where a service's events come from, and where what is put out goes.
 ghost use Rattle.std.specs.Prelude.{[], ◌∷◌, ◌≤◌, IfSome, Option, option_map, take};
 ghost use Rattle.wb_input.specs.Converted.{IsConverted};
+ghost use Rattle.wb_input.specs.declared.sources.TheConstants.{REQUEST_ROOM, TERMINAL_ROOM};
 ghost use Rattle.wb_station.specs.SourceAnswers.{IsInRoom, MayNotice, Told, SourceTells, asked, converted, exchanged, timed, to_office, to_terminal, took};
 
 use wb_http::Judged;
@@ -36,7 +37,7 @@ pub trait Sources {
 
     /// The bytes that the terminal's connection has ready.
     fn terminal(&mut self, room: &mut [u8; TERMINAL_ROOM]) -> Taken
-        ensures count { result.count ≤ 256 }
+        ensures count { result.count ≤ TERMINAL_ROOM }
         ensures told { SourceTells (took (take result.count room.new) result.hung_up ∷ []) []
             (told self.old) (told self.new) };
 
@@ -46,7 +47,7 @@ pub trait Sources {
 
     /// How many bytes in the room are a request to the office, if there is one.
     fn office(&mut self, room: &mut [u8; REQUEST_ROOM]) -> Option<usize>
-        ensures count { IfSome result (λ n. n ≤ 9216) }
+        ensures count { IfSome result (λ n. n ≤ REQUEST_ROOM) }
         ensures told { SourceTells (asked (option_map (λ n. take n room.new) result) ∷ []) []
             (told self.old) (told self.new) };
 
