@@ -59,11 +59,11 @@ pub(crate) enum Stage<J: Drop> {
 /// Why a connection was closed.
 #[derive(Clone, Copy)]
 pub(crate) enum Why {
-    /// It has its response, and ended.
+    /// The client has its response, and ended.
     Done,
-    /// It has its response, and didn't end.
+    /// The client has its response, and didn't end.
     Stayed,
-    /// No byte came of a request.
+    /// No byte of a request came.
     NoRequest,
     /// Its request may have waited too long.
     Late,
@@ -84,17 +84,17 @@ pub(crate) enum Why {
 impl Display for Why {
     fn fmt<W: fmt::Write>(&self, f: &mut fmt::Formatter<W>) -> fmt::Result {
         f.write_str(match self {
-            Why::Done => "done",
-            Why::Stayed => "it stayed after its response",
+            Why::Done => "the client has its response and ended",
+            Why::Stayed => "the client kept the connection open",
             Why::NoRequest => "no request came",
-            Why::Late => "its request waited too long",
-            Why::GaveWay => "it had no whole request, and another came",
-            Why::ServiceEnds => "the service ends",
-            Why::TookNothing => "it took nothing of its response",
-            Why::TookLong => "it took its response too slowly",
-            Why::Crowded => "its response is long, and others wait for theirs",
-            Why::Broken => "it is broken",
-            Why::Memory => "want of memory",
+            Why::Late => "its request waited for more than 5 seconds",
+            Why::GaveWay => "its request wasn't whole, and another client came",
+            Why::ServiceEnds => "the service is ending",
+            Why::TookNothing => "the client read none of its response for 30 seconds",
+            Why::TookLong => "the client read its response too slowly",
+            Why::Crowded => "too many long responses wait for their clients",
+            Why::Broken => "the connection broke",
+            Why::Memory => "out of memory",
         })
     }
 }

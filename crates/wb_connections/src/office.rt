@@ -242,7 +242,7 @@ where
     }
 }
 
-/// Tells that a connection is closed, and counts it if no byte came of its request.
+/// Logs that a connection was closed, and counts it if no byte of a request came.
 fn tell_end<R: Eprint>(
     report: &Report<'_, R>,
     peer: SocketAddr,
@@ -257,13 +257,13 @@ fn tell_end<R: Eprint>(
     }
 }
 
-/// Tells that a connection is closed, and why.
+/// Logs that a connection was closed, and why.
 fn tell_closed<R: Eprint>(report: &Report<'_, R>, peer: SocketAddr, why: Why) {
-    report.line(format_args!("office {peer}: closed, {why}"));
+    report.line(format_args!("office {peer}: closed: {why}"));
 }
 
-/// Tells that a connection is closed of whose request no byte came, and how many such there are so far.
+/// Logs that a connection was closed of whose request no byte came, and how many there are so far.
 fn tell_silent<R: Eprint>(report: &Report<'_, R>, peer: SocketAddr, count: u64) {
     let why = Why::NoRequest;
-    report.line(format_args!("office {peer}: closed, {why} ({count} so far)"));
+    report.line(format_args!("office {peer}: closed: {why} ({count} so far)"));
 }
