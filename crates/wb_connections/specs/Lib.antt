@@ -3,3 +3,4 @@ pub mod Age
 pub mod Causes
 pub mod Known
 pub mod ConverterBytes
+pub mod Dispatch

@@ -1,6 +1,7 @@
 //! A connection of the office, from its first byte to its end. No call here waits.
-ghost use Rattle.std.specs.Prelude.{◌≡◌, ℕ, false};
+ghost use Rattle.std.specs.Prelude.{◌≡◌, ℕ, IfSome, false};
 ghost use Rattle.wb_connections.specs.Age.{has_passed};
+ghost use Rattle.wb_connections.specs.Dispatch.{IsPassedOn, is_asked};
 ghost use Rattle.wb_connections.specs.declared.connection.Stage.TheVariants.{Closed, Waits};
 ghost use Rattle.wb_connections.specs.declared.limits.TheConstants.{REQUEST_SECONDS};
 
@@ -54,6 +55,13 @@ pub(crate) enum Stage<J: Drop> {
     Leaves,
     /// It is closed before the turn is over.
     Closed(Why),
+}
+
+/// Returns true if the request was passed on and isn't answered yet.
+pub(crate) fn is_asked<J: Drop>(stage: &Stage<J>) -> bool
+    ensures { result ≡ is_asked stage.now }
+{
+    matches!(stage, Stage::Asked)
 }
 
 /// Why a connection was closed.
@@ -171,14 +179,19 @@ impl<S: Read + Write + OpenStream + Drop, J: Drop> Connection<S, J> {
     pub(crate) fn drop_late(&mut self, now: Instant)
         ensures late { (place : ℕ) (request : J) → self.new.stage ≡ Waits place request
             → has_passed REQUEST_SECONDS self.new.looked now ≡ false }
+        ensures peer { self.new.peer ≡ self.old.peer }
     {
         if matches!(self.stage, Stage::Waits(_, _)) && is_past(self.looked, REQUEST_SECONDS, now) {
             self.close(Why::Late);
         }
     }
 
-    /// Hands out its request, if that was judged.
-    pub(crate) fn hand_out(&mut self) -> Option<J> {
+    /// Returns its request, if that was judged and came less than five seconds before `now`. It then waits for the response.
+    pub(crate) fn hand_out(&mut self, now: Instant) -> Option<J>
+        ensures passed { IfSome result (λ _. IsPassedOn now self.new) }
+        ensures peer { self.new.peer ≡ self.old.peer }
+    {
+        self.drop_late(now);
         match mem::replace(&mut self.stage, Stage::Asked) {
             Stage::Waits(_, request) => Some(request),
             other => {
@@ -197,7 +210,8 @@ impl<S: Read + Write + OpenStream + Drop, J: Drop> Connection<S, J> {
 
     /// Lets it be closed before the turn is over.
     pub(crate) fn close(&mut self, why: Why)
-        ensures { self.new.stage ≡ Closed why }
+        ensures stage { self.new.stage ≡ Closed why }
+        ensures peer { self.new.peer ≡ self.old.peer }
     {
         self.stage = Stage::Closed(why);
     }
@@ -264,7 +278,10 @@ impl<S: Read + Write + OpenStream + Drop, J: Drop> Connection<S, J> {
 
     /// Takes its response, and writes what the socket takes at once. The rest alone takes memory. A long response isn't begun while as many wait
     /// for their clients as may.
-    pub(crate) fn respond(&mut self, alloc: Global, now: Instant, bytes: &[u8], is_crowded: bool) {
+    pub(crate) fn respond(&mut self, alloc: Global, now: Instant, bytes: &[u8], is_crowded: bool)
+        ensures peer { self.new.peer ≡ self.old.peer }
+        ensures answered { is_asked self.new.stage ≡ false }
+    {
         if is_crowded && bytes.len() > SHORT_RESPONSE {
             self.close(Why::Crowded);
             return;
@@ -314,7 +331,10 @@ impl<S: Read + Write + OpenStream + Drop, J: Drop> Connection<S, J> {
     }
 
     /// Shuts it for writing, which tells the client that this was the whole response.
-    fn shut(&mut self, now: Instant) {
+    fn shut(&mut self, now: Instant)
+        ensures peer { self.new.peer ≡ self.old.peer }
+        ensures answered { is_asked self.new.stage ≡ false }
+    {
         self.moved = now;
         match self.stream.shutdown(Shutdown::Write) {
             Ok(()) => self.stage = Stage::Leaves,
