@@ -57,13 +57,14 @@ impl Cause {
 impl Display for Cause {
     fn fmt<W: fmt::Write>(&self, f: &mut fmt::Formatter<W>) -> fmt::Result {
         f.write_str(match self {
-            Cause::NotLoopback => "it is no IPv4 address of 127.0.0.0/8, a colon and a port",
+            Cause::NotLoopback =>
+                "it must be an IPv4 address of 127.0.0.0/8, a colon and a port, such as 127.0.0.1:880",
             Cause::Folder => "it is a folder",
-            Cause::NotThere => "it isn't there",
-            Cause::NotPermitted => "the system doesn't permit it to this user",
+            Cause::NotThere => "there is no such file",
+            Cause::NotPermitted => "this user has no permission",
             Cause::InUse => "another program listens there",
-            Cause::NobodyListens => "nobody listens there",
-            Cause::System => "the system refuses it",
+            Cause::NobodyListens => "no program listens there",
+            Cause::System => "the system refused it",
         })
     }
 }

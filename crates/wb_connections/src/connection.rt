@@ -1,6 +1,7 @@
 //! A connection of the office, from its first byte to its end. No call here waits.
-ghost use Rattle.std.specs.Prelude.{◌≡◌, ℕ, false};
+ghost use Rattle.std.specs.Prelude.{◌≡◌, ℕ, IfSome, false};
 ghost use Rattle.wb_connections.specs.Age.{has_passed};
+ghost use Rattle.wb_connections.specs.Dispatch.{IsPassedOn, is_asked};
 ghost use Rattle.wb_connections.specs.declared.connection.Stage.TheVariants.{Closed, Waits};
 ghost use Rattle.wb_connections.specs.declared.limits.TheConstants.{REQUEST_SECONDS};
 
@@ -56,14 +57,21 @@ pub(crate) enum Stage<J: Drop> {
     Closed(Why),
 }
 
+/// Returns true if the request was passed on and isn't answered yet.
+pub(crate) fn is_asked<J: Drop>(stage: &Stage<J>) -> bool
+    ensures { result ≡ is_asked stage.now }
+{
+    matches!(stage, Stage::Asked)
+}
+
 /// Why a connection was closed.
 #[derive(Clone, Copy)]
 pub(crate) enum Why {
-    /// It has its response, and ended.
+    /// The client has its response, and ended.
     Done,
-    /// It has its response, and didn't end.
+    /// The client has its response, and didn't end.
     Stayed,
-    /// No byte came of a request.
+    /// No byte of a request came.
     NoRequest,
     /// Its request may have waited too long.
     Late,
@@ -84,17 +92,17 @@ pub(crate) enum Why {
 impl Display for Why {
     fn fmt<W: fmt::Write>(&self, f: &mut fmt::Formatter<W>) -> fmt::Result {
         f.write_str(match self {
-            Why::Done => "done",
-            Why::Stayed => "it stayed after its response",
+            Why::Done => "the client has its response and ended",
+            Why::Stayed => "the client kept the connection open",
             Why::NoRequest => "no request came",
-            Why::Late => "its request waited too long",
-            Why::GaveWay => "it had no whole request, and another came",
-            Why::ServiceEnds => "the service ends",
-            Why::TookNothing => "it took nothing of its response",
-            Why::TookLong => "it took its response too slowly",
-            Why::Crowded => "its response is long, and others wait for theirs",
-            Why::Broken => "it is broken",
-            Why::Memory => "want of memory",
+            Why::Late => "its request waited for more than 5 seconds",
+            Why::GaveWay => "its request wasn't whole, and another client came",
+            Why::ServiceEnds => "the service is ending",
+            Why::TookNothing => "the client read none of its response for 30 seconds",
+            Why::TookLong => "the client read its response too slowly",
+            Why::Crowded => "too many long responses wait for their clients",
+            Why::Broken => "the connection broke",
+            Why::Memory => "out of memory",
         })
     }
 }
@@ -171,14 +179,19 @@ impl<S: Read + Write + OpenStream + Drop, J: Drop> Connection<S, J> {
     pub(crate) fn drop_late(&mut self, now: Instant)
         ensures late { (place : ℕ) (request : J) → self.new.stage ≡ Waits place request
             → has_passed REQUEST_SECONDS self.new.looked now ≡ false }
+        ensures peer { self.new.peer ≡ self.old.peer }
     {
         if matches!(self.stage, Stage::Waits(_, _)) && is_past(self.looked, REQUEST_SECONDS, now) {
             self.close(Why::Late);
         }
     }
 
-    /// Hands out its request, if that was judged.
-    pub(crate) fn hand_out(&mut self) -> Option<J> {
+    /// Returns its request, if that was judged and came less than five seconds before `now`. It then waits for the response.
+    pub(crate) fn hand_out(&mut self, now: Instant) -> Option<J>
+        ensures passed { IfSome result (λ _. IsPassedOn now self.new) }
+        ensures peer { self.new.peer ≡ self.old.peer }
+    {
+        self.drop_late(now);
         match mem::replace(&mut self.stage, Stage::Asked) {
             Stage::Waits(_, request) => Some(request),
             other => {
@@ -197,7 +210,8 @@ impl<S: Read + Write + OpenStream + Drop, J: Drop> Connection<S, J> {
 
     /// Lets it be closed before the turn is over.
     pub(crate) fn close(&mut self, why: Why)
-        ensures { self.new.stage ≡ Closed why }
+        ensures stage { self.new.stage ≡ Closed why }
+        ensures peer { self.new.peer ≡ self.old.peer }
     {
         self.stage = Stage::Closed(why);
     }
@@ -264,7 +278,10 @@ impl<S: Read + Write + OpenStream + Drop, J: Drop> Connection<S, J> {
 
     /// Takes its response, and writes what the socket takes at once. The rest alone takes memory. A long response isn't begun while as many wait
     /// for their clients as may.
-    pub(crate) fn respond(&mut self, alloc: Global, now: Instant, bytes: &[u8], is_crowded: bool) {
+    pub(crate) fn respond(&mut self, alloc: Global, now: Instant, bytes: &[u8], is_crowded: bool)
+        ensures peer { self.new.peer ≡ self.old.peer }
+        ensures answered { is_asked self.new.stage ≡ false }
+    {
         if is_crowded && bytes.len() > SHORT_RESPONSE {
             self.close(Why::Crowded);
             return;
@@ -314,7 +331,10 @@ impl<S: Read + Write + OpenStream + Drop, J: Drop> Connection<S, J> {
     }
 
     /// Shuts it for writing, which tells the client that this was the whole response.
-    fn shut(&mut self, now: Instant) {
+    fn shut(&mut self, now: Instant)
+        ensures peer { self.new.peer ≡ self.old.peer }
+        ensures answered { is_asked self.new.stage ≡ false }
+    {
         self.moved = now;
         match self.stream.shutdown(Shutdown::Write) {
             Ok(()) => self.stage = Stage::Leaves,

@@ -109,7 +109,7 @@ impl<S: Read + OpenStream + Drop> ConverterLink<S> {
         if !self.is_live {
             return true;
         }
-        !self.look(clock) && self.holds(clock, self.heard)
+        !self.look(clock) && self.holds(Instant::now(clock).ok())
     }
 
     /// Reads what is there up to the end of a line. False if no line waits: all that came is read, or the source is at its end or broken,
@@ -225,11 +225,13 @@ impl<S: Read + OpenStream + Drop> ConverterLink<S> {
         }
     }
 
-    /// Whether a reading of that time holds still. None does once the clock can't be read.
-    fn holds(&self, clock: &impl Clock, then: Instant) -> bool {
-        match Instant::now(clock) {
-            Ok(now) => !is_past(then, FRESH_SECONDS, now),
-            Err(_) => false,
+    /// Returns true if the last reading still holds at `now`, which is `None` if the clock can't be read.
+    fn holds(&self, now: Option<Instant>) -> bool
+        ensures { result ≡ is_fresh FRESH_SECONDS (Some self.now.heard) now }
+    {
+        match now {
+            Some(now) => !is_past(self.heard, FRESH_SECONDS, now),
+            None => false,
         }
     }
 }

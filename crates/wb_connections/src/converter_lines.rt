@@ -1,5 +1,6 @@
 //! The lines of a converter, cut out of the bytes as they come.
-ghost use Rattle.std.specs.Prelude.{IfSome};
+ghost use Rattle.std.specs.Prelude.{◌≡◌, ◌<◌, IfSome, false, take, true};
+ghost use Rattle.wb_connections.specs.ConverterBytes.{after_reading, continued, has_ended, is_endless, next_reading, nothing, reading_of_line, waiting, with_spoiled_line};
 ghost use Rattle.wb_window.specs.Reading.{IsReading};
 
 use crate::limits::{ENDLESS_LINE, LINE};
@@ -28,7 +29,9 @@ pub struct Lines {
 
 impl Lines {
     /// Creates lines of which no byte came.
-    pub fn new() -> Self {
+    pub fn new() -> Self
+        ensures { waiting result ≡ nothing }
+    {
         Lines {
             room: [0; CONVERTER_ROOM],
             next: 0,
@@ -40,25 +43,34 @@ impl Lines {
     }
 
     /// Makes the first `count` bytes of the room those to be used next.
-    pub fn fill(&mut self, count: usize) {
+    pub fn fill(&mut self, count: usize)
+        ensures { (waiting self.new).unused ≡ take count self.old.room }
+    {
         self.next = 0;
         self.end = count;
     }
 
     /// Returns true if the line that has begun is too long to ever end.
-    pub fn is_endless(&self) -> bool {
+    pub fn is_endless(&self) -> bool
+        ensures { result ≡ is_endless (waiting self.now) }
+    {
         self.count >= ENDLESS_LINE
     }
 
     /// Makes the line that has begun a lost reading, whatever of it is still to come.
-    pub fn spoil(&mut self) {
+    pub fn spoil(&mut self)
+        ensures { waiting self.new ≡ with_spoiled_line (waiting self.old) }
+    {
         if self.count > 0 {
             self.line.spoil();
         }
     }
 
     /// Returns true if a line waits whose LF came. If none does, all bytes are used, or the line is endless.
-    pub fn has_line(&mut self) -> bool {
+    pub fn has_line(&mut self) -> bool
+        ensures continued { waiting self.new ≡ continued (waiting self.old) }
+        ensures value { result ≡ has_ended (waiting self.new) }
+    {
         if !self.is_whole && !self.is_endless() {
             self.continue_line();
         }
@@ -66,25 +78,30 @@ impl Lines {
     }
 
     /// Adds the unused bytes up to the next LF to the line.
-    fn continue_line(&mut self) {
-        let Some(unused) = self.room.get(self.next..self.end) else {
-            return;
-        };
-        let (added, left) = match self.line.take(unused) {
+    fn continue_line(&mut self)
+        requires { self.old.count < ENDLESS_LINE }
+        ensures { self.old.is_whole ≡ false → waiting self.new ≡ continued (waiting self.old) }
+    {
+        let came = self.room.get(..self.end).unwrap_or(&self.room);
+        let unused = came.get(self.next..).unwrap_or(&[]);
+        match self.line.take(unused) {
             Some(after) => {
                 self.is_whole = true;
-                let before = unused.len().saturating_sub(after.len()).saturating_sub(1);
-                (before, after.len())
+                self.count += unused.len() - after.len() - 1;
+                self.next = came.len() - after.len();
             }
-            None => (unused.len(), 0),
-        };
-        self.count = self.count.saturating_add(added);
-        self.next = self.end.saturating_sub(left);
+            None => {
+                self.count += unused.len();
+                self.next = came.len();
+            }
+        }
     }
 
     /// Returns the reading of the next line whose LF came, or `None` if there is none.
     pub fn next_reading(&mut self) -> Option<Reading>
-        ensures { IfSome result IsReading }
+        ensures value { result ≡ next_reading (continued (waiting self.old)) }
+        ensures after { waiting self.new ≡ after_reading (continued (waiting self.old)) }
+        ensures in_range { IfSome result IsReading }
     {
         if self.has_line() {
             Some(self.finished_line())
@@ -95,7 +112,9 @@ impl Lines {
 
     /// Returns the reading of the line that has ended, and begins the next.
     fn finished_line(&mut self) -> Reading
-        ensures { IsReading result }
+        ensures value { result ≡ reading_of_line (waiting self.old).line }
+        ensures after { has_ended (waiting self.old) ≡ true → waiting self.new ≡ after_reading (waiting self.old) }
+        ensures in_range { IsReading result }
     {
         let reading = match self.line.line() {
             Some(line) => converter_line(line),

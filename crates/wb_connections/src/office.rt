@@ -1,5 +1,9 @@
 //! The connections of the office, kept over turns. No call here waits.
-use crate::connection::{Connection, Requests, Stage, Why};
+ghost use Rattle.std.specs.List.{Any, position};
+ghost use Rattle.std.specs.Prelude.{◌≡◌, IfSome};
+ghost use Rattle.wb_connections.specs.Dispatch.{IsPassedOn, client_asked, is_asked};
+
+use crate::connection::{Connection, Requests, Stage, Why, is_asked};
 use crate::limits::{ACCEPTS_A_TURN, CONNECTIONS, WAITING_RESPONSES};
 use crate::ready::{Newcomer, accept_ready};
 use crate::report::Report;
@@ -66,25 +70,37 @@ where
         self.accept(alloc, requests, now, report, &mut room);
     }
 
-    /// Hands out the request that was judged first, of those that came less than five seconds before. The others are closed.
-    pub fn take(&mut self, now: Instant) -> Option<J> {
+    /// Returns the request that was judged first of those that came less than five seconds before `now`, or `None` if there is none. Those that came
+    /// earlier are closed.
+    pub fn take(&mut self, now: Instant) -> Option<J>
+        ensures { IfSome result (λ _. Any (λ c. IsPassedOn now c) self.new.connections.items) }
+    {
         for connection in self.connections.iter_mut() {
             connection.drop_late(now);
         }
         let first = self.first()?;
-        self.connections.get_mut(first)?.hand_out()
+        self.connections.get_mut(first)?.hand_out(now)
     }
 
-    /// Takes the response to the request that was handed out, and gives who it goes to.
-    pub fn respond(&mut self, alloc: Global, now: Instant, bytes: &[u8]) -> Option<SocketAddr> {
-        let asked = self
-            .connections
-            .iter()
-            .position(|connection| matches!(connection.stage, Stage::Asked))?;
+    #[tactic(auto, using(std::proofs::lemmas::List::Folds::find_at))]
+    /// Sends the response to the client whose request `take` returned, and returns its address; `None` if that client is gone.
+    pub fn respond(&mut self, alloc: Global, now: Instant, bytes: &[u8]) -> Option<SocketAddr>
+        ensures { result ≡ client_asked self.old.connections.items }
+    {
+        let asked = self.asked()?;
         let is_crowded = self.waiting() >= WAITING_RESPONSES;
         let connection = self.connections.get_mut(asked)?;
         connection.respond(alloc, now, bytes, is_crowded);
         Some(connection.peer)
+    }
+
+    /// Returns the index of the first connection whose request was passed on.
+    fn asked(&self) -> Option<usize>
+        ensures { result ≡ position (λ c. is_asked c.stage) self.now.connections.items }
+    {
+        self.connections
+            .iter()
+            .position(|connection| is_asked(&connection.stage))
     }
 
     /// Whether a response waits for its client.
@@ -242,7 +258,7 @@ where
     }
 }
 
-/// Tells that a connection is closed, and counts it if no byte came of its request.
+/// Logs that a connection was closed, and counts it if no byte of a request came.
 fn tell_end<R: Eprint>(
     report: &Report<'_, R>,
     peer: SocketAddr,
@@ -257,13 +273,13 @@ fn tell_end<R: Eprint>(
     }
 }
 
-/// Tells that a connection is closed, and why.
+/// Logs that a connection was closed, and why.
 fn tell_closed<R: Eprint>(report: &Report<'_, R>, peer: SocketAddr, why: Why) {
-    report.line(format_args!("office {peer}: closed, {why}"));
+    report.line(format_args!("office {peer}: closed: {why}"));
 }
 
-/// Tells that a connection is closed of whose request no byte came, and how many such there are so far.
+/// Logs that a connection was closed of whose request no byte came, and how many there are so far.
 fn tell_silent<R: Eprint>(report: &Report<'_, R>, peer: SocketAddr, count: u64) {
     let why = Why::NoRequest;
-    report.line(format_args!("office {peer}: closed, {why} ({count} so far)"));
+    report.line(format_args!("office {peer}: closed: {why} ({count} so far)"));
 }

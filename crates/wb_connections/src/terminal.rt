@@ -89,7 +89,7 @@ where
     {
         if self.came.count > 0 && is_past(self.came_after, COMMAND_SECONDS, now) {
             self.came = taken(0, false);
-            self.drop_connection(report, "what it sent waited too long");
+            self.drop_connection(report, "what it sent waited for more than 2 seconds");
         }
         let count = self.came.count.min(TERMINAL_ROOM);
         room[..count].copy_from_slice(&self.room[..count]);
@@ -110,7 +110,7 @@ where
         if self.keep(bytes) {
             self.write(now, report);
         } else {
-            self.drop_connection(report, "too many replies wait");
+            self.drop_connection(report, "it has read no replies, and 64 KiB of them wait");
         }
     }
 
@@ -159,7 +159,7 @@ where
                 }
                 Ready::End => connection.has_ended = true,
                 Ready::Fault => {
-                    self.drop_connection(report, "it is broken");
+                    self.drop_connection(report, "the connection broke");
                     return;
                 }
             }
@@ -207,7 +207,10 @@ where
         };
         let is_idle = self.came.count == 0 && is_past(connection.heard, IDLE_SECONDS, now);
         if is_idle && !self.queue.is_empty() {
-            self.drop_connection(report, "it said nothing for a minute, and another waits");
+            self.drop_connection(
+                report,
+                "it sent nothing for a minute, and another terminal waits",
+            );
         }
     }
 
@@ -237,10 +240,10 @@ where
             return;
         }
         match write_ready(&mut connection.stream, left) {
-            None => self.drop_connection(report, "it is broken"),
+            None => self.drop_connection(report, "the connection broke"),
             Some(0) => {
                 if is_past(connection.moved, DEAF_SECONDS, now) {
-                    self.drop_connection(report, "it takes no replies");
+                    self.drop_connection(report, "it has read no reply for 5 seconds");
                 }
             }
             Some(count) => {
@@ -267,7 +270,7 @@ where
         ensures { self.new.came ≡ self.old.came }
     {
         if let Some(connection) = &self.connection {
-            report.line(format_args!("terminal {}: hung up, {why}", connection.peer));
+            report.line(format_args!("terminal {}: disconnected: {why}", connection.peer));
         }
         self.connection = None;
         self.replies.clear();

@@ -43,11 +43,11 @@ impl<S: OpenStream + Drop> Waiting<S> {
                 None
             }
             Ready::Bytes(_) if is_past(self.looked, COMMAND_SECONDS, now) => {
-                Some("what it sent waited too long")
+                Some("what it sent waited for more than 2 seconds")
             }
             Ready::Bytes(_) => None,
             Ready::End => Some("it ended"),
-            Ready::Fault => Some("it is broken"),
+            Ready::Fault => Some("the connection broke"),
         };
     }
 }
@@ -122,9 +122,9 @@ where
     /// Lets one that was accepted wait, and closes it if too many do.
     fn admit<R: Eprint>(&mut self, stream: L::Stream, peer: SocketAddr, report: &Report<'_, R>) {
         if stream.set_nonblocking(true).is_err() {
-            tell_closed(report, peer, "it is broken");
+            tell_closed(report, peer, "the connection broke");
         } else if self.waiting.len() >= WAITING_TERMINALS {
-            tell_closed(report, peer, "others wait");
+            tell_closed(report, peer, "four others wait");
         } else {
             let waiting = Waiting {
                 stream,
@@ -133,13 +133,13 @@ where
                 why: None,
             };
             if self.waiting.push(waiting).is_err() {
-                tell_closed(report, peer, "want of memory");
+                tell_closed(report, peer, "out of memory");
             }
         }
     }
 }
 
-/// Tells that one that waited is closed, and why.
+/// Logs that a waiting terminal was closed, and why.
 fn tell_closed<R: Eprint>(report: &Report<'_, R>, peer: SocketAddr, why: &str) {
-    report.line(format_args!("terminal {peer}: closed, {why}"));
+    report.line(format_args!("terminal {peer}: closed: {why}"));
 }

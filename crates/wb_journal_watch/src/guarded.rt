@@ -127,7 +127,7 @@ impl<'a, S: Sources + Drop> Guarded<'a, S> {
         false
     }
 
-    /// Returns true if the response that reports this entry may leave: its journal is where it was, and its witness has the entry.
+    /// Returns true if the response that reports this entry may leave: the journal is where it was, and its witness names this entry or a newer one.
     fn may_answer(&mut self, entry: &EntryName) -> bool {
         if !self.stands() {
             return false;
@@ -141,7 +141,7 @@ impl<'a, S: Sources + Drop> Guarded<'a, S> {
         }
         self.is_lost = true;
         let _ = eprintln!(self.rt;
-            "{}-newest: it can't be written; what was stored last is answered after the next start, if it is asked for again under its key",
+            "{}-newest: it can't be written, so the newest entry isn't answered and nothing more is stored; start again, and repeat the request under its key",
             self.places.file.path
         );
         false

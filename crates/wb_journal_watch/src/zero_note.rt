@@ -42,13 +42,14 @@ impl<'a> ZeroNote<'a> {
     }
 }
 
+/// Logs that the note can't be read or written.
 fn tell_fault(rt: &HostRuntime, error: &io::Error) {
     let _ = eprintln!(rt;
-        "the note of the zero, beside the journal: {error}; the next start won't tell that it forgot the zero"
+        "the note of the zero, next to the journal: {error}; the next start can't warn that the zero was lost"
     );
 }
 
-/// Opens the note, tells what it says, and notes that the zero is the calibration's.
+/// Opens the note next to the journal at `path`, logs what it says, and notes that the zero is the calibration's.
 fn begin(rt: &HostRuntime, path: &str, interval_kg: u32) -> io::Result<File> {
     let real = fs::canonicalize(rt, path)?;
     let path = real.as_str();
@@ -69,17 +70,17 @@ fn note(rt: &HostRuntime, file: &File, tenths: i32) -> io::Result<()> {
     file.write_all_at(text.as_str().as_bytes(), 0)
 }
 
-/// The load in a note, if it is whole.
+/// Returns the load in a note, or `None` if the note isn't whole.
 fn load_of(note: &[u8]) -> Option<i32> {
     let text = str::from_utf8(note).ok()?;
     text.strip_suffix("\n")?.trim().parse::<i32>().ok()
 }
 
-/// Tells what is forgotten, unless it is nothing.
+/// Logs by how much the zero before this start differed from the calibration's, if it did.
 fn tell_zero(rt: &HostRuntime, path: &str, tenths: Option<i32>, interval_kg: u32) {
     let Some(tenths) = tenths else {
         let _ = eprintln!(rt;
-            "{path}{ENDING}: it isn't whole, as after a power cut; with the bridge empty, set zero at the terminal"
+            "{path}{ENDING}: the note of the zero isn't whole, as after a power cut; with the bridge empty, set zero at the terminal"
         );
         return;
     };
@@ -90,7 +91,7 @@ fn tell_zero(rt: &HostRuntime, path: &str, tenths: Option<i32>, interval_kg: u32
     let side = if tenths < 0 { "below" } else { "above" };
     if tenths != 0 {
         let _ = eprintln!(rt;
-            "zero was set {kilograms}.{rest} kg {side} the calibration's before this start, and is forgotten: with the bridge empty, set zero at the terminal"
+            "{path}{ENDING}: before this start zero was {kilograms}.{rest} kg {side} the calibration's, which is in force again; with the bridge empty, set zero at the terminal"
         );
     }
 }

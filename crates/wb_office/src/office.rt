@@ -53,7 +53,7 @@ impl<D: Alter> Office<D> {
         store
     }
 
-    /// Answers a request at a moment, with the scale as it stands: what `answer` of `specs/Answer.antt` says of the situation, by the verdict of
+    /// Answers a request at a moment, with the scale as it stands: what `office_answer` of `specs/Answer.antt` says of the situation, by the verdict of
     /// `specs/Verdict.antt` on a weighing or void.
     pub fn answer<W: Window>(
         &mut self,

@@ -51,6 +51,6 @@ where
     /// Closes what is still kept.
     pub(crate) fn close_all<R: Eprint>(&mut self, report: &Report<'_, R>) {
         self.office.close_all(report);
-        self.terminal.hang_up(report, "the service ends");
+        self.terminal.hang_up(report, "the service is ending");
     }
 }

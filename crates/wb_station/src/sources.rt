@@ -72,7 +72,7 @@ pub trait Sources {
     fn respond(&mut self, bytes: &[u8])
         ensures told { SourceTells [] (to_office bytes.now ∷ []) (told self.old) (told self.new) };
 
-    /// Takes what an event settled, before the replies or the response at it. Sources that need no notice drop it.
+    /// Gets the notice of an event, before the event's replies or response. Sources that need no notice drop it.
     fn notice(&mut self, _notice: &Notice)
         ensures told { MayNotice _notice.now (told self.old) (told self.new) }
     {}

@@ -22,11 +22,11 @@ const TOLD: &str = "terminal 127.0.0.1:0: accepted
 office 127.0.0.1:0: accepted
 office 127.0.0.1:1: accepted
 office 127.0.0.1:0: GET /check: 200 SOUND 0 in 7 ms
-terminal 127.0.0.1:0: hung up, it ended
+terminal 127.0.0.1:0: disconnected: it ended
 terminal 127.0.0.1:1: accepted
-office 127.0.0.1:1: closed, the service ends
-office 127.0.0.1:0: closed, it stayed after its response
-terminal 127.0.0.1:1: hung up, the service ends
+office 127.0.0.1:1: closed: the service is ending
+office 127.0.0.1:0: closed: the client kept the connection open
+terminal 127.0.0.1:1: disconnected: the service is ending
 ";
 
 /// What happens to sources, and what must be seen then.
