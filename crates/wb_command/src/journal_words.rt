@@ -1,5 +1,5 @@
 //! The words of what is asked of a journal's file.
-use crate::words::Invocation;
+use crate::words::{EXPLAINS, Invocation, with_verbose};
 use clap::{Arg, ArgAction, ArgMatches, Command};
 use std::alloc::{AllocError, Global};
 
@@ -31,10 +31,11 @@ pub(crate) fn file_argument<'a>(alloc: Global, help: &'a str) -> Arg<'a> {
 
 /// The subcommand `check`.
 pub(crate) fn check_command<'a>(alloc: Global) -> Result<Command<'a>, AllocError> {
-    Command::new(alloc, "check")
+    let check = Command::new(alloc, "check")
         .about("checks the journal in a file, and prints what it finds")
         .after_help(CHECK_EXAMPLE)
-        .arg(file_argument(alloc, "file of the journal, which has to be there"))
+        .arg(file_argument(alloc, "file of the journal, which has to be there"))?;
+    with_verbose(alloc, check, EXPLAINS)
 }
 
 fn what_argument<'a>(alloc: Global) -> Arg<'a> {
@@ -53,7 +54,8 @@ pub(crate) fn export_command<'a>(alloc: Global) -> Result<Command<'a>, AllocErro
         .about("prints the journal in a file, or its tickets, as CSV")
         .after_help(EXPORT_EXAMPLE)
         .arg(file_argument(alloc, "file of the journal, which has to be there"))?;
-    export.arg(what_argument(alloc))
+    let export = export.arg(what_argument(alloc))?;
+    with_verbose(alloc, export, EXPLAINS)
 }
 
 /// The file that a journal is written to.
@@ -77,7 +79,8 @@ pub(crate) fn migrate_command<'a>(alloc: Global) -> Result<Command<'a>, AllocErr
             alloc,
             "file of the journal of version 1, which has to be there",
         ))?;
-    migrate.arg(to_argument(alloc))
+    let migrate = migrate.arg(to_argument(alloc))?;
+    with_verbose(alloc, migrate, EXPLAINS)
 }
 
 /// The file that the words name. None if they name none, which `clap` doesn't let through.

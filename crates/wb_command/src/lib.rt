@@ -11,4 +11,4 @@ mod words;
 
 pub use service_words::Service;
 pub use setup_words::SetupFault;
-pub use words::{Invocation, REFUSED, VERSION, read_words};
+pub use words::{Asked, Invocation, REFUSED, VERSION, read_words};

@@ -1,6 +1,7 @@
 //! The words of a service.
 use crate::journal_words::file_argument;
 use crate::setup_words::with_setup;
+use crate::words::with_verbose;
 use clap::{Arg, ArgAction, ArgMatches, Command, value_parser};
 use std::alloc::{AllocError, Global};
 
@@ -8,9 +9,11 @@ use std::alloc::{AllocError, Global};
 const MOST_TURNS: i64 = 1_000_000_000;
 
 const EXAMPLE: &str = "Example:
-  weighbridge serve --file journal.db --terminal 127.0.0.1:4001 --office 127.0.0.1:8080 --converter tcp:127.0.0.1:4000
+  weighbridge serve --file journal.db --terminal 127.0.0.1:4001 --office 127.0.0.1:8080 --converter tcp:127.0.0.1:4000 \\
+    --window 10
 serves the bridge whose converter sends its lines on port 4000, until the converter ends or a million lines were read, and then
-prints how many turns there were.";
+prints how many turns there were.
+A window of fewer readings than come in a second stores a wrong weight of a load that swings: --window 10 at 10 readings a second.";
 
 /// Over what a bridge is to be served, and for how long.
 #[derive(Drop)]
@@ -79,13 +82,6 @@ fn turns_argument<'a>(alloc: Global) -> Arg<'a> {
         .help("turns after which it ends, each with a line of the converter: 1 to 1000000000")
 }
 
-fn verbose_argument<'a>(alloc: Global) -> Arg<'a> {
-    Arg::new(alloc, "verbose")
-        .long("verbose")
-        .action(ArgAction::SetTrue)
-        .help("report connections, requests and faults on standard error")
-}
-
 fn look_argument<'a>(alloc: Global) -> Arg<'a> {
     Arg::new(alloc, "check")
         .long("check")
@@ -103,7 +99,8 @@ pub(crate) fn serve_command<'a>(alloc: Global) -> Result<Command<'a>, AllocError
         .arg(file_argument(alloc, "file of the journal, made if it isn't there"))?;
     let serve = with_texts(alloc, serve)?;
     let serve = serve.arg(turns_argument(alloc))?;
-    let serve = serve.arg(verbose_argument(alloc))?;
+    let help = "report connections, requests and faults on standard error";
+    let serve = with_verbose(alloc, serve, help)?;
     let serve = serve.arg(look_argument(alloc))?;
     with_setup(alloc, serve)
 }

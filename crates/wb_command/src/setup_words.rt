@@ -118,6 +118,53 @@ pub(crate) fn instrument(words: &ArgMatches<'_>) -> Option<Result<Instrument, Se
     }
 }
 
+/// Names the option of the part that is refused, its value, and what is allowed.
+pub(crate) fn explanation(
+    alloc: Global,
+    words: &ArgMatches<'_>,
+    fault: SetupFault,
+) -> Result<String, AllocError> {
+    let SetupFault(part) = fault;
+    let (name, limits) = limits_of(part);
+    let value = match part {
+        PartFault::Serial => String::from_str(alloc, words.get_str(name).unwrap_or(""))?,
+        _ => format!(in alloc; "{}", number_of(words, name))?,
+    };
+    let range = match part {
+        PartFault::Max => range_of_max(alloc, number_of(words, "interval"))?,
+        _ => String::new(alloc),
+    };
+    format!(in alloc;
+        "--{name} {value}: it is refused, because {limits}{range}; give a value within these limits"
+    )
+}
+
+/// Returns the limits of Max for an interval of `interval_kg` kilograms.
+fn range_of_max(alloc: Global, interval_kg: u32) -> Result<String, AllocError> {
+    let least = interval_kg.saturating_mul(500);
+    let most = interval_kg.saturating_mul(10_000);
+    format!(in alloc; ", so {least} to {most} kg with --interval {interval_kg}")
+}
+
+fn number_of(words: &ArgMatches<'_>, name: &str) -> u32 {
+    words.get_one::<u32>(name).unwrap_or(0)
+}
+
+/// Returns the option of a part of the setup, and what its value may be.
+fn limits_of(part: PartFault) -> (&'static str, &'static str) {
+    match part {
+        PartFault::Interval => ("interval", "e is 1, 2, 5, 10, 20 or 50 kg"),
+        PartFault::Max => ("max", "Max is a whole multiple of e, 500 to 10000 times e"),
+        PartFault::Window => ("window", "a window has 4 to 64 readings"),
+        PartFault::Band => ("band", "the band is 1 or 2 tenths of e"),
+        PartFault::Pace => ("pace", "2 to 50 readings come in a second"),
+        PartFault::Wait => ("wait", "a command waits for 1 to 600 readings"),
+        PartFault::Serial => ("serial", "a serial has 1 to 16 characters of A-Z and 0-9"),
+        PartFault::Retention => ("retention", "an entry is kept for 1 to 3650 days"),
+        PartFault::Capacity => ("capacity", "a journal has 2 to 100000 places"),
+    }
+}
+
 /// The parts of the setup that the words give.
 fn parts<'a>(words: &ArgMatches<'a>) -> Option<Parts<'a>> {
     Some(Parts {

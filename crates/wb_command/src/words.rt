@@ -3,8 +3,8 @@ use crate::journal_words::{
     check_command, export_command, export_of, file, migrate_command, migration_of,
 };
 use crate::service_words::{Service, serve_command, service_of};
-use crate::setup_words::{SetupFault, instrument, with_setup};
-use clap::{ArgMatches, Command};
+use crate::setup_words::{SetupFault, explanation, instrument, with_setup};
+use clap::{Arg, ArgAction, ArgMatches, Command};
 use std::alloc::{AllocError, Global};
 use wb_instrument::Instrument;
 
@@ -17,6 +17,19 @@ pub const VERSION: &str = "2.1.1";
 const REPLAY_EXAMPLE: &str = "Example:
   printf 'r 9170 4\\nt SI\\n' | weighbridge replay
 takes four readings of 9170 tenths of e and a request for the weight, and prints t S S      18340 kg.";
+
+/// The help of `--verbose`, where it only explains faults.
+pub(crate) const EXPLAINS: &str =
+    "say on standard error which file or option a fault is of, and why";
+
+/// The request of a command line, and whether the program explains a fault.
+#[derive(Drop)]
+pub struct Asked {
+    /// The request.
+    pub invocation: Invocation,
+    /// Whether standard error says which file or option a fault is of, and why.
+    pub is_verbose: bool,
+}
 
 /// What the words of the command line ask for.
 #[derive(Drop)]
@@ -33,8 +46,8 @@ pub enum Invocation {
     ExportTickets(String),
     /// The journal of version 1 in the first file is to be brought into the second, as version 2.
     Migrate(String, String),
-    /// The setup is refused.
-    SetupRefused(SetupFault),
+    /// The setup is refused. The text names the option, its value and what is allowed.
+    SetupRefused(SetupFault, String),
     /// The words are refused, or ask for help or the version.
     WordsRefused(clap::Error),
     /// No subcommand, or not every word of one. `clap` refuses such words, so this doesn't come.
@@ -42,21 +55,31 @@ pub enum Invocation {
 }
 
 /// What these words ask for, the name of the program first.
-pub fn read_words(alloc: Global, words: &[String]) -> Result<Invocation, AllocError> {
+pub fn read_words(alloc: Global, words: &[String]) -> Result<Asked, AllocError> {
     let matches = match command(alloc)?.try_get_matches_from(words) {
         Ok(matches) => matches,
-        Err(error) => return Ok(Invocation::WordsRefused(error)),
+        Err(error) => return Ok(unexplained(Invocation::WordsRefused(error))),
     };
     match matches.subcommand() {
-        Some((name, words)) => asked_of(alloc, name, words),
-        None => Ok(Invocation::Nothing),
+        Some((name, words)) => Ok(Asked {
+            invocation: asked_of(alloc, name, words)?,
+            is_verbose: words.get_flag("verbose"),
+        }),
+        None => Ok(unexplained(Invocation::Nothing)),
+    }
+}
+
+fn unexplained(invocation: Invocation) -> Asked {
+    Asked {
+        invocation,
+        is_verbose: false,
     }
 }
 
 /// What the words of this subcommand ask for.
 fn asked_of(alloc: Global, name: &str, words: &ArgMatches<'_>) -> Result<Invocation, AllocError> {
     match name {
-        "replay" => Ok(replay_of(words)),
+        "replay" => replay_of(alloc, words),
         "serve" => serve_of(alloc, words),
         "check" => check_of(alloc, words),
         "export" => export_of(alloc, words),
@@ -65,11 +88,11 @@ fn asked_of(alloc: Global, name: &str, words: &ArgMatches<'_>) -> Result<Invocat
     }
 }
 
-fn replay_of(words: &ArgMatches<'_>) -> Invocation {
+fn replay_of(alloc: Global, words: &ArgMatches<'_>) -> Result<Invocation, AllocError> {
     match instrument(words) {
-        Some(Ok(instrument)) => Invocation::Replay(instrument),
-        Some(Err(fault)) => Invocation::SetupRefused(fault),
-        None => Invocation::Nothing,
+        Some(Ok(instrument)) => Ok(Invocation::Replay(instrument)),
+        Some(Err(fault)) => setup_refused(alloc, words, fault),
+        None => Ok(Invocation::Nothing),
     }
 }
 
@@ -79,9 +102,18 @@ fn serve_of(alloc: Global, words: &ArgMatches<'_>) -> Result<Invocation, AllocEr
             Some(service) => Ok(Invocation::Serve(instrument, service)),
             None => Ok(Invocation::Nothing),
         },
-        Some(Err(fault)) => Ok(Invocation::SetupRefused(fault)),
+        Some(Err(fault)) => setup_refused(alloc, words, fault),
         None => Ok(Invocation::Nothing),
     }
+}
+
+fn setup_refused(
+    alloc: Global,
+    words: &ArgMatches<'_>,
+    fault: SetupFault,
+) -> Result<Invocation, AllocError> {
+    let explanation = explanation(alloc, words, fault)?;
+    Ok(Invocation::SetupRefused(fault, explanation))
 }
 
 fn check_of(alloc: Global, words: &ArgMatches<'_>) -> Result<Invocation, AllocError> {
@@ -91,11 +123,22 @@ fn check_of(alloc: Global, words: &ArgMatches<'_>) -> Result<Invocation, AllocEr
     }
 }
 
+/// Adds `--verbose`, which has this help, to the command.
+pub(crate) fn with_verbose<'a>(
+    alloc: Global,
+    command: Command<'a>,
+    help: &'a str,
+) -> Result<Command<'a>, AllocError> {
+    let verbose = Arg::new(alloc, "verbose").long("verbose");
+    command.arg(verbose.action(ArgAction::SetTrue).help(help))
+}
+
 /// The subcommand `replay`.
 fn replay_command<'a>(alloc: Global) -> Result<Command<'a>, AllocError> {
     let replay = Command::new(alloc, "replay")
         .about("replays a trace from standard input, and prints the replies")
         .after_help(REPLAY_EXAMPLE);
+    let replay = with_verbose(alloc, replay, EXPLAINS)?;
     with_setup(alloc, replay)
 }
 

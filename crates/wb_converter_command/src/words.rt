@@ -3,7 +3,7 @@ use crate::arguments::{Text, flag, over_calibration, text_argument, text_of};
 use crate::filter_words::{FILTER_FORM, FilterWords, filter_argument, filter_of};
 use crate::making_words::{Sampling, finish_command, point_command, sampling_of};
 use clap::error::ErrorKind;
-use clap::{ArgMatches, Command};
+use clap::{ArgGroup, ArgMatches, Command};
 use std::alloc::{AllocError, Global};
 use wb_calibration::Filter;
 
@@ -170,13 +170,11 @@ fn run_command<'a>(alloc: Global) -> Result<Command<'a>, AllocError> {
     let about =
         "hands the load of each line of counts on standard input to the client that is connected";
     let run = over_calibration(alloc, "run", about, RUN_EXAMPLE)?;
-    let listen = text_argument(alloc, &LISTEN).required(false);
-    let run = run.arg(
-        listen
-            .required_unless_present("fifo")?
-            .conflicts_with("fifo")?,
-    )?;
+    let run = run.arg(text_argument(alloc, &LISTEN).required(false))?;
     let run = run.arg(text_argument(alloc, &FIFO).required(false))?;
+    // a group, so that a refusal names both
+    let receiver = ArgGroup::new(alloc, "receiver").required(true);
+    let run = run.group(receiver.arg("listen")?.arg("fifo")?)?;
     let help =
         "what the calibration has to make of the last readings, as given to finish; any other is refused";
     let run = run.arg(filter_argument(alloc, help))?;

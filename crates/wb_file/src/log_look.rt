@@ -42,10 +42,15 @@ pub(crate) fn open_locked(rt: &HostRuntime, path: &str) -> Result<File, FileFaul
         return Err(FileFault::Disk);
     }
     let file = fs::open(rt, path)?;
-    if os::try_lock_range(file.as_raw_fd(), RangeLock::Shared, LOCKED_FROM, LOCKED) != 0 {
+    if is_locked(&file) {
         return Err(FileFault::Disk);
     }
     Ok(file)
+}
+
+/// Returns true if a program has the database in this file open, and keeps others from it.
+pub(crate) fn is_locked(file: &File) -> bool {
+    os::try_lock_range(file.as_raw_fd(), RangeLock::Shared, LOCKED_FROM, LOCKED) != 0
 }
 
 /// Opens for reading what may lie beside a database, if it is there. What is no plain file is a fault.
@@ -70,7 +75,7 @@ pub(crate) fn look_beside(rt: &HostRuntime, path: &str, length: u64) -> Result<(
         Ok(()) => Ok(()),
         Err(refusal) => {
             let _ = eprintln!(rt;
-                "{log}: {refusal}; nothing was opened or changed, keep both files: see operating.md, A log that is refused"
+                "{log}: {refusal}; nothing was opened or changed, keep both files: see troubleshooting.md, A log that is refused"
             );
             Err(FileFault::Disk)
         }

@@ -121,7 +121,7 @@ impl<'a, S: Sources + Drop> Guarded<'a, S> {
         }
         self.is_lost = true;
         let _ = eprintln!(self.rt;
-            "{}: while it was served, it or its log was removed, replaced, cut or given a second name; nothing more is stored: see operating.md, The store's faults",
+            "{}: while it was served, it or its log was removed, replaced, cut or given a second name; nothing more is stored: see troubleshooting.md, Files that were touched",
             file.path
         );
         false

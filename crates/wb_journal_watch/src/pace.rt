@@ -70,7 +70,7 @@ impl<'a> Pace<'a> {
         }
         self.stated = None;
         let _ = eprintln!(self.rt;
-            "pace: {} readings came in {} s, and --pace states {stated} a second: what the scale does by time, it does by readings; see operating.md, Setting up",
+            "pace: {} readings came in {} s, and --pace states {stated} a second: what the scale does by time, it does by readings; see install.md, Describe your instrument",
             self.count,
             millis / 1_000
         );

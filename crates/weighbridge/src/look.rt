@@ -1,28 +1,61 @@
-//! A look whether a service would start. Nothing is started, made or written.
+//! A look whether a service would start. Nothing is started, and nothing that is made stays.
+use crate::explaining::{Files, explain};
 use crate::journal::{Task, over_journal};
 use crate::printing::Print;
 use crate::service::{ServiceFault, tell_cause};
-use crate::start::print_start;
+use crate::start::{Newest, print_start};
 use std::fs;
+use std::net::TcpListener;
 use wb_command::Service;
-use wb_file::JournalFile;
+use wb_file::{FileCause, Finding, JournalFile, cause_of_reading, cause_of_writing};
 use wb_instrument::Instrument;
+use wb_program::PrintFault;
 use wb_sockets::{AddressFault, Cause, ConverterFault, listen, loopback};
+use wb_store::StoreFault;
 
 /// What names of files beside the journal have behind its own.
 static BESIDE: [&str; 3] = ["", "-wal", "-newest"];
 
-/// Looks at what a start would open, in its order, and prints what it would tell. The converter isn't opened, and an address that is in use is only
-/// told: the service itself may listen there now.
+/// Inspects what a start would open, in its order, and prints the line that a start logs. The converter isn't opened. An address in use is a fault,
+/// unless another program holds the journal too. That is the running service of this file, and standard error says so.
 pub(crate) fn look_at_start(
     rt: &HostRuntime,
     instrument: &Instrument,
     service: &Service,
 ) -> Result<(), ServiceFault> {
-    look_at_journal(rt, instrument, service)?;
-    look_at_address(rt, service, "terminal", &service.terminal)?;
-    look_at_address(rt, service, "office", &service.office)?;
+    let runs = is_held(rt, service) && is_any_in_use(rt, service);
+    if runs {
+        print_start(rt, instrument, service, Newest::NotRead);
+        let _ = eprintln!(rt;
+            "journal {}: the running service holds it; stop that before another start",
+            service.file
+        );
+    } else {
+        look_at_journal(rt, instrument, service)?;
+    }
+    let _terminal = look_at_address(rt, service, "terminal", &service.terminal, runs)?;
+    let _office = look_at_address(rt, service, "office", &service.office, runs)?;
     look_at_converter(rt, service)
+}
+
+/// Returns true if another program holds the journal.
+fn is_held(rt: &HostRuntime, service: &Service) -> bool {
+    match cause_of_reading(rt, service.file.as_str()) {
+        Some(Finding { cause, .. }) => cause == FileCause::Held,
+        None => false,
+    }
+}
+
+/// Returns true if another program listens on one of the addresses.
+fn is_any_in_use(rt: &HostRuntime, service: &Service) -> bool {
+    is_in_use(rt, service.terminal.as_str()) || is_in_use(rt, service.office.as_str())
+}
+
+fn is_in_use(rt: &HostRuntime, address: &str) -> bool {
+    match listen(rt, address) {
+        Ok(_) => false,
+        Err(AddressFault(cause)) => cause == Cause::InUse,
+    }
 }
 
 fn look_at_journal(
@@ -31,8 +64,12 @@ fn look_at_journal(
     service: &Service,
 ) -> Result<(), ServiceFault> {
     let path = service.file.as_str();
+    if cause_of_writing(rt, path).is_some() {
+        explain(rt, Files::Served(path), StoreFault::Disk);
+        return Err(ServiceFault::Journal(PrintFault::Store(StoreFault::Disk)));
+    }
     if would_be_made(rt, path) {
-        print_start(rt, instrument, service, None);
+        print_start(rt, instrument, service, Newest::Nothing);
         return Ok(());
     }
     let opened = JournalFile::open_copy(rt, path);
@@ -40,22 +77,14 @@ fn look_at_journal(
     Ok(())
 }
 
-/// Whether nothing of the journal is there, and a folder in which it can be made is.
+/// Returns true if no file of the journal is there.
 fn would_be_made(rt: &HostRuntime, path: &str) -> bool {
     for ending in &BESIDE {
         if is_there(rt, path, ending) {
             return false;
         }
     }
-    let folder = match path.rsplit_once('/') {
-        Some(("", _)) => "/",
-        Some((folder, _)) => folder,
-        None => ".",
-    };
-    match fs::metadata(rt, folder) {
-        Ok(found) => found.is_dir(),
-        Err(_) => false,
-    }
+    true
 }
 
 fn is_there(rt: &HostRuntime, path: &str, ending: &str) -> bool {
@@ -65,21 +94,25 @@ fn is_there(rt: &HostRuntime, path: &str, ending: &str) -> bool {
     }
 }
 
+/// Listens at the address. Returns None if the running service listens there.
 fn look_at_address(
     rt: &HostRuntime,
     service: &Service,
     whose: &str,
     address: &str,
-) -> Result<(), ServiceFault> {
-    let Err(fault) = listen(rt, address) else {
-        return Ok(());
-    };
-    let AddressFault(cause) = fault;
-    tell_cause(rt, service, whose, address, cause);
-    if cause == Cause::InUse {
-        Ok(())
-    } else {
-        Err(ServiceFault::Address(fault))
+    runs: bool,
+) -> Result<Option<TcpListener>, ServiceFault> {
+    match listen(rt, address) {
+        Ok(listener) => Ok(Some(listener)),
+        Err(fault) => {
+            let AddressFault(cause) = fault;
+            tell_cause(rt, service, whose, address, cause);
+            if runs && cause == Cause::InUse {
+                Ok(None)
+            } else {
+                Err(ServiceFault::Address(fault))
+            }
+        }
     }
 }
 

@@ -2,6 +2,7 @@
 #![tactic(auto)]
 
 mod built;
+mod explaining;
 mod journal;
 mod look;
 mod printing;
@@ -10,17 +11,19 @@ mod start;
 mod streams;
 
 use crate::built::{KIT, SOURCES};
+use crate::explaining::{Files, explain};
 use crate::journal::{Done, Task, over_journal};
 use crate::look::look_at_start;
 use crate::printing::Print;
+use crate::service::ServiceFault;
 use crate::streams::filled;
 use clap::error::ErrorKind;
 use std::io;
 use std::process::ExitCode;
-use wb_command::{Invocation, REFUSED, Service, read_words};
+use wb_command::{Asked, Invocation, REFUSED, Service, read_words};
 use wb_file::JournalFile;
 use wb_instrument::Instrument;
-use wb_program::{ReplayEnd, ServeEnd, What, replay};
+use wb_program::{PrintFault, ReplayEnd, ServeEnd, What, replay};
 use wb_store::StoreFault;
 
 /// The status of a damaged journal, and of any fault but refused words or a refused setup.
@@ -32,18 +35,30 @@ fn main(rt: HostRuntime) -> io::Result<ExitCode> {
     for word in std::env::args(&rt)? {
         words.push(word)?;
     }
-    match read_words(rt.alloc(), words.as_slice())? {
+    let Asked {
+        invocation,
+        is_verbose,
+    } = read_words(rt.alloc(), words.as_slice())?;
+    match invocation {
         Invocation::Replay(instrument) => run_replay(&rt, instrument),
         Invocation::Serve(instrument, service) => run_service(&rt, instrument, &service),
-        Invocation::Check(path) => run_print(&rt, &path, Print::Check),
-        Invocation::ExportJournal(path) => run_print(&rt, &path, Print::Export(What::Journal)),
-        Invocation::ExportTickets(path) => run_print(&rt, &path, Print::Export(What::Tickets)),
+        Invocation::Check(path) => run_print(&rt, &path, Print::Check, is_verbose),
+        Invocation::ExportJournal(path) => {
+            run_print(&rt, &path, Print::Export(What::Journal), is_verbose)
+        }
+        Invocation::ExportTickets(path) => {
+            run_print(&rt, &path, Print::Export(What::Tickets), is_verbose)
+        }
         Invocation::Migrate(from, to) => run_over(
             &rt,
             JournalFile::migrate(&rt, &from, &to),
             Task::Print(Print::Migrated),
+            explained(is_verbose, Files::Migrated(&from, &to)),
         ),
-        Invocation::SetupRefused(fault) => {
+        Invocation::SetupRefused(fault, explanation) => {
+            if is_verbose {
+                eprintln!(rt; "{explanation}")?;
+            }
             eprintln!(rt; "{fault}")?;
             Ok(ExitCode::from(fault.status()))
         }
@@ -85,25 +100,41 @@ fn run_service(
         return run_look(rt, &instrument, service);
     }
     let opened = JournalFile::open(rt, service.file.as_str());
-    run_over(rt, opened, Task::Serve(instrument, service))
+    run_over(rt, opened, Task::Serve(instrument, service), None)
 }
 
 /// Prints this of the journal in the file.
-fn run_print(rt: &HostRuntime, path: &str, print: Print<'_>) -> io::Result<ExitCode> {
-    run_over(rt, JournalFile::open_copy(rt, path), Task::Print(print))
+fn run_print(
+    rt: &HostRuntime,
+    path: &str,
+    print: Print<'_>,
+    is_verbose: bool,
+) -> io::Result<ExitCode> {
+    let opened = JournalFile::open_copy(rt, path);
+    let files = explained(is_verbose, Files::Read(path));
+    run_over(rt, opened, Task::Print(print), files)
 }
 
-/// Does this over a journal, or reports the fault that was met.
+/// Returns the files whose fault the program explains. None without `--verbose`.
+fn explained(is_verbose: bool, files: Files<'_>) -> Option<Files<'_>> {
+    if is_verbose { Some(files) } else { None }
+}
+
+/// Does this over a journal, or reports the fault that was met. Of these files it is explained.
 fn run_over(
     rt: &HostRuntime,
     opened: Result<JournalFile, StoreFault>,
     task: Task<'_>,
+    files: Option<Files<'_>>,
 ) -> io::Result<ExitCode> {
     match over_journal(rt, opened, task) {
         Ok(Done::Served(end)) => end_service(rt, end),
         Ok(Done::Printed(true)) => Ok(ExitCode::SUCCESS),
         Ok(Done::Printed(false)) => Ok(ExitCode::from(FAULT)),
         Err(fault) => {
+            if let (Some(files), ServiceFault::Journal(PrintFault::Store(fault))) = (files, fault) {
+                explain(rt, files, fault);
+            }
             eprintln!(rt; "{fault}")?;
             Ok(ExitCode::from(FAULT))
         }

@@ -1,5 +1,5 @@
 //! What is printed of a journal in a file.
-use crate::start::print_start;
+use crate::start::{newest_of, print_start};
 use sqlite::Alter;
 use std::{io, str};
 use wb_command::Service;
@@ -33,7 +33,7 @@ pub(crate) fn print_from<D: Alter>(
         }
         Print::Migrated => print_migrated(store, out)?,
         Print::Start(instrument, service) => {
-            print_start(rt, instrument, service, store.newest().unwrap_or(None));
+            print_start(rt, instrument, service, newest_of(store));
             tell_damage(rt, store, ", and would be served as it is");
         }
     }

@@ -1,7 +1,9 @@
 //! The service of a bridge, over files and sockets.
+use crate::explaining::{Files, explain};
 use crate::start::tell_start;
 use sqlite::Alter;
 use std::fmt::Display;
+use std::io::IsTerminal;
 use std::net::{TcpListener, TcpStream};
 use thiserror::Error;
 use wb_command::Service;
@@ -86,7 +88,18 @@ fn serve_station<D: Alter + Drop>(
     service: &Service,
 ) -> Result<ServeEnd, ServiceFault> {
     let mut sources = open_guarded(rt, interval_kg, pace, service)?;
+    tell_ready(rt, service);
     serve_sources(station, &mut sources, service.turns)
+}
+
+/// Says what is served and how it is ended, if standard error is a terminal. No program reads that.
+fn tell_ready(rt: &HostRuntime, service: &Service) {
+    if rt.stderr().is_terminal() {
+        let _ = eprintln!(rt;
+            "weighbridge: it listens on {} for the terminal and on {} for the office; to end it, press Ctrl+C",
+            service.terminal, service.office
+        );
+    }
 }
 
 fn serve_sources<D: Alter + Drop>(
@@ -183,21 +196,10 @@ pub(crate) fn journal_fault(
     service: &Service,
     fault: StoreFault,
 ) -> ServiceFault {
-    tell_cause(rt, service, "journal", &service.file, cause_of(fault));
-    ServiceFault::Journal(PrintFault::Store(fault))
-}
-
-/// Why a journal isn't opened, in words.
-fn cause_of(fault: StoreFault) -> &'static str {
-    match fault {
-        StoreFault::Memory => "want of memory",
-        StoreFault::Disk => "it can't be read or written whole, or another program has it",
-        StoreFault::Size => "it is larger than a journal can be",
-        StoreFault::Foreign => "it is no journal of this program",
-        StoreFault::OldVersion =>
-            "it is a journal of version 1: weighbridge migrate brings it over",
-        _ => "it isn't open",
+    if service.is_verbose || service.is_look {
+        explain(rt, Files::Served(service.file.as_str()), fault);
     }
+    ServiceFault::Journal(PrintFault::Store(fault))
 }
 
 /// A station over the store.

@@ -8,13 +8,22 @@ use wb_instrument::Instrument;
 use wb_journal::Entry;
 use wb_store::Store;
 
+/// A journal's newest entry, as far as the program knows it.
+#[derive(Drop)]
+pub(crate) enum Newest {
+    Entry(Entry),
+    /// There is none.
+    Nothing,
+    /// The journal isn't read, because another program holds it.
+    NotRead,
+}
+
 /// What starts: which program, how it is set up, and what it serves.
 #[derive(Drop)]
 struct Start<'a> {
     instrument: &'a Instrument,
     service: &'a Service,
-    /// The newest entry of the journal.
-    newest: Option<Entry>,
+    newest: Newest,
 }
 
 impl Display for Start<'_> {
@@ -26,8 +35,11 @@ impl Display for Start<'_> {
         self.write_setup(f)?;
         write!(f, "; {}, ", self.service.file)?;
         match &self.newest {
-            Some(entry) => write!(f, "newest {} {}", entry.number(), entry.digest().as_str())?,
-            None => f.write_str("no entry")?,
+            Newest::Entry(entry) => {
+                write!(f, "newest {} {}", entry.number(), entry.digest().as_str())?
+            }
+            Newest::Nothing => f.write_str("no entry")?,
+            Newest::NotRead => f.write_str("not read")?,
         }
         let Service {
             terminal,
@@ -68,10 +80,18 @@ pub(crate) fn tell_start<D: Alter>(
     let start = Start {
         instrument,
         service,
-        newest: store.newest().unwrap_or(None),
+        newest: newest_of(store),
     };
     let _ = eprintln!(rt; "start: {start}");
     warn(rt, instrument);
+}
+
+/// Returns the newest entry of the store, as far as it can be read.
+pub(crate) fn newest_of<D: Alter>(store: &mut Store<D>) -> Newest {
+    match store.newest() {
+        Ok(Some(entry)) => Newest::Entry(entry),
+        Ok(None) | Err(_) => Newest::Nothing,
+    }
 }
 
 /// Prints the same on standard output.
@@ -79,7 +99,7 @@ pub(crate) fn print_start(
     rt: &HostRuntime,
     instrument: &Instrument,
     service: &Service,
-    newest: Option<Entry>,
+    newest: Newest,
 ) {
     let start = Start {
         instrument,
@@ -95,7 +115,7 @@ fn warn(rt: &HostRuntime, instrument: &Instrument) {
     let (window, pace) = (instrument.window(), instrument.pace());
     if window < pace {
         let _ = eprintln!(rt;
-            "warning: a window of {window} readings at {pace} a second is shorter than a second: a load that still moves may be stored; see operating.md, Setting up"
+            "warning: a window of {window} readings at {pace} a second is shorter than a second: a load that still moves may be stored; see install.md, Describe your instrument"
         );
     }
 }

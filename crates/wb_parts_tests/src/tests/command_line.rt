@@ -5,7 +5,7 @@ use std::alloc::Global;
 use std::fmt::Write;
 use std::process::Abort;
 use std::test::Fail;
-use wb_command::{Invocation, Service, SetupFault, read_words};
+use wb_command::{Asked, Invocation, Service, SetupFault, read_words};
 use wb_instrument::Instrument;
 
 /// The words of a command line, and how they are understood (or a part of it).
@@ -97,6 +97,50 @@ static FAULTS: [Row; 10] = [
     ),
 ];
 
+/// Words whose setup is refused, and how that is explained.
+static EXPLANATIONS: [Row; 10] = [
+    Row(
+        "weighbridge replay --interval 3",
+        "--interval 3: it is refused, because e is 1, 2, 5, 10, 20 or 50 kg; give a value within these limits",
+    ),
+    Row(
+        "weighbridge replay --max 1",
+        "--max 1: it is refused, because Max is a whole multiple of e, 500 to 10000 times e, so 10000 to 200000 kg with --interval 20; give a value within these limits",
+    ),
+    Row(
+        "weighbridge replay --interval 50 --max 24950",
+        "--max 24950: it is refused, because Max is a whole multiple of e, 500 to 10000 times e, so 25000 to 500000 kg with --interval 50; give a value within these limits",
+    ),
+    Row(
+        "weighbridge replay --window 65",
+        "--window 65: it is refused, because a window has 4 to 64 readings; give a value within these limits",
+    ),
+    Row(
+        "weighbridge replay --band 0",
+        "--band 0: it is refused, because the band is 1 or 2 tenths of e; give a value within these limits",
+    ),
+    Row(
+        "weighbridge replay --pace 51",
+        "--pace 51: it is refused, because 2 to 50 readings come in a second; give a value within these limits",
+    ),
+    Row(
+        "weighbridge replay --wait 601",
+        "--wait 601: it is refused, because a command waits for 1 to 600 readings; give a value within these limits",
+    ),
+    Row(
+        "weighbridge replay --serial wb01",
+        "--serial wb01: it is refused, because a serial has 1 to 16 characters of A-Z and 0-9; give a value within these limits",
+    ),
+    Row(
+        "weighbridge replay --retention 0",
+        "--retention 0: it is refused, because an entry is kept for 1 to 3650 days; give a value within these limits",
+    ),
+    Row(
+        "weighbridge serve --file a --terminal b --office c --converter d --capacity 1",
+        "--capacity 1: it is refused, because a journal has 2 to 100000 places; give a value within these limits",
+    ),
+];
+
 static SERVICES: [Row; 5] = [
     Row(
         "weighbridge serve --file f.db --terminal 127.0.0.1:1 --office 127.0.0.1:2 --converter tcp:127.0.0.1:3",
@@ -108,11 +152,11 @@ static SERVICES: [Row; 5] = [
     ),
     Row(
         "weighbridge serve --file f.db --terminal 127.0.0.1:1 --office 127.0.0.1:2 --converter tcp:127.0.0.1:3 --turns 1000000000 --verbose",
-        "serve: WB01 20 60000 4 2 10 20 90 1000, f.db 127.0.0.1:1 127.0.0.1:2 tcp:127.0.0.1:3 1000000000 verbose",
+        "serve: WB01 20 60000 4 2 10 20 90 1000, f.db 127.0.0.1:1 127.0.0.1:2 tcp:127.0.0.1:3 1000000000 verbose, explained",
     ),
     Row(
         "weighbridge serve --file f.db --terminal 127.0.0.1:1 --office 127.0.0.1:2 --converter tcp:127.0.0.1:3 --verbose --interval 10",
-        "serve: WB01 10 60000 4 2 10 20 90 1000, f.db 127.0.0.1:1 127.0.0.1:2 tcp:127.0.0.1:3 1000000 verbose",
+        "serve: WB01 10 60000 4 2 10 20 90 1000, f.db 127.0.0.1:1 127.0.0.1:2 tcp:127.0.0.1:3 1000000 verbose, explained",
     ),
     Row(
         "weighbridge serve --check --file f.db --terminal 127.0.0.1:1 --office 127.0.0.1:2 --converter c",
@@ -120,12 +164,20 @@ static SERVICES: [Row; 5] = [
     ),
 ];
 
-static CHECKS: [Row; 2] = [
+static CHECKS: [Row; 3] = [
+    Row(
+        "weighbridge check --file journal.db --verbose",
+        "check: journal.db, explained",
+    ),
     Row("weighbridge check --file journal.db", "check: journal.db"),
     Row("weighbridge check --file=journal.db", "check: journal.db"),
 ];
 
-static EXPORTS: [Row; 2] = [
+static EXPORTS: [Row; 3] = [
+    Row(
+        "weighbridge export --verbose --file journal.db --what journal",
+        "export journal: journal.db, explained",
+    ),
     Row(
         "weighbridge export --file journal.db --what journal",
         "export journal: journal.db",
@@ -136,7 +188,11 @@ static EXPORTS: [Row; 2] = [
     ),
 ];
 
-static MIGRATIONS: [Row; 2] = [
+static MIGRATIONS: [Row; 3] = [
+    Row(
+        "weighbridge migrate --file journal.db --to new.db --verbose",
+        "migrate: journal.db to new.db, explained",
+    ),
     Row(
         "weighbridge migrate --file journal.db --to new.db",
         "migrate: journal.db to new.db",
@@ -225,7 +281,16 @@ static REFUSALS: [Row; 32] = [
 ];
 
 /// Words, and what their help holds.
-static HELP: [Row; 40] = [
+static HELP: [Row; 46] = [
+    Row("weighbridge replay --help", "--verbose"),
+    Row("weighbridge check --help", "--verbose"),
+    Row("weighbridge export --help", "--verbose"),
+    Row("weighbridge migrate --help", "--verbose"),
+    Row("weighbridge serve --help", "--window 10\n"),
+    Row(
+        "weighbridge serve --help",
+        "a wrong weight of a load that swings",
+    ),
     Row(
         "weighbridge --help",
         "terminal and office of a public weighbridge",
@@ -293,7 +358,7 @@ fn cut(alloc: Global, line: &str, words: &mut Vec<String>) -> Result<(), Fail> {
     Ok(())
 }
 
-fn asked_by(alloc: Global, line: &str) -> Result<Invocation, Fail> {
+fn asked_by(alloc: Global, line: &str) -> Result<Asked, Fail> {
     let mut words = Vec::new(alloc);
     cut(alloc, line, &mut words)?;
     Ok(read_words(alloc, words.as_slice())?)
@@ -364,15 +429,38 @@ fn write_asked(asked: &Invocation, text: &mut String) -> Result<(), Fail> {
         Invocation::ExportJournal(file) => write_both("export journal: ", file.as_str(), text),
         Invocation::ExportTickets(file) => write_both("export tickets: ", file.as_str(), text),
         Invocation::Migrate(from, to) => write_migration(from.as_str(), to.as_str(), text),
-        Invocation::SetupRefused(fault) => write_fault(fault, text),
+        Invocation::SetupRefused(fault, _) => write_fault(fault, text),
         Invocation::WordsRefused(error) => write_error(error, text),
         Invocation::Nothing => write_both("nothing", "", text),
     }
 }
 
 fn understand(alloc: Global, line: &str, text: &mut String) -> Result<(), Fail> {
-    let asked = asked_by(alloc, line)?;
-    write_asked(&asked, text)
+    let Asked {
+        invocation,
+        is_verbose,
+    } = asked_by(alloc, line)?;
+    write_asked(&invocation, text)?;
+    if is_verbose {
+        push(", explained", text)?;
+    }
+    Ok(())
+}
+
+fn explain(alloc: Global, line: &str, text: &mut String) -> Result<(), Fail> {
+    let Asked { invocation, .. } = asked_by(alloc, line)?;
+    match &invocation {
+        Invocation::SetupRefused(_, explanation) => push(explanation.as_str(), text),
+        _ => push("not refused", text),
+    }
+}
+
+fn is_explained(rt: &impl Abort, alloc: Global, row: &Row) -> Result<(), Fail> {
+    let Row(line, wanted) = row;
+    let mut text = String::new(alloc);
+    explain(alloc, line, &mut text)?;
+    assert_text(rt, line, text.as_str(), wanted);
+    Ok(())
 }
 
 fn is_understood(rt: &impl Abort, alloc: Global, row: &Row) -> Result<(), Fail> {
@@ -421,6 +509,14 @@ fn sets_up_a_road_weighbridge_and_each_part_that_is_given(rt: HostRuntime) -> Re
 #[test]
 fn refuses_a_setup_by_number_and_name(rt: HostRuntime) -> Result<(), Fail> {
     are_understood(&rt, rt.alloc(), &FAULTS)
+}
+
+#[test]
+fn explains_a_setup_that_is_refused(rt: HostRuntime) -> Result<(), Fail> {
+    for row in &EXPLANATIONS {
+        is_explained(&rt, rt.alloc(), row)?;
+    }
+    Ok(())
 }
 
 #[test]

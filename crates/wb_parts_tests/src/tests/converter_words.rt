@@ -61,11 +61,16 @@ static WORDS: [Row; 11] = [
 /// The words of a command line that are refused, how that begins with its status, and what it holds.
 struct Refused(&'static str, &'static str, &'static str);
 
-static REFUSED: [Refused; 17] = [
+static REFUSED: [Refused; 18] = [
+    Refused(
+        "weighbridge-converter run",
+        "2: ",
+        "<--listen <ADDRESS>|--fifo <PATH>>",
+    ),
     Refused(
         "weighbridge-converter run --calibration F",
         "2: ",
-        "--listen",
+        "<--listen <ADDRESS>|--fifo <PATH>>",
     ),
     Refused(
         "weighbridge-converter run --calibration F --listen 127.0.0.1:4000 --fifo P",
