@@ -7,8 +7,8 @@ use std::test::Fail;
 use wb_calibration::{Calibration, Filter, Point, Readings};
 use wb_calibration_file::{points_of, text_of};
 use wb_converter::{
-    Filtering, Outbox, SampleFault, answer, counts_line, mean, read_counts, sensitivity,
-    spread, tenths_of_weights, with_point,
+    Filtering, Outbox, SampleFault, answer, counts_line, mean, read_counts, sensitivity, spread,
+    tenths_of_weights, with_point,
 };
 use wb_input::LineBuffer;
 
@@ -244,5 +244,8 @@ fn cuts_lines(rt: HostRuntime) {
     assert!(rt; lines.line().is_none(), "spoiled");
     lines.begin();
     assert!(rt; lines.take(b"3\n") == Some(b"".as_slice()));
-    assert!(rt; lines.line() == Some(b"3".as_slice()), "the line after a spoiled one");
+    assert!(rt;
+        lines.line() == Some(b"3".as_slice()),
+        "the line after a spoiled one"
+    );
 }
