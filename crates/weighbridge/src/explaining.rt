@@ -1,15 +1,15 @@
-//! Which file a fault of the store is of, and why, in words.
+//! Explanations of the store's faults: which file, and why.
 use wb_file::{Finding, cause_of_reading, cause_of_writing};
 use wb_store::StoreFault;
 
-/// The files that a fault can be of.
+/// The files that a command uses.
 #[derive(Clone, Copy)]
 pub(crate) enum Files<'a> {
-    /// A journal that was to be served.
+    /// The journal of a service.
     Served(&'a str),
-    /// A journal that was to be read.
+    /// A journal to read.
     Read(&'a str),
-    /// A journal that was to be migrated, and the new file.
+    /// A journal to migrate, and the new file.
     Migrated(&'a str, &'a str),
 }
 
@@ -40,7 +40,7 @@ fn find<'a>(rt: &HostRuntime, files: Files<'a>) -> Option<(&'a str, Finding)> {
     }
 }
 
-/// The file that a fault is of, where no look at the files is needed.
+/// Returns the file that `fault` is of, by the fault alone.
 fn file_of<'a>(files: Files<'a>, fault: StoreFault) -> &'a str {
     match files {
         Files::Migrated(_, to) if fault == StoreFault::NotEmpty => to,
