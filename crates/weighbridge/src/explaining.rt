@@ -40,7 +40,7 @@ fn find<'a>(rt: &HostRuntime, files: Files<'a>) -> Option<(&'a str, Finding)> {
     }
 }
 
-/// Returns the file that `fault` is of, by the fault alone.
+/// Returns the file that has `fault`, as its kind says.
 fn file_of<'a>(files: Files<'a>, fault: StoreFault) -> &'a str {
     match files {
         Files::Migrated(_, to) if fault == StoreFault::NotEmpty => to,
