@@ -9,7 +9,7 @@ use std::io::ErrorKind;
 use std::os::unix::fs::{FileExt, MetadataExt, OpenOptionsExt};
 use std::{fmt, fs, io};
 
-/// What the names of a journal's files have behind the journal's own.
+/// Endings of the names of a journal's files, after the journal's own name.
 static FILES: [&str; 4] = ["", LOG, ENDING, "-zero"];
 
 /// Why a file can't be read or written.
@@ -68,7 +68,7 @@ impl Display for FileCause {
 /// Which of a journal's files can't be read or written, and why.
 #[derive(Clone, Copy, Debug, PartialEq, Eq)]
 pub struct Finding {
-    /// What the file's name has behind the journal's.
+    /// The ending of the file's name, after the journal's.
     pub ending: &'static str,
     /// Why.
     pub cause: FileCause,
@@ -211,7 +211,7 @@ fn probe(rt: &HostRuntime, folder: &str) -> io::Result<()> {
     fs::remove_file(rt, name.as_str())
 }
 
-/// The cause of an error. The second is the one of a permission that is lacking.
+/// Returns the cause of an error, `denied` for a lacking permission.
 fn cause_of(error: &io::Error, denied: FileCause) -> FileCause {
     match error.kind() {
         ErrorKind::NotFound => FileCause::NotThere,

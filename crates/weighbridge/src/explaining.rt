@@ -5,11 +5,11 @@ use wb_store::StoreFault;
 /// The files that a fault can be of.
 #[derive(Clone, Copy)]
 pub(crate) enum Files<'a> {
-    /// A journal that was to be served.
+    /// The journal of a service.
     Served(&'a str),
-    /// A journal that was to be read.
+    /// The journal of a check or an export.
     Read(&'a str),
-    /// A journal that was to be migrated, and the new file.
+    /// The old and the new file of a migration.
     Migrated(&'a str, &'a str),
 }
 
@@ -40,7 +40,7 @@ fn find<'a>(rt: &HostRuntime, files: Files<'a>) -> Option<(&'a str, Finding)> {
     }
 }
 
-/// The file that a fault is of, where no look at the files is needed.
+/// Returns the file that a fault is of, if the fault itself names the cause.
 fn file_of<'a>(files: Files<'a>, fault: StoreFault) -> &'a str {
     match files {
         Files::Migrated(_, to) if fault == StoreFault::NotEmpty => to,
