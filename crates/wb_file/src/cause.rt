@@ -9,7 +9,7 @@ use std::io::ErrorKind;
 use std::os::unix::fs::{FileExt, MetadataExt, OpenOptionsExt};
 use std::{fmt, fs, io};
 
-/// The endings of a journal's files, after the journal's own name.
+/// Endings of the names of a journal's files, after the journal's own name.
 static FILES: [&str; 4] = ["", LOG, ENDING, "-zero"];
 
 /// Why a file can't be read or written.
@@ -211,7 +211,7 @@ fn probe(rt: &HostRuntime, folder: &str) -> io::Result<()> {
     fs::remove_file(rt, name.as_str())
 }
 
-/// Returns the cause of an error. `denied` is the cause if a permission is missing.
+/// Returns the cause of an error, `denied` for a lacking permission.
 fn cause_of(error: &io::Error, denied: FileCause) -> FileCause {
     match error.kind() {
         ErrorKind::NotFound => FileCause::NotThere,

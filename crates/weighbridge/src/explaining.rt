@@ -1,15 +1,15 @@
-//! Explanations of the store's faults: which file, and why.
+//! Which file a fault of the store is of, and why, in words.
 use wb_file::{Finding, cause_of_reading, cause_of_writing};
 use wb_store::StoreFault;
 
-/// The files that a command uses.
+/// The files that a fault can be of.
 #[derive(Clone, Copy)]
 pub(crate) enum Files<'a> {
     /// The journal of a service.
     Served(&'a str),
-    /// A journal to read.
+    /// The journal of a check or an export.
     Read(&'a str),
-    /// A journal to migrate, and the new file.
+    /// The old and the new file of a migration.
     Migrated(&'a str, &'a str),
 }
 
@@ -40,7 +40,7 @@ fn find<'a>(rt: &HostRuntime, files: Files<'a>) -> Option<(&'a str, Finding)> {
     }
 }
 
-/// Returns the file that has `fault`, as its kind says.
+/// Returns the file that a fault is of, if the fault itself names the cause.
 fn file_of<'a>(files: Files<'a>, fault: StoreFault) -> &'a str {
     match files {
         Files::Migrated(_, to) if fault == StoreFault::NotEmpty => to,
