@@ -9,8 +9,8 @@ use std::io::ErrorKind;
 use std::os::unix::fs::{FileExt, MetadataExt, OpenOptionsExt};
 use std::{fmt, fs, io};
 
-/// Endings of the names of a journal's files, after the journal's own name.
-static FILES: [&str; 4] = ["", LOG, ENDING, "-zero"];
+/// Endings of the names of the files without which a start is refused, after the journal's own name. Without `-zero` a start only warns.
+static FILES: [&str; 3] = ["", LOG, ENDING];
 
 /// Why a file can't be read or written.
 #[derive(Clone, Copy, Debug, PartialEq, Eq)]
