@@ -1,32 +1,36 @@
-"""What the readers of devices have in common: a line for each reading, and a word when readings begin to fail and when they are back."""
+"""Print a line for each reading of a device, and log when readings begin to be lost and when they are back. All readers share this."""
 
 import argparse
 import os
 import sys
 import time
+from collections.abc import Callable
+from typing import NoReturn
 
 # Counts of the converter have 32 bits.
 LEAST, GREATEST = -(2**31), 2**31 - 1
-OUTSIDE = "look at --bits, the order of words and the sign; or the converter is at its end"
+OUTSIDE = (
+    "check --bits, the order of words and the sign; or the load is outside the converter's range"
+)
 
 
 class Lost(Exception):
-    """A reading failed, for this reason."""
+    """A reading was lost, for this reason."""
 
 
 class Told:
-    """Prints a line for each reading, and tells on standard error where readings begin to fail, and where they are back."""
+    """Prints a line for each reading, and logs on standard error when readings begin to be lost and when they are back."""
 
-    def __init__(self, name):
+    def __init__(self, name: str) -> None:
         self.name, self.failed = name, 0
 
-    def line(self, text):
+    def line(self, text: str) -> None:
         try:
             print(text, flush=True)
         except BrokenPipeError:
-            os._exit(0)  # who read the lines is gone
+            os._exit(0)  # the program that read the lines has ended
 
-    def counts(self, counts):
+    def counts(self, counts: int) -> None:
         if self.failed:
             print(
                 f"{self.name}: readings are back, after {self.failed} lost ones",
@@ -34,39 +38,42 @@ class Told:
                 flush=True,
             )
             self.failed = 0
-        self.line(counts)
+        self.line(str(counts))
 
-    def lost(self, why):
+    def lost(self, why: object) -> None:
         if not self.failed:
             print(f"{self.name}: readings are lost: {why}", file=sys.stderr, flush=True)
         self.failed += 1
         self.line("lost")
 
 
-def checked(counts, bits):
-    """Counts that fit in so many bits with a sign, and in those of the converter."""
+def checked(counts: int, bits: int) -> int:
+    """Return `counts` if they fit in `bits` bits with a sign, and in the 32 of the converter. Otherwise raise `Lost`."""
     if not max(LEAST, -(2 ** (bits - 1))) <= counts <= min(GREATEST, 2 ** (bits - 1) - 1):
-        raise Lost(f"{counts} is outside of {bits} bits: {OUTSIDE}")
+        raise Lost(f"{counts} doesn't fit in {bits} bits: {OUTSIDE}")
     return counts
 
 
-def from_middle(raw, bits):
-    """Counts that the device gives as offset binary: 0 stands for the least, the middle of its range for none."""
+def from_middle(raw: int, bits: int) -> int:
+    """Return the counts of offset binary, where 0 is the least value, and the middle of the range is no load. Raise `Lost` if `raw` doesn't fit."""
     if not 0 <= raw < 2**bits:
-        raise Lost(f"{raw} is outside of {bits} bits: {OUTSIDE}")
-    return raw - 2 ** (bits - 1)
+        raise Lost(f"{raw} doesn't fit in {bits} bits: {OUTSIDE}")
+    middle: int = 2 ** (bits - 1)
+    return raw - middle
 
 
-def print_readings(name, given, read):
-    """Prints the counts that `read` gives at the pace, and `lost` where it raises Lost. It gives when it asked for them, too: held up for longer
-    than the time-out, as where this machine stood still, they are old. What took too long isn't made up for.
+def print_readings(
+    name: str, given: argparse.Namespace, read: Callable[[], tuple[int, float]]
+) -> NoReturn:
+    """Print the counts that `read` returns, at the pace, and `lost` if it raises `Lost`. `read` also returns when it asked for them. If that is longer
+    ago than the time-out, for example because this machine was suspended, the counts are old. A reading that took too long isn't made up for.
     """
     told, due = Told(name), time.monotonic()
     while True:
         try:
             counts, asked = read()
             if time.monotonic() - asked > given.timeout + 0.05:
-                raise Lost("the answer is old: this machine stood still")
+                raise Lost("the answer is old, because this machine was held up")
             told.counts(counts)
         except Lost as fault:
             told.lost(fault)
@@ -74,27 +81,27 @@ def print_readings(name, given, read):
         time.sleep(max(0, due - time.monotonic()))
 
 
-def words(description):
-    """The words that each reader has: what it is read from is added to them."""
+def words(description: str) -> argparse.ArgumentParser:
+    """Return the options that every reader has. A reader adds those of its device."""
     it = argparse.ArgumentParser(description=description)
     it.add_argument(
         "--pace",
         type=float,
         default=10,
-        help="readings a second, a rate that the device keeps up with, and the service's --pace too (10)",
+        help="readings a second, at most as many as the device has, and the same as the service's --pace (10)",
     )
     it.add_argument(
         "--timeout",
         type=float,
-        help="seconds after which a reading is lost: longer than the device takes (a period of the pace and 0.15)",
+        help="seconds after which a reading is lost; longer than the device takes to answer (1 / pace + 0.15)",
     )
     return it
 
 
-def parsed(it):
+def parsed(it: argparse.ArgumentParser) -> argparse.Namespace:
     given = it.parse_args()
     if not 0 < given.pace <= 1000:
-        it.error("--pace is no number of readings a second")
+        it.error("argument --pace: give more than 0 and at most 1000 readings a second")
     if given.timeout is None:
         given.timeout = 1 / given.pace + 0.15
     return given
