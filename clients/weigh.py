@@ -1,12 +1,12 @@
 #!/usr/bin/env python3
 """Weighs the vehicle that is on the bridge, or voids the open weighing of a plate, and prints the ticket or slip.
 
-A weighing has a key of its own, made here if none is given. The request is sent again with this key until it is answered, for 30 seconds
-at most, or those of WEIGHBRIDGE_SECONDS: so it is stored once, however often the connection is cut, and no other vehicle is weighed in its
-place. If this program is stopped before, it is called again with the key that it printed on standard error, as long as the vehicle is on
-the bridge. WEIGHBRIDGE is the office, http://127.0.0.1:8080 if it isn't set.
+A weighing has a key of its own. If none is given, this program makes one. It sends the request again with this key until it is answered, for at most
+30 seconds, or WEIGHBRIDGE_SECONDS. So the weighing is stored once, however often the connection is cut, and no other vehicle is weighed in its place.
+If this program is stopped earlier, call it again with the key that it printed on standard error, as long as the vehicle is on the bridge. WEIGHBRIDGE
+is the office's address, http://127.0.0.1:8080 if it isn't set.
 
-Status: 0 the weighing is stored and its text was printed, 1 refused, for the reason on standard error, 2 wrong words, 3 no answer in time.
+Status: 0 the weighing is stored and its text was printed, 1 it was refused, for the reason on standard error, 2 wrong arguments, 3 no answer in time.
 """
 
 import argparse
@@ -16,6 +16,7 @@ import secrets
 import sys
 import time
 import urllib.parse
+from collections.abc import Mapping
 
 OFFICE = os.environ.get("WEIGHBRIDGE", "http://127.0.0.1:8080").removeprefix("http://")
 SECONDS = float(os.environ.get("WEIGHBRIDGE_SECONDS", "30"))
@@ -23,8 +24,8 @@ END = time.monotonic() + SECONDS
 REFUSALS = os.path.join(os.path.dirname(os.path.abspath(__file__)), "refusals.txt")
 
 
-def ask(target, form):
-    """The status and the text of the answer; the status is 0 if it didn't come whole."""
+def ask(target: str, form: Mapping[str, str]) -> tuple[int, str]:
+    """Return the status and the text of the answer. The status is 0 if the answer didn't come whole."""
     connection = http.client.HTTPConnection(OFFICE, timeout=max(1.0, END - time.monotonic()))
     try:
         connection.request("POST", target, urllib.parse.urlencode(form))
@@ -37,8 +38,8 @@ def ask(target, form):
         connection.close()
 
 
-def reason(text):
-    """The words for the counter of what refused, or else the answer as it is."""
+def reason(text: str) -> str:
+    """Return the words for the operator about a refusal, or the answer as it is if it is no refusal."""
     number = (text.split() + ["", ""])[1]
     with open(REFUSALS) as lines:
         return next((line for line in lines if line.startswith(number + " ")), text)
