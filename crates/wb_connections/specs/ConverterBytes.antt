@@ -22,6 +22,10 @@ waiting l = record { unused = drop l.next (take l.end l.room); line = l.line; le
 abbrev pub nothing : Waiting
 nothing = record { unused = []; line = fresh; length = 0; is_whole = false }
 
+-- these bytes came next, once all others are used
+abbrev pub filled : List ℕ → Waiting → Waiting
+filled bytes w = record { unused = bytes; line = w.line; length = w.length; is_whole = w.is_whole }
+
 -- 1,048,576 bytes without an LF
 abbrev pub is_endless : Waiting → Bool
 is_endless w = nat_le 1048576 w.length

@@ -1,6 +1,6 @@
 //! The lines of a converter, cut out of the bytes as they come.
 ghost use Rattle.std.specs.Prelude.{◌≡◌, ◌<◌, IfSome, false, take, true};
-ghost use Rattle.wb_connections.specs.ConverterBytes.{after_reading, continued, has_ended, is_endless, next_reading, nothing, reading_of_line, waiting, with_spoiled_line};
+ghost use Rattle.wb_connections.specs.ConverterBytes.{after_reading, continued, filled, has_ended, is_endless, next_reading, nothing, reading_of_line, waiting, with_spoiled_line};
 ghost use Rattle.wb_window.specs.Reading.{IsReading};
 
 use crate::limits::{ENDLESS_LINE, LINE};
@@ -10,7 +10,7 @@ use wb_window::Reading;
 /// How many bytes are read at once: some fifty lines, so that what came during an exchange takes few reads.
 pub const CONVERTER_ROOM: usize = 512;
 
-/// A line and the CR before its LF. A line of more bytes than [`LINE`] is no number, with or without a CR.
+/// The most bytes that are kept of a line: [`LINE`] and a CR. A longer line is a lost reading.
 const LINE_AND_CR: usize = LINE + 1;
 
 /// Bytes that came and aren't used yet, and the line that they continue.
@@ -42,15 +42,15 @@ impl Lines {
         }
     }
 
-    /// Makes the first `count` bytes of the room those to be used next.
+    /// Makes the first `count` bytes of the room those that are used next. They continue the line that has begun.
     pub fn fill(&mut self, count: usize)
-        ensures { (waiting self.new).unused ≡ take count self.old.room }
+        ensures { waiting self.new ≡ filled (take count self.old.room) (waiting self.old) }
     {
         self.next = 0;
         self.end = count;
     }
 
-    /// Returns true if the line that has begun is too long to ever end.
+    /// Returns true once the line has [`ENDLESS_LINE`] bytes without an LF.
     pub fn is_endless(&self) -> bool
         ensures { result ≡ is_endless (waiting self.now) }
     {
@@ -66,7 +66,7 @@ impl Lines {
         }
     }
 
-    /// Returns true if a line waits whose LF came. If none does, all bytes are used, or the line is endless.
+    /// Adds the unused bytes up to the next LF to the line. Returns true if the LF came, and the line isn't endless.
     pub fn has_line(&mut self) -> bool
         ensures continued { waiting self.new ≡ continued (waiting self.old) }
         ensures value { result ≡ has_ended (waiting self.new) }
