@@ -18,7 +18,7 @@ WAITS = 60  # seconds for each thing that comes
 
 
 class Failed(Exception):
-    """Raised if the visitor can't go on. `failures` has what failed."""
+    """Raised if the visitor has to stop. `failures` has what failed."""
 
 
 def sees(what, look):
