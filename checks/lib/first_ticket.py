@@ -18,7 +18,7 @@ WAITS = 60  # seconds for each thing that comes
 
 
 class Failed(Exception):
-    """Raised if the visitor can't continue. `failures` has what failed."""
+    """Raised if the visitor has to stop. `failures` has what failed."""
 
 
 def sees(what, look):
@@ -41,9 +41,7 @@ def text_of(browser, part):
 def weigh_the_first(demo, clerk, name):
     """Read at the played bridge which plate to type, weigh that vehicle in, and return the text of its slip. Raises Failed."""
     browser = clerk.browser
-    sees(
-        f"{name}: the clerk's page says DEMO", lambda: text_of(browser, "demo").startswith("DEMO")
-    )
+    sees(f"{name}: the clerk's page says DEMO", lambda: text_of(browser, "demo").startswith("DEMO"))
     follow(browser, "#demo a")
     said = sees(
         f"{name}: its link leads to the played bridge, which names a plate",
@@ -57,9 +55,7 @@ def weigh_the_first(demo, clerk, name):
     clerk.keys(ENTER)
     sees(f"{name}: Enter weighs it in", lambda: clerk.words().startswith("Slip 1: "))
     browser.click("#today button")
-    return sees(
-        f"{name}: its slip can be read", lambda: text_of(browser, "entry-text") or None
-    )
+    return sees(f"{name}: its slip can be read", lambda: text_of(browser, "entry-text") or None)
 
 
 def main(name, picture):
