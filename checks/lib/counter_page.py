@@ -82,7 +82,7 @@ def a_tare_by_keyboard(bridge, clerk):
     same("the dialog asks for the tare", "tare-kg", clerk.focus())
     clerk.keys("5000" + TAB + SPACE + ENTER)
     clerk.sees("Ready.")
-    same("the focus returns", "plate", clerk.focus())
+    becomes("the focus returns", lambda: clerk.focus() == "plate")
     same("the button says so", "Weigh with tare 5,000 kg · OL-T-1", clerk.browser.text("#go-words"))
     clerk.keys(ENTER)
     clerk.sees("Ticket 3: net 13,340 kg")
@@ -108,7 +108,7 @@ def a_tare_by_keyboard(bridge, clerk):
         clerk.keys(TAB)
     clerk.keys(ENTER)
     clerk.sees("Type the plate.", what="the tare is cleared by a key")
-    same("and the focus returns", "plate", clerk.focus())
+    becomes("and the focus returns", lambda: clerk.focus() == "plate")
 
 
 def search_and_withdraw_by_keyboard(bridge, clerk):
@@ -138,7 +138,7 @@ def search_and_withdraw_by_keyboard(bridge, clerk):
     time.sleep(0.8)
     clerk.keys(ENTER)
     clerk.sees("Slip 5: withdrawn")
-    same("the focus returns", "plate", clerk.focus())
+    becomes("the focus returns", lambda: clerk.focus() == "plate")
     clerk.keys(F4 + ESCAPE)
     same("and from a dialog that is closed", "plate", clerk.focus())
 
@@ -160,7 +160,7 @@ def which_program_weighs(bridge, clerk):
         (setup in facts(), newest[0] in facts().splitlines(), newest[10] in facts()),
     )
     clerk.keys(ESCAPE)
-    same("and the focus returns", "plate", clerk.focus())
+    becomes("and the focus returns", lambda: clerk.focus() == "plate")
 
 
 def another_language(bridge, clerk):
