@@ -20,7 +20,7 @@ where
     L::Stream: Read + Write + OpenStream,
 {
     listener: L,
-    /// When nobody waited at the listener. Who is accepted later came after that.
+    /// The time of the last look at the listener at which nobody waited. A client that is accepted later connected after it.
     looked: Instant,
     connections: Vec<Connection<L::Stream, J>>,
     /// The place of the next request that is judged.
@@ -33,7 +33,7 @@ impl<L: OpenListener + Drop, J: Drop> OfficeClients<L, J>
 where
     L::Stream: Read + Write + OpenStream,
 {
-    /// Over a listener that doesn't wait, from this time on. Refuses for want of memory alone.
+    /// Returns the clients of a listener that doesn't wait, from this time on. Refuses only when memory runs out.
     pub fn new(alloc: Global, listener: L, now: Instant) -> Result<Self, AllocError> {
         Ok(OfficeClients {
             listener,
@@ -44,17 +44,17 @@ where
         })
     }
 
-    /// How many connections are kept.
+    /// Returns the number of connections that are kept.
     pub fn len(&self) -> usize {
         self.connections.len()
     }
 
-    /// How many connections were closed without a byte of a request.
+    /// Returns the number of connections that were closed without a byte of a request.
     pub fn without_request(&self) -> u64 {
         self.without_request
     }
 
-    /// A turn of all connections: each is accepted, read, written and closed as far as goes without waiting.
+    /// Accepts, reads, writes and closes every connection as far as goes without waiting.
     pub fn step<Q: Requests<Request = J>, R: Eprint>(
         &mut self,
         alloc: Global,
@@ -70,8 +70,8 @@ where
         self.accept(alloc, requests, now, report, &mut room);
     }
 
-    /// Returns the request that was judged first of those that came less than five seconds before `now`, or `None` if there is none. Those that came
-    /// earlier are closed.
+    /// Returns the request that was judged first of those that came less than five seconds before `now`, or `None` if there is none. Closes
+    /// every connection whose request came earlier.
     pub fn take(&mut self, now: Instant) -> Option<J> {
         for connection in self.connections.iter_mut() {
             connection.drop_late(now);
@@ -101,12 +101,12 @@ where
             .position(|connection| is_asked(&connection.stage))
     }
 
-    /// Whether a response waits for its client.
+    /// Returns true if a response waits for its client.
     pub fn is_responding(&self) -> bool {
         self.waiting() > 0
     }
 
-    /// How many responses wait for their clients.
+    /// Returns the number of responses that wait for their clients.
     fn waiting(&self) -> usize {
         self.connections
             .iter()
@@ -131,7 +131,7 @@ where
         self.close(report);
     }
 
-    /// A step of the end: responses are written, and connections read to their end. True once nothing is left to do.
+    /// Does a step of the end: writes responses, and reads connections to their end. Returns true once nothing is left to do.
     pub fn finish<R: Eprint>(&mut self, now: Instant, report: &Report<'_, R>) -> bool {
         self.go_on(now, report);
         self.connections.is_empty()
@@ -203,12 +203,12 @@ where
         }
     }
 
-    /// Whether all places are taken.
+    /// Returns true if all places are taken.
     fn is_full(&self) -> bool {
         self.connections.len() >= CONNECTIONS
     }
 
-    /// The index of the connection that was accepted first of those without a whole request.
+    /// Returns the index of the connection that was accepted first of those without a whole request.
     fn oldest_without_request(&self) -> Option<usize> {
         self.connections
             .iter()
@@ -228,7 +228,7 @@ where
         true
     }
 
-    /// The index of the request that was judged first.
+    /// Returns the index of the connection whose request was judged first.
     fn first(&self) -> Option<usize> {
         let mut first: Option<(u64, usize)> = None;
         for (index, connection) in self.connections.iter().enumerate() {
@@ -243,7 +243,7 @@ where
         Some(index)
     }
 
-    /// Drops the connections that are to be closed, which closes their sockets.
+    /// Logs and drops every connection that has ended, which closes its socket.
     fn close<R: Eprint>(&mut self, report: &Report<'_, R>) {
         for connection in self.connections.iter() {
             if let Stage::Closed(why) = &connection.stage {

@@ -19,6 +19,6 @@ pushed most bytes line =
 abbrev pub taken_in : ℕ → List ℕ → PartialLine → PartialLine
 taken_in most bytes line = pushed most (before_first (λ b. b == 10) bytes) line
 
--- a line of which no more is to be used
+-- the line, marked as one that isn't used
 abbrev pub spoiled : PartialLine → PartialLine
 spoiled line = record { kept = line.kept; too_long = true }

@@ -1,7 +1,7 @@
-//! What is watched around a journal that is served: where it lies, which entry is the newest that was answered, what zero was set to, and how many readings come.
+//! The watch around a journal that is served: its place, the newest entry that was answered, the zero that was set, and the pace of readings.
 //!
-//! Its place is looked at before a request is handed out, and before a stored entry is answered, which its witness gets first: what is stored in a
-//! file that was unlinked, replaced or cut is gone after the next start, and its numbers are given again.
+//! The watch looks at the journal's place before it passes a request on, and again before a stored entry is answered. An entry that is stored in a file
+//! that was unlinked, replaced or cut is gone after the next start, and its number is given again. The witness gets an entry before the client does.
 #![tactic(auto)]
 
 mod guarded;

@@ -1,9 +1,9 @@
-//! What a weighing or void under a new key is judged on.
+//! The evidence on which a weighing or void under a new key is judged.
 use crate::judging::WeighingRequest;
 use wb_scale::{Indicated, TareNow};
 use wb_store::Overview;
 
-/// What the scale shows.
+/// The scale's part of the evidence.
 #[derive(Clone, Copy, Debug, Drop)]
 pub(crate) struct OfScale {
     pub(crate) indicated: Indicated,
