@@ -77,8 +77,8 @@ def filters(folder):
     print("3,200 lines through eight filters, as computed: ok", flush=True)
 
 
-def steady(loads, kind, number, window=4, band=2):
-    """How many of 100 readings are stable, of loads in tenths that a cell gives 25 counts each."""
+def steady(loads, kind, number, window=10, band=2):
+    """Return the percentage of readings that are stable, of loads in tenths of e, of which a cell gives 25 counts each."""
     shown = [
         (2 * it + 25) // 50
         for it in filtered(kind, number, [round(25 * it) for it in loads])
