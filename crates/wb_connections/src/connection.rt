@@ -1,8 +1,8 @@
 //! A connection of the office, from its first byte to its end. No call here waits.
-ghost use Rattle.std.specs.Prelude.{◌≡◌, ℕ, IfSome, false};
+ghost use Rattle.std.specs.Prelude.{◌≡◌, IfSome, false};
 ghost use Rattle.wb_connections.specs.Age.{has_passed};
-ghost use Rattle.wb_connections.specs.Dispatch.{IsPassedOn, is_asked};
-ghost use Rattle.wb_connections.specs.declared.connection.Stage.TheVariants.{Closed, Waits};
+ghost use Rattle.wb_connections.specs.Dispatch.{KeepsOwn, PassesOn, is_asked, waiting_request};
+ghost use Rattle.wb_connections.specs.declared.connection.Stage.TheVariants.{Closed};
 ghost use Rattle.wb_connections.specs.declared.limits.TheConstants.{REQUEST_SECONDS};
 
 use crate::limits::{
@@ -177,9 +177,8 @@ impl<S: Read + Write + OpenStream + Drop, J: Drop> Connection<S, J> {
 
     /// Closes it if its request was judged and may have come too long ago.
     pub(crate) fn drop_late(&mut self, now: Instant)
-        ensures late { (place : ℕ) (request : J) → self.new.stage ≡ Waits place request
-            → has_passed REQUEST_SECONDS self.new.looked now ≡ false }
-        ensures peer { self.new.peer ≡ self.old.peer }
+        ensures late { IfSome (waiting_request self.new.stage) (λ _. has_passed REQUEST_SECONDS self.old.looked now ≡ false) }
+        ensures keeps { KeepsOwn self.old self.new }
     {
         if matches!(self.stage, Stage::Waits(_, _)) && is_past(self.looked, REQUEST_SECONDS, now) {
             self.close(Why::Late);
@@ -188,8 +187,7 @@ impl<S: Read + Write + OpenStream + Drop, J: Drop> Connection<S, J> {
 
     /// Returns its request, if that was judged and came less than five seconds before `now`. It then waits for the response.
     pub(crate) fn hand_out(&mut self, now: Instant) -> Option<J>
-        ensures passed { IfSome result (λ _. IsPassedOn now self.new) }
-        ensures peer { self.new.peer ≡ self.old.peer }
+        ensures passed { IfSome result (λ request. PassesOn now self.old self.new request) }
     {
         self.drop_late(now);
         match mem::replace(&mut self.stage, Stage::Asked) {
@@ -211,6 +209,7 @@ impl<S: Read + Write + OpenStream + Drop, J: Drop> Connection<S, J> {
     /// Lets it be closed before the turn is over.
     pub(crate) fn close(&mut self, why: Why)
         ensures stage { self.new.stage ≡ Closed why }
+        ensures looked { self.new.looked ≡ self.old.looked }
         ensures peer { self.new.peer ≡ self.old.peer }
     {
         self.stage = Stage::Closed(why);

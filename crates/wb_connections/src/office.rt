@@ -1,7 +1,7 @@
 //! The connections of the office, kept over turns. No call here waits.
 ghost use Rattle.std.specs.List.{position};
-ghost use Rattle.std.specs.Prelude.{◌≡◌};
-ghost use Rattle.wb_connections.specs.Dispatch.{client_asked, is_asked};
+ghost use Rattle.std.specs.Prelude.{◌≡◌, ℕ, ◌<◌, IfSome, get_or, length};
+ghost use Rattle.wb_connections.specs.Dispatch.{ChangesOnlyAsked, IsAnswered, KeepsOwn, PassesOneOn, client_asked, is_asked};
 
 use crate::connection::{Connection, Requests, Stage, Why, is_asked};
 use crate::limits::{ACCEPTS_A_TURN, CONNECTIONS, WAITING_RESPONSES};
@@ -72,22 +72,34 @@ where
 
     /// Returns the request that was judged first of those that came less than five seconds before `now`, or `None` if there is none. Closes
     /// every connection whose request came earlier.
-    pub fn take(&mut self, now: Instant) -> Option<J> {
+    pub fn take(&mut self, now: Instant) -> Option<J>
+        ensures passed { IfSome result (λ request. PassesOneOn now self.old.connections.items self.new.connections.items request) }
+    {
+        self.drop_late(now);
+        let first = self.first()?;
+        self.connections[first].hand_out(now)
+    }
+
+    /// Closes every connection whose request may have come five seconds before `now` or earlier.
+    fn drop_late(&mut self, now: Instant)
+        ensures count { length self.new.connections.items ≡ length self.old.connections.items }
+        ensures keeps { (k : ℕ) (c : Connection L.Stream J) → KeepsOwn (get_or self.old.connections.items k c) (get_or self.new.connections.items k c) }
+    {
         for connection in self.connections.iter_mut() {
             connection.drop_late(now);
         }
-        let first = self.first()?;
-        self.connections.get_mut(first)?.hand_out(now)
     }
 
     #[tactic(auto, using(std::proofs::lemmas::List::Folds::find_at))]
     /// Sends the response to the client whose request `take` returned, and returns its address; `None` if that client is gone.
     pub fn respond(&mut self, alloc: Global, now: Instant, bytes: &[u8]) -> Option<SocketAddr>
-        ensures { result ≡ client_asked self.old.connections.items }
+        ensures returns { result ≡ client_asked self.old.connections.items }
+        ensures others { ChangesOnlyAsked self.old.connections.items self.new.connections.items }
+        ensures answered { IfSome result (λ _. IsAnswered self.old.connections.items self.new.connections.items) }
     {
         let asked = self.asked()?;
         let is_crowded = self.waiting() >= WAITING_RESPONSES;
-        let connection = self.connections.get_mut(asked)?;
+        let connection = &mut self.connections[asked];
         connection.respond(alloc, now, bytes, is_crowded);
         Some(connection.peer)
     }
@@ -229,7 +241,9 @@ where
     }
 
     /// Returns the index of the connection whose request was judged first.
-    fn first(&self) -> Option<usize> {
+    fn first(&self) -> Option<usize>
+        ensures { IfSome result (λ k. k < length self.now.connections.items) }
+    {
         let mut first: Option<(u64, usize)> = None;
         for (index, connection) in self.connections.iter().enumerate() {
             if let Stage::Waits(place, _) = &connection.stage {

@@ -1,6 +1,7 @@
 //! The terminal: one connection at a time, the replies that wait for it, and those that wait for its place. No call here waits.
-ghost use Rattle.std.specs.Prelude.{◌≡◌, ◌≤◌, IsTrue};
+ghost use Rattle.std.specs.Prelude.{◌≡◌, ◌≤◌, ◌<◌, IsTrue, None, option_map, take};
 ghost use Rattle.wb_connections.specs.Age.{has_passed};
+ghost use Rattle.wb_connections.specs.Dispatch.{KeepsPlace};
 ghost use Rattle.wb_connections.specs.declared.limits.TheConstants.{COMMAND_SECONDS};
 ghost use Rattle.wb_input.specs.declared.sources.TheConstants.{TERMINAL_ROOM};
 
@@ -19,12 +20,10 @@ use wb_input::{TERMINAL_ROOM, Taken};
 struct Connection<S: Drop> {
     stream: S,
     peer: SocketAddr,
-    /// When a look last found nothing. What is read next came after that.
+    /// When a look last found nothing. The bytes that are read next came after it.
     looked: Instant,
     /// When bytes of it last came, or it got its place.
     heard: Instant,
-    /// When the socket last took a byte of the replies, or the first of those that wait came.
-    moved: Instant,
     /// Whether it sends no more.
     has_ended: bool,
 }
@@ -37,10 +36,12 @@ where
 {
     queue: Queue<L>,
     connection: Option<Connection<L::Stream>>,
-    /// The replies that wait, behind so many bytes that are written already.
+    /// The replies that wait, behind `written` bytes that the socket has accepted.
     replies: Vec<u8>,
     written: usize,
-    /// What came and wasn't handed out yet: so many bytes in the room, and whether the connection ended after them.
+    /// When the socket last took a byte of the replies, or the first of those that wait came.
+    moved: Instant,
+    /// The bytes in the room that `take` hasn't returned yet, by their number, and whether the connection ended after them.
     came: Taken,
     /// When a look found nothing, before they came.
     came_after: Instant,
@@ -51,21 +52,22 @@ impl<L: OpenListener + Drop> TerminalClients<L>
 where
     L::Stream: Read + Write + OpenStream,
 {
-    /// Over a listener that doesn't wait, from this time on, with the room for replies. Refuses for want of memory alone.
+    /// Returns the clients of a listener that doesn't wait, from this time on, with the room for replies. Refuses only when memory runs out.
     pub fn new(alloc: Global, listener: L, now: Instant) -> Result<Self, AllocError> {
         Ok(TerminalClients {
             queue: Queue::new(alloc, listener, now)?,
             connection: None,
             replies: Vec::with_capacity(alloc, WAITING_REPLIES)?,
             written: 0,
+            moved: now,
             came: taken(0, false),
             came_after: now,
             room: [0; TERMINAL_ROOM],
         })
     }
 
-    /// A turn of the connection: replies are written, and what came is read, if all was handed out that came before. Where there is
-    /// no connection, the one that waits longest gets its place.
+    /// Writes the replies, and reads what came, if `take` has returned all that came before. If there is no connection, the one that waits longest
+    /// gets the place.
     pub fn step<R: Eprint>(&mut self, now: Instant, report: &Report<'_, R>) {
         self.write(now, report);
         self.queue.step(now, report);
@@ -76,8 +78,8 @@ where
         }
     }
 
-    /// Hands out the bytes that came, and whether the connection ended after them. Bytes that may have come two seconds before are
-    /// dropped, and the connection is hung up.
+    /// Returns the bytes that came, and whether the connection ended after them. Drops bytes that may have come two seconds before, and
+    /// disconnects.
     pub fn take<R: Eprint>(
         &mut self,
         now: Instant,
@@ -86,6 +88,8 @@ where
     ) -> Taken
         ensures fits { result.count ≤ TERMINAL_ROOM }
         ensures late { IsTrue (has_passed COMMAND_SECONDS self.old.came_after now) → result.count ≡ 0 }
+        ensures bytes { take result.count room.new ≡ take result.count self.old.room }
+        ensures same { 0 < result.count → self.new.connection ≡ self.old.connection }
     {
         if self.came.count > 0 && is_past(self.came_after, COMMAND_SECONDS, now) {
             self.came = taken(0, false);
@@ -98,14 +102,15 @@ where
         taken(count, hung_up)
     }
 
-    /// Takes the replies of an event, and writes what its socket takes. A terminal for which too many would wait is hung up.
-    pub fn reply<R: Eprint>(&mut self, now: Instant, report: &Report<'_, R>, bytes: &[u8]) {
-        let waits = self.waits();
-        let Some(connection) = &mut self.connection else {
+    /// Adds the replies of an event, and writes what the socket accepts. Disconnects a terminal for which too many would wait.
+    pub fn reply<R: Eprint>(&mut self, now: Instant, report: &Report<'_, R>, bytes: &[u8])
+        ensures { KeepsPlace (option_map (λ c. c.peer) self.old.connection) (option_map (λ c. c.peer) self.new.connection) }
+    {
+        if self.connection.is_none() {
             return;
-        };
-        if !waits {
-            connection.moved = now;
+        }
+        if !self.waits() {
+            self.moved = now;
         }
         if self.keep(bytes) {
             self.write(now, report);
@@ -114,7 +119,7 @@ where
         }
     }
 
-    /// A step of the end: what waits is written, and the connection is read to its end. True once nothing is left to do.
+    /// Does a step of the end: writes what waits, and reads the connection to its end. Returns true once nothing is left to do.
     pub fn finish<R: Eprint>(&mut self, now: Instant, report: &Report<'_, R>) -> bool {
         self.write(now, report);
         let waits = self.waits();
@@ -195,12 +200,12 @@ where
             peer: next.peer,
             looked: next.looked,
             heard: now,
-            moved: now,
             has_ended: false,
         });
+        self.moved = now;
     }
 
-    /// Hangs up one that said nothing for a minute, if another waits.
+    /// Disconnects a terminal that sent nothing for a minute, if another waits.
     fn make_way<R: Eprint>(&mut self, now: Instant, report: &Report<'_, R>) {
         let Some(connection) = &self.connection else {
             return;
@@ -214,13 +219,15 @@ where
         }
     }
 
-    /// Whether replies wait.
+    /// Returns true if replies wait.
     fn waits(&self) -> bool {
         self.written < self.replies.len()
     }
 
     /// Keeps replies in the room, which is never made larger. False if they have no place.
-    fn keep(&mut self, bytes: &[u8]) -> bool {
+    fn keep(&mut self, bytes: &[u8]) -> bool
+        ensures { self.new.connection ≡ self.old.connection }
+    {
         if bytes.len() > WAITING_REPLIES.saturating_sub(self.replies.len()) {
             let written = self.written.min(self.replies.len());
             self.replies.drain(..written);
@@ -230,24 +237,27 @@ where
             && self.replies.extend_from_slice(bytes).is_ok()
     }
 
-    /// Writes as much of what waits as its socket takes. One that takes nothing for too long is hung up.
-    fn write<R: Eprint>(&mut self, now: Instant, report: &Report<'_, R>) {
-        let Some(connection) = &mut self.connection else {
-            return;
-        };
-        let left = self.replies.as_slice().get(self.written..).unwrap_or(&[]);
-        if left.is_empty() {
+    /// Writes as much of what waits as the socket accepts. Disconnects a terminal that accepts nothing for too long.
+    fn write<R: Eprint>(&mut self, now: Instant, report: &Report<'_, R>)
+        ensures { KeepsPlace (option_map (λ c. c.peer) self.old.connection) (option_map (λ c. c.peer) self.new.connection) }
+    {
+        if !self.waits() {
             return;
         }
-        match write_ready(&mut connection.stream, left) {
+        let Some(mut connection) = self.connection.take() else {
+            return;
+        };
+        let written = write_from(&mut connection.stream, &self.replies, self.written);
+        self.connection = Some(connection);
+        match written {
             None => self.drop_connection(report, "the connection broke"),
             Some(0) => {
-                if is_past(connection.moved, DEAF_SECONDS, now) {
+                if is_past(self.moved, DEAF_SECONDS, now) {
                     self.drop_connection(report, "it has read no reply for 5 seconds");
                 }
             }
             Some(count) => {
-                connection.moved = now;
+                self.moved = now;
                 self.written = self.written.saturating_add(count);
                 if !self.waits() {
                     self.replies.clear();
@@ -257,9 +267,10 @@ where
         }
     }
 
-    /// Closes the connection, which is handed out after the bytes that came.
+    /// Closes the connection, which `take` reports after the bytes that came.
     fn drop_connection<R: Eprint>(&mut self, report: &Report<'_, R>, why: &str)
-        ensures { self.new.came.count ≡ self.old.came.count }
+        ensures count { self.new.came.count ≡ self.old.came.count }
+        ensures closed { self.new.connection ≡ None }
     {
         self.hang_up(report, why);
         self.came.hung_up = true;
@@ -267,7 +278,8 @@ where
 
     /// Closes the connection, if there is one, and forgets the replies that wait for it.
     pub fn hang_up<R: Eprint>(&mut self, report: &Report<'_, R>, why: &str)
-        ensures { self.new.came ≡ self.old.came }
+        ensures came { self.new.came ≡ self.old.came }
+        ensures closed { self.new.connection ≡ None }
     {
         if let Some(connection) = &self.connection {
             report.line(format_args!("terminal {}: disconnected: {why}", connection.peer));
@@ -276,6 +288,11 @@ where
         self.replies.clear();
         self.written = 0;
     }
+}
+
+/// Writes as many of the bytes behind the first `written` as the socket takes at once, and returns how many; `None` if the connection broke.
+fn write_from<S: Write>(stream: &mut S, bytes: &[u8], written: usize) -> Option<usize> {
+    write_ready(stream, bytes.get(written..).unwrap_or(&[]))
 }
 
 fn taken(count: usize, hung_up: bool) -> Taken

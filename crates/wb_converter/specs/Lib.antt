@@ -9,4 +9,5 @@ pub mod Weights
 pub mod Taken
 pub mod Statuses
 pub mod Laws
+pub mod Offer
 pub mod FilterLaws

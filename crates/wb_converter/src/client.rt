@@ -1,4 +1,7 @@
-//! The one client that lines are handed to. No call here waits.
+//! The one client that gets the lines. No call here waits.
+ghost use Rattle.std.specs.Prelude.{◌≡◌, option_map};
+ghost use Rattle.wb_converter.specs.Offer.{offered_at, waiting_lines};
+
 use crate::outbox::{LINE_ROOM, Outbox};
 use arrayvec::ArrayString;
 use std::fmt::Display;
@@ -109,11 +112,14 @@ where
         }
     }
 
-    /// Takes a line for the client, which came after this time. It takes the place of one that waits.
-    pub fn offer(&mut self, line: &ArrayString<LINE_ROOM>, came: Instant) {
-        if let Some(client) = &mut self.client {
+    /// Offers the client a line that came after this time. The line replaces one that waits.
+    pub fn offer(&mut self, line: &ArrayString<LINE_ROOM>, came: Instant)
+        ensures { option_map waiting_lines self.new.client ≡ option_map (offered_at line.now.bytes came) self.old.client }
+    {
+        if let Some(mut client) = self.client.take() {
             client.waiting.offer(line.as_str().as_bytes());
             client.came = came;
+            self.client = Some(client);
         }
     }
 

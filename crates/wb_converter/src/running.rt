@@ -1,8 +1,10 @@
 //! The load of each line of counts, handed on as it comes.
-ghost use Rattle.std.specs.Prelude.{◌≡◌};
+ghost use Rattle.std.specs.Prelude.{◌≡◌, ◌∷◌, ℤ, IsSomeAnd, List, None, Option, Some};
+ghost use Rattle.wb_calibration.specs.declared.filter.Filter.{Filter};
+ghost use Rattle.wb_converter.specs.Filter.{IsFiltered, Kept, Stands};
 ghost use Rattle.wb_converter.specs.Statuses.{status_of_run};
 
-use crate::answering::{answer, answer_to};
+use crate::answering::answer_to;
 use crate::client::{Clients, is_waiting};
 use crate::counts::{LINE, counts_line};
 use crate::filtering::Filtering;
@@ -157,12 +159,25 @@ impl Input {
         None
     }
 
-    /// What is handed on for the line that ended.
+    /// Returns the line for the client: that of the value of the last lines.
     fn answer(&mut self, calibration: &Calibration) -> ArrayString<LINE_ROOM> {
-        let line = self.line.line().unwrap_or(&[]);
-        match &mut self.filtering {
-            Some(filtering) => answer_to(calibration, filtering.take(counts_line(line))),
-            None => answer(calibration, line),
-        }
+        let counts = counts_line(self.line.line().unwrap_or(&[]));
+        answer_to(calibration, self.value(counts))
+    }
+
+    /// Returns what the filter makes of the last lines, of which the newest has these counts; without a filter, these counts.
+    fn value(&mut self, counts: Option<i32>) -> Option<i32>
+        ensures unfiltered { self.old.filtering ≡ None → result ≡ counts }
+        ensures filtered { (f : Filter) (earlier : List (Option ℤ)) (kept : Kept) → self.old.filtering ≡ Some kept → Stands f earlier kept
+            → IsFiltered f (counts ∷ earlier) result }
+        ensures stands { (f : Filter) (earlier : List (Option ℤ)) (kept : Kept) → self.old.filtering ≡ Some kept → Stands f earlier kept
+            → IsSomeAnd self.new.filtering (Stands f (counts ∷ earlier)) }
+    {
+        let Some(mut filtering) = self.filtering.take() else {
+            return counts;
+        };
+        let value = filtering.take(counts);
+        self.filtering = Some(filtering);
+        value
     }
 }

@@ -1,5 +1,6 @@
 //! Counts under one load, read from lines.
-ghost use Rattle.std.specs.Prelude.{◌≡◌, ◌+◌, IfOk, vec_len};
+ghost use Rattle.std.specs.Prelude.{◌≡◌, ◌+◌, ◌++◌, ◌∷◌, [], IfOk, Some, map, vec_len};
+ghost use Rattle.wb_converter.specs.Counts.{counts_of};
 
 use crate::counts::{LINE, counts_line};
 use std::alloc::Global;
@@ -81,7 +82,9 @@ fn push_counts(
 }
 
 /// Appends the counts of a line.
-fn push_line(counts: &mut Vec<i32>, line: &[u8]) -> Result<(), SampleFault> {
+fn push_line(counts: &mut Vec<i32>, line: &[u8]) -> Result<(), SampleFault>
+    ensures { IfOk result (λ _. map Some counts.new.items ≡ map Some counts.old.items ++ counts_of line.now ∷ []) }
+{
     let Some(read) = counts_line(line) else {
         return Err(SampleFault::Line(counts.len() as u64 + 1));
     };

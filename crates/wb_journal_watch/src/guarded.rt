@@ -1,5 +1,5 @@
 //! Sources that look where the journal lies.
-ghost use Rattle.std.specs.Prelude.{None};
+ghost use Rattle.std.specs.Prelude.{◌≡◌, IsTrue, None, if◌then◌else◌, not};
 
 use crate::pace::Pace;
 use crate::zero_note::ZeroNote;
@@ -30,7 +30,7 @@ impl Place {
         })
     }
 
-    /// Whether the path still leads to that file, by no other name too, and it isn't shorter than it was.
+    /// Returns true if the path still leads to that file, the file has no other name, and it isn't shorter than it was.
     fn stands(&self, rt: &HostRuntime) -> bool {
         match fs::metadata(rt, self.path.as_str()) {
             Ok(found) => {
@@ -52,7 +52,7 @@ struct Places {
 }
 
 impl Places {
-    /// Of the journal in the file, which is open.
+    /// Returns the places of the journal in the file, which is open.
     fn new(rt: &HostRuntime, path: &str) -> io::Result<Places> {
         let real = fs::canonicalize(rt, path)?;
         let path = real.as_str();
@@ -64,8 +64,8 @@ impl Places {
     }
 }
 
-/// Sources of a service whose journal is looked at. Once it isn't where it was, or an entry can't be witnessed, they end, and no entry is answered
-/// any more.
+/// Sources of a service whose journal is watched. Until the journal is lost, each call returns what the sources below return, and they get what it got.
+/// Once the journal isn't where it was, or an entry can't be witnessed, the journal is lost: the sources end, and no entry is answered.
 #[derive(Drop)]
 pub struct Guarded<'a, S: Sources + Drop> {
     rt: &'a HostRuntime,
@@ -81,8 +81,8 @@ pub struct Guarded<'a, S: Sources + Drop> {
 }
 
 impl<'a, S: Sources + Drop> Guarded<'a, S> {
-    /// Sources over the journal in the file, which is open, of a bridge of this interval. Where so many readings a second are stated and others come,
-    /// that is told. None if a file can't be looked at.
+    /// Returns sources that watch the journal in the file, which is open, of a bridge with this interval. They log if the readings come at another pace than
+    /// `stated` in a second. Returns `None` if a file can't be looked at.
     pub fn new(
         rt: &'a HostRuntime,
         path: &str,
@@ -105,13 +105,17 @@ impl<'a, S: Sources + Drop> Guarded<'a, S> {
         }
     }
 
-    /// Whether they ended since the journal isn't where it was, or can't be witnessed.
+    /// Returns true if the journal is lost: it isn't where it was, or can't be witnessed.
     pub fn is_lost(&self) -> bool {
         self.is_lost
     }
 
-    /// Whether the journal is where it was. If not, that is told once.
-    fn stands(&mut self) -> bool {
+    /// Returns true if the journal is where it was. If not, it is lost from now on, and the first call that finds that says so on standard error.
+    fn stands(&mut self) -> bool
+        ensures lost { self.new.is_lost ≡ not result }
+        ensures stays { IsTrue self.old.is_lost → IsTrue self.new.is_lost }
+        ensures sources { self.new.sources ≡ self.old.sources }
+    {
         if self.is_lost {
             return false;
         }
@@ -128,15 +132,15 @@ impl<'a, S: Sources + Drop> Guarded<'a, S> {
     }
 
     /// Returns true if the response that reports this entry may leave: the journal is where it was, and its witness names this entry or a newer one.
-    fn may_answer(&mut self, entry: &EntryName) -> bool {
+    fn may_answer(&mut self, entry: &EntryName) -> bool
+        ensures lost { self.new.is_lost ≡ not result }
+        ensures stays { IsTrue self.old.is_lost → IsTrue self.new.is_lost }
+        ensures sources { self.new.sources ≡ self.old.sources }
+    {
         if !self.stands() {
             return false;
         }
-        let newest = Newest {
-            number: entry.number,
-            digest: entry.digest.copied(),
-        };
-        if self.witness.note(&newest) {
+        if self.witness.note(&witnessed(entry)) {
             return true;
         }
         self.is_lost = true;
@@ -148,8 +152,19 @@ impl<'a, S: Sources + Drop> Guarded<'a, S> {
     }
 }
 
+/// Returns the entry as its witness names it.
+fn witnessed(entry: &EntryName) -> Newest
+    ensures number { result.number ≡ entry.now.number }
+    ensures digest { result.digest ≡ entry.now.digest }
+{
+    Newest {
+        number: entry.number,
+        digest: entry.digest.copied(),
+    }
+}
+
 impl<S: Sources + Drop> Sources for Guarded<'_, S> {
-    ghost told = { λ _. None };
+    ghost told = { λ g. if g.is_lost then None else S.told g.sources };
 
     fn converter(&mut self) -> Converter {
         if self.is_lost {
@@ -183,11 +198,12 @@ impl<S: Sources + Drop> Sources for Guarded<'_, S> {
 
     fn respond(&mut self, bytes: &[u8]) {
         if self.is_withheld {
+            self.is_withheld = false;
+            self.is_lost = true;
             self.sources.respond(b"");
         } else {
             self.sources.respond(bytes);
         }
-        self.is_withheld = false;
     }
 
     fn notice(&mut self, notice: &Notice) {

@@ -2,6 +2,7 @@
 mod addresses;
 mod clients;
 mod converter;
+mod filtering;
 mod lines;
 mod memory;
 mod office;

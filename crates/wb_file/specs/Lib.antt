@@ -1,0 +1,2 @@
+-- The files next to a journal.
+pub mod Witness

@@ -1,0 +1,59 @@
+//! The converter's program over streams in memory, with a filter and without.
+use super::memory::{Bench, Door, Plug, Wire};
+use std::process::Abort;
+use std::test::Fail;
+use wb_calibration::{Calibration, Filter, Point, Readings};
+use wb_connections::Report;
+use wb_converter::{Clients, RunEnd, run};
+
+/// Six lines of counts, which are tenths. The client is accepted after the first.
+const LINES: &[u8] = b"100\n|100\n|100\n|900\n|100\n|lost\n";
+
+/// Runs the program over these lines. True if it ends after six lines, and its client was sent just these bytes.
+fn sends(rt: &HostRuntime, filter: Option<Filter>, bytes: &[u8]) -> Result<bool, Fail> {
+    let bench = Bench::new(rt.alloc());
+    let input = Wire::new(&bench);
+    input.send_pieces(LINES);
+    input.end();
+    let wires = [Wire::new(&bench)];
+    let points = [
+        Point {
+            counts: 0,
+            tenths: 0,
+        },
+        Point {
+            counts: 1_000_000,
+            tenths: 1_000_000,
+        },
+    ];
+    let calibration = Calibration::new(&points)?;
+    let end = run(
+        &bench,
+        &mut Plug(&input),
+        &calibration,
+        filter,
+        &mut Clients::new(Door::new(&wires)),
+        &Report::new(&bench, false),
+    );
+    Ok(end == RunEnd::Lines(6) && wires.iter().all(|wire| wire.was_sent(bytes, false)))
+}
+
+#[test]
+fn sends_what_the_filter_makes_of_the_lines(rt: HostRuntime) -> Result<(), Fail> {
+    let three = Readings::new(3).ok_or("readings")?;
+    let median = sends(
+        &rt,
+        Some(Filter::Median(three)),
+        b"lost\n100\n100\n100\nlost\n",
+    )?;
+    assert!(rt; median, "the median of three");
+    let mean = sends(
+        &rt,
+        Some(Filter::Mean(three)),
+        b"lost\n100\n367\n367\nlost\n",
+    )?;
+    assert!(rt; mean, "the mean of three");
+    let none = sends(&rt, None, b"100\n100\n900\n100\nlost\n")?;
+    assert!(rt; none, "no filter");
+    Ok(())
+}
