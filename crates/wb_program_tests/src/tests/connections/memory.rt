@@ -350,6 +350,10 @@ impl OpenStream for Plug<'_> {
         self.0.patience.set(dur.unwrap_or(patience()));
         Ok(())
     }
+
+    fn set_nodelay(&self, _nodelay: bool) -> io::Result<()> {
+        Ok(())
+    }
 }
 
 /// A listener on which clients connect one after the other.
