@@ -111,6 +111,25 @@ def a_tare_by_keyboard(bridge, clerk):
     becomes("and the focus returns", lambda: clerk.focus() == "plate")
 
 
+def a_tare_that_is_not_kept(bridge, clerk):
+    bridge.next_vehicle(9170)
+    clerk.keys("LOST-T")
+    clerk.sees("Ready.")
+    clerk.browser.run(
+        "window.realFetch = window.fetch; window.fetch = (target, how) => target.startsWith('/tares/') ? Promise.resolve(new Response('{}', { status: 503 })) : window.realFetch(target, how)"
+    )
+    for _ in range(7):
+        clerk.keys(TAB)
+        if clerk.focus().startswith("Tare from papers"):
+            break
+    clerk.keys(ENTER + "5000" + TAB + SPACE + ENTER)
+    clerk.sees("The tare is not kept.", what="a ticked tare that the counter refused is named")
+    clerk.sees("Ready.", what="and it is used once")
+    same("by the button", "Weigh with tare 5,000 kg · LOST-T", clerk.browser.text("#go-words"))
+    clerk.browser.run("window.fetch = window.realFetch")
+    clerk.keys(ESCAPE)
+
+
 def search_and_withdraw_by_keyboard(bridge, clerk):
     bridge.next_vehicle(9170)
     clerk.keys("WRONG-1")
@@ -466,6 +485,7 @@ def show(program):
     try:
         a_pair_by_keyboard(bridge, clerk)
         a_tare_by_keyboard(bridge, clerk)
+        a_tare_that_is_not_kept(bridge, clerk)
         search_and_withdraw_by_keyboard(bridge, clerk)
         which_program_weighs(bridge, clerk)
         another_language(bridge, clerk)

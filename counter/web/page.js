@@ -106,6 +106,12 @@ async function keepTareOf({ plate: of, kg: value }) {
   focusPlate();
 }
 
+// The tare is used once in any case. A clerk who ticked that it is kept must know if it isn't.
+async function keepTyped(of, value) {
+  const answer = await keepTare(of, value);
+  if (answer?.status !== 200) tell('bad', 'tare_not_kept', `${of}: ${kg(value)}`);
+}
+
 function askTare() {
   part('tare-label').textContent = t('tare_of', { plate: plate() });
   part('tare-keep-words').textContent = t('keep_it', { days: number(known.hello.tare_days) });
@@ -116,7 +122,7 @@ function askTare() {
 
 function useTare() {
   clerk.oneTare = Number(part('tare-kg').value);
-  if (part('tare-keep').checked) keepTare(plate(), clerk.oneTare);
+  if (part('tare-keep').checked) keepTyped(plate(), clerk.oneTare);
   beDeaf();
 }
 
