@@ -6,14 +6,17 @@ use wb_calibration::{Calibration, Filter, Point, Readings};
 use wb_connections::Report;
 use wb_converter::{Clients, RunEnd, run};
 
+/// The pieces that the input sends, with `|` between them.
+struct Pieces(&'static [u8]);
+
 /// Six lines of counts, which are tenths. The client is accepted after the first.
-const LINES: &[u8] = b"100\n|100\n|100\n|900\n|100\n|lost\n";
+static LINES: Pieces = Pieces(b"100\n|100\n|100\n|900\n|100\n|lost\n");
 
 /// Runs the program over these lines. True if it ends after six lines, and its client was sent just these bytes.
 fn sends(rt: &HostRuntime, filter: Option<Filter>, bytes: &[u8]) -> Result<bool, Fail> {
     let bench = Bench::new(rt.alloc());
     let input = Wire::new(&bench);
-    input.send_pieces(LINES);
+    input.send_pieces(LINES.0);
     input.end();
     let wires = [Wire::new(&bench)];
     let points = [
