@@ -116,7 +116,7 @@ def a_tare_that_is_not_kept(bridge, clerk):
     clerk.keys("LOST-T")
     clerk.sees("Ready.")
     clerk.browser.run(
-        "window.realFetch = window.fetch; window.fetch = (target, how) => target.startsWith('/tares/') ? Promise.resolve(new Response('{}', { status: 503 })) : window.realFetch(target, how)"
+        "window.realFetch = window.fetch; window.fetch = (target, how) => target.includes('/tares/') ? Promise.resolve(new Response('{}', { status: 503 })) : window.realFetch(target, how)"
     )
     for _ in range(7):
         clerk.keys(TAB)
