@@ -30,15 +30,29 @@ fn sends(rt: &HostRuntime, filter: Option<Filter>, bytes: &[u8]) -> Result<bool,
         },
     ];
     let calibration = Calibration::new(&points)?;
-    let end = run(
-        &bench,
-        &mut Plug(&input),
-        &calibration,
-        filter,
-        &mut Clients::new(Door::new(&wires)),
-        &Report::new(&bench, false),
-    );
+    let end = converts(&bench, &input, &wires, &calibration, filter);
     Ok(end == RunEnd::Lines(6) && wires.iter().all(|wire| wire.was_sent(bytes, false)))
+}
+
+/// Runs the program until the input ends.
+fn converts<'a>(
+    bench: &'a Bench,
+    input: &'a Wire<'a>,
+    wires: &'a [Wire<'a>],
+    calibration: &Calibration,
+    filter: Option<Filter>,
+) -> RunEnd {
+    let mut input = Plug(input);
+    let mut clients = Clients::new(Door::new(wires));
+    let report = Report::new(bench, false);
+    run(
+        bench,
+        &mut input,
+        calibration,
+        filter,
+        &mut clients,
+        &report,
+    )
 }
 
 #[test]
