@@ -418,7 +418,7 @@ begin
     if other.serial is not null then
         perform refuse('serial', format('serial %s is %s', other.serial, coalesce('registered for ' || other.bridge, 'not registered')));
     elsif it.is_newest and exists (select from taken where previous is null) then
-        perform refuse('form', 'nothing ties the newest entries alone of version 1 to what is stored: load the whole export');
+        perform refuse('form', 'entries of version 1 don''t name the entry before them, so nothing ties the newest to what is stored: load the whole export');
     end if;
 end $$;
 
