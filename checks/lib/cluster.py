@@ -50,6 +50,8 @@ MESSAGES += (
     "too long",
     "unterminated CSV",
     "header line",
+    "no pg_hba.conf entry",
+    "client certificate",
 )
 
 
@@ -67,9 +69,9 @@ def in_english():
             and any(part in english for part in MESSAGES)
             and len(other) > 12
         ):
-            pieces = re.split(r"(%(?:\d+\$)?[-\d.]*l*[sduxXc])", other)
+            pieces = re.split(r"(%(?:\d+\$)?[-\d.]*l*[sduxXcm])", other)
             if sum(piece.startswith("%") for piece in pieces) != len(
-                re.findall(r"%[-\d.]*l*[sduxXc]", english)
+                re.findall(r"%[-\d.]*l*[sduxXcm]", english)
             ) or re.search(r"%\d+\$", other):
                 continue
             pattern = "".join(
@@ -80,8 +82,8 @@ def in_english():
             found.append(
                 (
                     re.compile(pattern + r"(?=\n|$)" if pieces[-1] == "" else pattern),
-                    re.sub(r"%[-\d.]*l*[sduxXc]", "\0", english),
-                    max(re.split(r"%(?:\d+\$)?[-\d.]*l*[sduxXc]|[^\0-\x7f]", other), key=len),
+                    re.sub(r"%[-\d.]*l*[sduxXcm]", "\0", english),
+                    max(re.split(r"%(?:\d+\$)?[-\d.]*l*[sduxXcm]|[^\0-\x7f]", other), key=len),
                 )
             )
     return sorted(found, key=lambda it: -len(it[1]))
