@@ -6,7 +6,11 @@ A weighing has a key of its own. If none is given, this program makes one. It se
 If this program is stopped earlier, call it again with the key that it printed on standard error, as long as the vehicle is on the bridge. WEIGHBRIDGE
 is the office's address, http://127.0.0.1:8080 if it isn't set.
 
-Status: 0 the weighing is stored and its text was printed, 1 it was refused, for the reason on standard error, 2 wrong arguments, 3 no answer in time.
+Only the office's own judgement settles the request: a slip, a ticket, a refusal or `fault 422`. A response of another program, such as nginx's 401 or
+429, doesn't, because it says nothing of an earlier attempt.
+
+Status: 0 the weighing is stored and its text was printed, 1 it was refused, for the reason on standard error, 2 wrong arguments, 3 it isn't known
+whether it is stored, because no answer came in time or the entry under its key is damaged.
 """
 
 import argparse
@@ -38,6 +42,11 @@ def ask(target: str, form: Mapping[str, str]) -> tuple[int, str]:
         connection.close()
 
 
+def is_settled(status: int, text: str) -> bool:
+    """Return true if this is the office's judgement of the request."""
+    return status == 201 or 0 < status < 500 and text.startswith(("refused ", "fault 422 "))
+
+
 def reason(text: str) -> str:
     """Return the words for the operator about a refusal, or the answer as it is if it is no refusal."""
     number = (text.split() + ["", ""])[1]
@@ -54,7 +63,7 @@ target = "/voids" if form["kind"] == "void" else "/weighings"
 print("key", form["key"], file=sys.stderr, flush=True)
 while True:
     status, text = ask(target, form)
-    if 0 < status < 500:
+    if is_settled(status, text):
         break
     if time.monotonic() >= END:
         print(
@@ -81,4 +90,11 @@ print(
     end="",
     file=sys.stdout if status == 201 else sys.stderr,
 )
+if text.startswith("refused 17 "):
+    print("it isn't known whether the weighing is stored", file=sys.stderr)
+    print(
+        f"look for the key {form['key']} in the office's journal.csv, and call the operator",
+        file=sys.stderr,
+    )
+    sys.exit(3)
 sys.exit(0 if status == 201 else 1)

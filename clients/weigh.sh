@@ -8,7 +8,11 @@
 # place. If this program is stopped before, it is called again with the key that it printed on standard error, as long as the vehicle is on
 # the bridge. WEIGHBRIDGE is the office, http://127.0.0.1:8080 if it isn't set. Needs curl.
 #
-# Status: 0 the weighing is stored and its text was printed, 1 refused, for the reason on standard error, 2 wrong words, 3 no answer in time, or stopped before.
+# Only the office's own judgement settles the request: a slip, a ticket, a refusal or `fault 422`. A response of another program, such as
+# nginx's 401 or 429, doesn't, because it says nothing of an earlier attempt.
+#
+# Status: 0 the weighing is stored and its text was printed, 1 refused, for the reason on standard error, 2 wrong words, 3 it isn't known whether
+# it is stored: no answer came in time, this program was stopped before, or the entry under its key is damaged.
 set -eu
 case "${1-} $#" in
     first\ [23] | second\ [23] | single\ [23] | void\ [23]) ;;
@@ -37,6 +41,14 @@ ask() {
     text=$(sed "1,/$end_of_head/d" "$answer")
 }
 
+# Whether this is the office's judgement of the request.
+is_settled() {
+    case "$status $text" in
+        201\ * | 4??\ refused\ * | 422\ fault\ 422\ *) ;;
+        *) false ;;
+    esac
+}
+
 # The words for the counter of what refused, or else the answer as it is.
 reason() {
     number=$(printf '%s\n' "$text" | sed -n '1s/^[a-z]* \([0-9]*\) .*/\1/p')
@@ -45,7 +57,7 @@ reason() {
 
 echo "key $key" >&2
 ask
-while [ "$status" = 000 ] || [ "$status" -ge 500 ]; do
+until is_settled; do
     if [ "$(date +%s)" -ge "$end" ]; then
         echo "no answer for $seconds s, so it isn't known whether the weighing is stored" >&2
         echo "if the vehicle is still on the bridge: $0 $kind $plate $key" >&2
@@ -59,6 +71,13 @@ while [ "$status" = 000 ] || [ "$status" -ge 500 ]; do
 done
 if [ "$status" != 201 ]; then
     reason >&2
+    case "$text" in
+        refused\ 17\ *)
+            echo "it isn't known whether the weighing is stored" >&2
+            echo "look for the key $key in the office's journal.csv, and call the operator" >&2
+            exit 3
+            ;;
+    esac
     exit 1
 fi
 printf '%s\n' "$text"

@@ -60,8 +60,17 @@ def cut(at):
     return lambda gateway, request: whole(gateway, request)[:at]
 
 
-def unavailable(status):
-    """The gateway itself answers, since it has lost the office."""
-    return (
-        lambda gateway, request: f"HTTP/1.1 {status} Nothing\r\nContent-Length: 0\r\nConnection: close\r\n\r\n".encode()
-    )
+def unavailable(status, text=""):
+    """Answer for the gateway itself, with a text that the request didn't get from the office."""
+    head = f"HTTP/1.1 {status} Nothing\r\nContent-Length: {len(text)}\r\nConnection: close\r\n\r\n"
+    return lambda gateway, request: (head + text).encode()
+
+
+def instead(status, text):
+    """Let the office have the whole request, and answer this in place of its response."""
+
+    def answer(gateway, request):
+        whole(gateway, request)
+        return unavailable(status, text)(gateway, request)
+
+    return answer
