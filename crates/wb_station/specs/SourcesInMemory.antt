@@ -1,5 +1,5 @@
 -- What sources in memory kept.
-use Rattle.std.specs.Prelude.{Bool, true, false, List, map, reverse, Option, Some, None}
+use Rattle.std.specs.Prelude.{ℕ, ◌<◌, ◌≤◌, ◌≡◌, ◌⊎◌, Bool, true, false, List, map, reverse, Option, Some, None}
 use Rattle.wb_station.specs.declared.list_sources.Answered.{Answered}
 use Rattle.wb_station.specs.declared.list_sources.Answered.TheVariants as kept
 use Rattle.wb_station.specs.declared.list_sources.HandedIn.{HandedIn}
@@ -22,3 +22,7 @@ handed_of (Noticed notice) = noticed notice
 abbrev pub told_of : Bool → List Answered → List HandedIn → Option Told
 told_of true answered handed = None
 told_of false answered handed = Some (record { answers = reverse (map answer_of answered); handed = reverse (map handed_of handed) })
+
+-- a fault is kept only where memory is asked for: for a copy of so many bytes, or for a place in a list that is full
+abbrev pub AsksForMemory : Bool → Bool → ℕ → ℕ → ℕ → Type 0
+AsksForMemory before after bytes length capacity = before ≡ false → after ≡ true → (0 < bytes) ⊎ (capacity ≤ length)

@@ -1,8 +1,9 @@
 //! Sources in memory.
-ghost use Rattle.std.specs.Prelude.{◌≡◌, ◌∷◌, [], false, length, min, take};
+ghost use Rattle.std.specs.Prelude.{◌≡◌, ◌<◌, ◌≤◌, ◌∷◌, [], IfSome, IsNone, false, length, min, option_map, take, unwrap_or, vec_capacity, vec_len};
 ghost use Rattle.wb_input.specs.Converted.{IsConverted};
-ghost use Rattle.wb_station.specs.SourceAnswers.{SourceTells, timed};
-ghost use Rattle.wb_station.specs.SourcesInMemory.{answer_of, handed_of, told_of};
+ghost use Rattle.wb_messages.specs.declared.notice.Notice.{Notice};
+ghost use Rattle.wb_station.specs.SourceAnswers.{MayNotice, SourceTells, asked, converted, timed, to_office, to_terminal, took};
+ghost use Rattle.wb_station.specs.SourcesInMemory.{AsksForMemory, answer_of, handed_of, told_of};
 
 use crate::sources::Sources;
 use std::alloc::Global;
@@ -109,6 +110,8 @@ impl ListSources {
         ensures range { IsConverted result }
         ensures told { told_of self.new.has_fault self.new.answered.items self.new.handed.items
             ≡ told_of self.old.has_fault self.old.answered.items self.old.handed.items }
+        ensures fault { self.new.has_fault ≡ self.old.has_fault }
+        ensures answered { self.new.answered ≡ self.old.answered }
     {
         let Some(turn) = self.turns.as_slice().get(self.begun) else {
             return Converter::End;
@@ -119,7 +122,8 @@ impl ListSources {
 
     /// Keeps what a call answered.
     fn keep_answer(&mut self, answer: Answered)
-        ensures { SourceTells (answer_of answer ∷ []) []
+        ensures full { AsksForMemory self.old.has_fault self.new.has_fault 0 (vec_len self.old.answered) (vec_capacity self.old.answered) }
+        ensures told { SourceTells (answer_of answer ∷ []) []
             (told_of self.old.has_fault self.old.answered.items self.old.handed.items)
             (told_of self.new.has_fault self.new.answered.items self.new.handed.items) }
     {
@@ -131,7 +135,8 @@ impl ListSources {
 
     /// Keeps what was handed in.
     fn keep_handed(&mut self, handed: HandedIn)
-        ensures { SourceTells [] (handed_of handed ∷ [])
+        ensures full { AsksForMemory self.old.has_fault self.new.has_fault 0 (vec_len self.old.handed) (vec_capacity self.old.handed) }
+        ensures told { SourceTells [] (handed_of handed ∷ [])
             (told_of self.old.has_fault self.old.answered.items self.old.handed.items)
             (told_of self.new.has_fault self.new.answered.items self.new.handed.items) }
     {
@@ -145,32 +150,47 @@ impl ListSources {
 impl Sources for ListSources {
     ghost told = { λ s. told_of s.has_fault s.answered.items s.handed.items };
 
-    fn converter(&mut self) -> Converter {
+    fn converter(&mut self) -> Converter
+        ensures range { IsConverted result }
+        ensures told { SourceTells (converted result ∷ []) [] (told_of self.old.has_fault self.old.answered.items self.old.handed.items) (told_of self.new.has_fault self.new.answered.items self.new.handed.items) }
+        ensures full { AsksForMemory self.old.has_fault self.new.has_fault 0 (vec_len self.old.answered) (vec_capacity self.old.answered) }
+    {
         let converter = self.next_line();
         self.keep_answer(Answered::Converter(converter));
         converter
     }
 
-    fn terminal(&mut self, room: &mut [u8; TERMINAL_ROOM]) -> Taken {
+    fn terminal(&mut self, room: &mut [u8; TERMINAL_ROOM]) -> Taken
+        ensures count { result.count ≤ TERMINAL_ROOM }
+        ensures told { SourceTells (took (take result.count room.new) result.hung_up ∷ []) [] (told_of self.old.has_fault self.old.answered.items self.old.handed.items) (told_of self.new.has_fault self.new.answered.items self.new.handed.items) }
+        ensures full { AsksForMemory self.old.has_fault self.new.has_fault result.count (vec_len self.old.answered) (vec_capacity self.old.answered) }
+    {
         let (count, hung_up) = match self.turn() {
             Some(turn) => (fill(room, turn.typed.as_slice()), turn.hung_up),
             None => (0, false),
         };
-        match Vec::from_slice(self.alloc, &room[..count]) {
-            Ok(bytes) => self.keep_answer(Answered::Terminal { bytes, hung_up }),
-            Err(_) => self.has_fault = true,
+        match copy_of(self.alloc, &room[..count]) {
+            Some(bytes) => self.keep_answer(Answered::Terminal { bytes, hung_up }),
+            None => self.has_fault = true,
         }
         Taken { count, hung_up }
     }
 
-    fn reply(&mut self, bytes: &[u8]) {
-        match Vec::from_slice(self.alloc, bytes) {
-            Ok(copy) => self.keep_handed(HandedIn::Reply(copy)),
-            Err(_) => self.has_fault = true,
+    fn reply(&mut self, bytes: &[u8])
+        ensures told { SourceTells [] (to_terminal bytes.now ∷ []) (told_of self.old.has_fault self.old.answered.items self.old.handed.items) (told_of self.new.has_fault self.new.answered.items self.new.handed.items) }
+        ensures full { AsksForMemory self.old.has_fault self.new.has_fault (length bytes.now) (vec_len self.old.handed) (vec_capacity self.old.handed) }
+    {
+        match copy_of(self.alloc, bytes) {
+            Some(copy) => self.keep_handed(HandedIn::Reply(copy)),
+            None => self.has_fault = true,
         }
     }
 
-    fn office(&mut self, room: &mut [u8; REQUEST_ROOM]) -> Option<usize> {
+    fn office(&mut self, room: &mut [u8; REQUEST_ROOM]) -> Option<usize>
+        ensures count { IfSome result (λ n. n ≤ REQUEST_ROOM) }
+        ensures told { SourceTells (asked (option_map (λ n. take n room.new) result) ∷ []) [] (told_of self.old.has_fault self.old.answered.items self.old.handed.items) (told_of self.new.has_fault self.new.answered.items self.new.handed.items) }
+        ensures full { AsksForMemory self.old.has_fault self.new.has_fault (unwrap_or result 0) (vec_len self.old.answered) (vec_capacity self.old.answered) }
+    {
         let asked = match self.turn() {
             Some(
                 ListTurn {
@@ -181,29 +201,38 @@ impl Sources for ListSources {
             _ => None,
         };
         match asked {
-            Some(count) => match Vec::from_slice(self.alloc, &room[..count]) {
-                Ok(bytes) => self.keep_answer(Answered::Office(Some(bytes))),
-                Err(_) => self.has_fault = true,
+            Some(count) => match copy_of(self.alloc, &room[..count]) {
+                Some(bytes) => self.keep_answer(Answered::Office(Some(bytes))),
+                None => self.has_fault = true,
             },
             None => self.keep_answer(Answered::Office(None)),
         }
         asked
     }
 
-    fn moment(&mut self) -> Option<Moment> {
+    fn moment(&mut self) -> Option<Moment>
+        ensures told { SourceTells (timed result ∷ []) [] (told_of self.old.has_fault self.old.answered.items self.old.handed.items) (told_of self.new.has_fault self.new.answered.items self.new.handed.items) }
+        ensures full { AsksForMemory self.old.has_fault self.new.has_fault 0 (vec_len self.old.answered) (vec_capacity self.old.answered) }
+    {
         let moment = self.now();
         self.keep_answer(answer_of_clock(&moment));
         moment
     }
 
-    fn respond(&mut self, bytes: &[u8]) {
-        match Vec::from_slice(self.alloc, bytes) {
-            Ok(copy) => self.keep_handed(HandedIn::Response(copy)),
-            Err(_) => self.has_fault = true,
+    fn respond(&mut self, bytes: &[u8])
+        ensures told { SourceTells [] (to_office bytes.now ∷ []) (told_of self.old.has_fault self.old.answered.items self.old.handed.items) (told_of self.new.has_fault self.new.answered.items self.new.handed.items) }
+        ensures full { AsksForMemory self.old.has_fault self.new.has_fault (length bytes.now) (vec_len self.old.handed) (vec_capacity self.old.handed) }
+    {
+        match copy_of(self.alloc, bytes) {
+            Some(copy) => self.keep_handed(HandedIn::Response(copy)),
+            None => self.has_fault = true,
         }
     }
 
-    fn notice(&mut self, notice: &Notice) {
+    fn notice(&mut self, notice: &Notice)
+        ensures told { MayNotice notice.now (told_of self.old.has_fault self.old.answered.items self.old.handed.items) (told_of self.new.has_fault self.new.answered.items self.new.handed.items) }
+        ensures full { AsksForMemory self.old.has_fault self.new.has_fault 0 (vec_len self.old.handed) (vec_capacity self.old.handed) }
+    {
         self.keep_handed(HandedIn::Noticed(notice.copied()));
     }
 }
@@ -225,6 +254,18 @@ fn in_range(converter: Converter) -> Converter
         Converter::Line(Reading::Lost) => Converter::Line(Reading::Lost),
         Converter::End => Converter::End,
         Converter::Fault => Converter::Fault,
+    }
+}
+
+/// Returns a copy of bytes, or `None` if memory is refused for it. No bytes need none.
+fn copy_of(alloc: Global, bytes: &[u8]) -> Option<Vec<u8>>
+    ensures value { IfSome result (λ copy. copy.items ≡ bytes.now) }
+    ensures asks { IsNone result → 0 < length bytes.now }
+{
+    let mut copy = Vec::new(alloc);
+    match copy.extend_from_slice(bytes) {
+        Ok(()) => Some(copy),
+        Err(_) => None,
     }
 }
 
