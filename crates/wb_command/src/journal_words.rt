@@ -34,7 +34,7 @@ pub(crate) fn check_command<'a>(alloc: Global) -> Result<Command<'a>, AllocError
     let check = Command::new(alloc, "check")
         .about("checks the journal in a file, and prints what it finds")
         .after_help(CHECK_EXAMPLE)
-        .arg(file_argument(alloc, "file of the journal, which has to be there"))?;
+        .arg(file_argument(alloc, "file of the journal; it must exist"))?;
     with_verbose(alloc, check, EXPLAINS)
 }
 
@@ -53,7 +53,7 @@ pub(crate) fn export_command<'a>(alloc: Global) -> Result<Command<'a>, AllocErro
     let export = Command::new(alloc, "export")
         .about("prints the journal in a file, or its tickets, as CSV")
         .after_help(EXPORT_EXAMPLE)
-        .arg(file_argument(alloc, "file of the journal, which has to be there"))?;
+        .arg(file_argument(alloc, "file of the journal; it must exist"))?;
     let export = export.arg(what_argument(alloc))?;
     with_verbose(alloc, export, EXPLAINS)
 }
@@ -66,7 +66,7 @@ fn to_argument<'a>(alloc: Global) -> Arg<'a> {
         .required(true)
         .action(ArgAction::Set)
         .help(
-            "file of the journal as version 2, made if it isn't there; one that is not empty is refused",
+            "file for the journal as version 2; if it doesn't exist, it is made; a file that isn't empty is refused",
         )
 }
 
@@ -75,10 +75,7 @@ pub(crate) fn migrate_command<'a>(alloc: Global) -> Result<Command<'a>, AllocErr
     let migrate = Command::new(alloc, "migrate")
         .about("writes the journal in a file of version 1 into a new file, as version 2")
         .after_help(MIGRATE_EXAMPLE)
-        .arg(file_argument(
-            alloc,
-            "file of the journal of version 1, which has to be there",
-        ))?;
+        .arg(file_argument(alloc, "file of the journal of version 1; it must exist"))?;
     let migrate = migrate.arg(to_argument(alloc))?;
     with_verbose(alloc, migrate, EXPLAINS)
 }

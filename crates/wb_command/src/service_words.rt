@@ -11,9 +11,10 @@ const MOST_TURNS: i64 = 1_000_000_000;
 const EXAMPLE: &str = "Example:
   weighbridge serve --file journal.db --terminal 127.0.0.1:4001 --office 127.0.0.1:8080 --converter tcp:127.0.0.1:4000 \\
     --window 10
-serves the bridge whose converter sends its lines on port 4000, until the converter ends or a million lines were read, and then
-prints how many turns there were.
-A window of fewer readings than come in a second stores a wrong weight of a load that swings: --window 10 at 10 readings a second.";
+serves the bridge whose converter sends its lines on port 4000. It ends when the converter ends or a million lines were read, and
+then prints the number of turns.
+If the window has fewer readings than come in a second, a wrong weight of a load that swings may be stored. Give --window 10 at 10
+readings a second.";
 
 /// Over what a bridge is to be served, and for how long.
 #[derive(Drop)]
@@ -79,7 +80,9 @@ fn turns_argument<'a>(alloc: Global) -> Arg<'a> {
         .action(ArgAction::Set)
         .value_parser(value_parser!(u64).range(1..=MOST_TURNS))
         .default_value("1000000")
-        .help("turns after which it ends, each with a line of the converter: 1 to 1000000000")
+        .help(
+            "number of turns after which it ends; each turn reads a line of the converter: 1 to 1000000000",
+        )
 }
 
 fn look_argument<'a>(alloc: Global) -> Arg<'a> {
@@ -87,7 +90,7 @@ fn look_argument<'a>(alloc: Global) -> Arg<'a> {
         .long("check")
         .action(ArgAction::SetTrue)
         .help(
-            "start nothing, and tell whether it would start: status 0, 1 if not now, 2 if never so",
+            "start nothing, and report whether the service would start: status 0 if it would, 1 if it can't now, 2 if these arguments never can",
         )
 }
 
@@ -96,7 +99,10 @@ pub(crate) fn serve_command<'a>(alloc: Global) -> Result<Command<'a>, AllocError
     let serve = Command::new(alloc, "serve")
         .about("serves a weighbridge: its converter, its terminal and its office")
         .after_help(EXAMPLE)
-        .arg(file_argument(alloc, "file of the journal, made if it isn't there"))?;
+        .arg(file_argument(
+            alloc,
+            "file of the journal; if it doesn't exist, it is made",
+        ))?;
     let serve = with_texts(alloc, serve)?;
     let serve = serve.arg(turns_argument(alloc))?;
     let help = "report connections, requests and faults on standard error";

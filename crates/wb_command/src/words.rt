@@ -16,11 +16,11 @@ pub const VERSION: &str = "2.1.1";
 
 const REPLAY_EXAMPLE: &str = "Example:
   printf 'r 9170 4\\nt SI\\n' | weighbridge replay
-takes four readings of 9170 tenths of e and a request for the weight, and prints t S S      18340 kg.";
+processes four readings of 9170 tenths of e and a request for the weight, and prints t S S      18340 kg.";
 
 /// The help of `--verbose`, where it only explains faults.
 pub(crate) const EXPLAINS: &str =
-    "say on standard error which file or option a fault is of, and why";
+    "explain each fault on standard error: which file or option it concerns, and why";
 
 /// The request of a command line, and whether the program explains a fault.
 #[derive(Drop)]

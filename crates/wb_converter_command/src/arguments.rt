@@ -12,7 +12,7 @@ pub(crate) struct Text(
 static CALIBRATION: Text = Text(
     "calibration",
     "FILE",
-    "file of the calibrations; the points of one that isn't finished are in a file beside it, FILE.points",
+    "file of the calibrations; the points of an unfinished one are in the file FILE.points next to it",
 );
 
 pub(crate) fn text_argument<'a>(alloc: Global, text: &Text) -> Arg<'a> {

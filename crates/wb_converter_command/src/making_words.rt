@@ -21,13 +21,13 @@ const GREATEST_SPREAD: i64 = 4_294_967_295;
 const POINT_EXAMPLE: &str =
     "Example, with 8000 kg of test weights on a bridge whose interval is 20 kg:
   modbus --tcp 192.168.1.10 .. | weighbridge-converter point --calibration calibration --load-kg 8000 --interval 20 --spread 20
-prints that these are 4000 tenths, takes 50 lines of counts, prints their mean and spread, and keeps the mean as a point, unless they
-spread over more than 20 counts. --load 4000 is the same load.";
+prints that these are 4000 tenths, reads 50 lines of counts, and prints their mean and spread. It keeps the mean as a point, unless the
+spread is more than 20 counts. --load 4000 is the same load.";
 
 const FINISH_EXAMPLE: &str = "Example:
   weighbridge-converter finish --calibration calibration --filter median 5
-puts a calibration of the points that were taken, with this filter, behind those in the file, and prints its number and its digest. If no
-points were taken, the new calibration has those of the newest, with this filter in place of its own; mean 1 filters nothing.";
+makes a calibration of the points that were taken, with this filter, appends it to the file, and prints its number and its digest. If no
+points were taken, the new calibration has the points of the newest one, and this filter in place of its own. mean 1 is no filter.";
 
 /// The load on the bridge while a point is taken.
 #[derive(Clone, Copy)]
@@ -74,7 +74,7 @@ fn load_argument<'a>(alloc: Global) -> Arg<'a> {
 /// The load in kilograms, in place of the one in tenths.
 fn kilograms_argument<'a>(alloc: Global) -> Result<Arg<'a>, AllocError> {
     let help =
-        "load on the bridge in kg, in place of --load: a whole number of tenths of --interval";
+        "load on the bridge in kg, in place of --load; it must be a whole number of tenths of --interval";
     let load = number_argument(alloc, "load-kg", "KG", 0, GREATEST_KILOGRAMS, help);
     load.required_unless_present("load")?
         .conflicts_with("load")?
@@ -93,7 +93,7 @@ fn spread_argument<'a>(alloc: Global) -> Arg<'a> {
 }
 
 fn lines_argument<'a>(alloc: Global) -> Arg<'a> {
-    let help = "lines of which the mean is taken: 1 to 10000";
+    let help = "number of lines whose mean is taken: 1 to 10000";
     number_argument(alloc, "lines", "LINES", 1, MOST_LINES, help).default_value("50")
 }
 
@@ -113,7 +113,7 @@ pub(crate) fn finish_command<'a>(alloc: Global) -> Result<Command<'a>, AllocErro
     let about = "makes a calibration of the points that were taken";
     let finish = over_calibration(alloc, "finish", about, FINISH_EXAMPLE)?;
     let help =
-        "what is made of the last 1 to 32 readings: median or mean, and of how many; nothing if it isn't given";
+        "filter: median or mean of the last 1 to 32 readings; without this option there is no filter";
     finish.arg(filter_argument(alloc, help))
 }
 

@@ -15,13 +15,13 @@ const VERSION: &str = "2.1.1";
 
 const RUN_EXAMPLE: &str = "Example:
   modbus --tcp 192.168.1.10 .. | weighbridge-converter run --calibration calibration --listen 127.0.0.1:4000
-hands lines of tenths of e to the program that connects to port 4000, as weighbridge serve --converter tcp:127.0.0.1:4000 does.
-With --fifo /run/weighbridge/converter in the place of --listen it hands them to weighbridge serve --converter /run/weighbridge/converter.";
+sends lines of tenths of e to the program that connects to port 4000, as weighbridge serve --converter tcp:127.0.0.1:4000 does.
+With --fifo /run/weighbridge/converter in place of --listen, it writes them for weighbridge serve --converter /run/weighbridge/converter.";
 
 const SHOW_EXAMPLE: &str = "Examples:
   weighbridge-converter show --calibration calibration
   weighbridge-converter show --calibration calibration --plot | gnuplot > calibration.svg
-A file that was changed is refused by the number of the first calibration that isn't as it was made (status 1).";
+If the file was changed, it is refused with the number of the first calibration that was changed (status 1).";
 
 static LISTEN: Text = Text(
     "listen",
@@ -32,7 +32,7 @@ static LISTEN: Text = Text(
 static FIFO: Text = Text(
     "fifo",
     "PATH",
-    "FIFO to write the lines into, in the place of a client: whoever may not open it can neither read them nor send others",
+    "FIFO to write the lines into, in place of a client; only users who may open it can read them or write others",
 );
 
 /// Where lines are handed to.
@@ -168,7 +168,7 @@ fn show_of(calibration: String, words: &ArgMatches<'_>) -> ConverterInvocation {
 /// The subcommand `run`.
 fn run_command<'a>(alloc: Global) -> Result<Command<'a>, AllocError> {
     let about =
-        "hands the load of each line of counts on standard input to the client that is connected";
+        "sends the load of each line of counts on standard input to the client that is connected";
     let run = over_calibration(alloc, "run", about, RUN_EXAMPLE)?;
     let run = run.arg(text_argument(alloc, &LISTEN).required(false))?;
     let run = run.arg(text_argument(alloc, &FIFO).required(false))?;
@@ -176,7 +176,7 @@ fn run_command<'a>(alloc: Global) -> Result<Command<'a>, AllocError> {
     let receiver = ArgGroup::new(alloc, "receiver").required(true);
     let run = run.group(receiver.arg("listen")?.arg("fifo")?)?;
     let help =
-        "what the calibration has to make of the last readings, as given to finish; any other is refused";
+        "filter that the calibration must have, as it was given to finish; a calibration with another one is refused";
     let run = run.arg(filter_argument(alloc, help))?;
     let help = "report connections and faults on standard error";
     run.arg(flag(alloc, "verbose", help))

@@ -11,7 +11,7 @@ use wb_converter_command::{ConverterInvocation, Load, Receiver, Running, Samplin
 /// The words of a command line, and how they are understood (or a part of it).
 struct Row(&'static str, &'static str);
 
-static WORDS: [Row; 11] = [
+static WORDS: [Row; 13] = [
     Row(
         "weighbridge-converter run --calibration F --listen 127.0.0.1:4000",
         "run F 127.0.0.1:4000 no filter, false",
@@ -52,9 +52,14 @@ static WORDS: [Row; 11] = [
         "weighbridge-converter finish --filter mean 2 --calibration F",
         "finish F mean 2",
     ),
+    Row("weighbridge-converter show --calibration F", "show F"),
     Row(
         "weighbridge-converter show --calibration F --plot",
         "plot F",
+    ),
+    Row(
+        "weighbridge-converter finish --calibration F --filter mean 1",
+        "finish F mean 1",
     ),
 ];
 
