@@ -1,6 +1,7 @@
 """Papers at printers that are played: one original, whatever fails; each trouble in its own name; nothing printed twice, and nothing lost."""
 
 import contextlib
+import dataclasses
 import io
 import os
 import re
@@ -20,7 +21,7 @@ from weighbridge_paper.page import page_of, path_of
 from weighbridge_paper.forms import FORMS
 from weighbridge_paper.pdf import Sheet
 from weighbridge_paper.printers import Printer, read_papers
-from weighbridge_paper.printing import Worker
+from weighbridge_paper.printing import Worker, about
 from weighbridge_paper.reader import SetupFault
 from weighbridge_paper.spool import Spool
 from weighbridge_paper.text import read_text
@@ -448,8 +449,29 @@ class Pdf(unittest.TestCase):
     def test_the_same_paper_is_the_same_bytes(self):
         for form in FORMS:
             blocks = layout.blocks_of(layout.Paper(read_text(USUAL["second"].text)), TEMPLATE)
-            one, other = (Sheet(FORMS[form]).pdf_of(blocks, "WB01 2", "Kieswerk") for _ in range(2))
+            paper = layout.Paper(read_text(USUAL["second"].text))
+            one, other = (
+                Sheet(FORMS[form]).pdf_of(blocks, about(paper, TEMPLATE)) for _ in range(2)
+            )
             self.assertEqual(one, other)
+
+    def test_it_says_what_it_is_and_when_and_in_which_language(self):
+        for sample, language, title in (
+            ("second", "en", "Weighing ticket 2, WB01, AB-12"),
+            ("second", "de", "Wiegeschein 2, WB01, AB-12"),
+            ("first", "fr", "Bulletin 2, WB01, AB-12"),
+        ):
+            paper = layout.Paper(read_text(USUAL[sample].text))
+            template = dataclasses.replace(TEMPLATE, language=language)
+            data = Sheet(FORMS["a5"]).pdf_of(
+                layout.blocks_of(paper, template), about(paper, template)
+            )
+            moment = f"{paper.text.own.at:D:%Y%m%d%H%M%S}+00'00'"
+            for name, value in (("Title", title), ("CreationDate", moment), ("Lang", language)):
+                self.assertTrue(f"/{name} ({value})".encode() in data, f"{name}: {value}")
+
+    def test_a_reader_at_100_dots_per_inch_can_read_the_code(self):
+        self.assertGreaterEqual(min(it.module for it in FORMS.values()) / 72 * 100, 2.9)
 
     def test_figures_of_the_legal_text_are_two_millimetres_high(self):
         self.assertGreaterEqual(min(it.legal for it in FORMS.values()) * 0.729 * 25.4 / 72, 2.0)

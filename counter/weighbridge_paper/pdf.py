@@ -1,8 +1,10 @@
 """A paper as PDF, by reportlab, with the fonts of the package fonts-dejavu-core embedded."""
 
+import datetime
 import functools
 import io
 from collections.abc import Callable, Sequence
+from dataclasses import dataclass
 from pathlib import Path
 
 from reportlab.pdfbase import pdfmetrics  # type: ignore[import]
@@ -28,6 +30,16 @@ def width_of(text: str, font: str, size: float) -> float:
     return float(pdfmetrics.stringWidth(text, font, size))
 
 
+@dataclass(frozen=True)
+class About:
+    """What the file says of itself."""
+
+    title: str
+    author: str
+    moment: datetime.datetime  # in UTC
+    language: str
+
+
 Draw = Callable[[Canvas, float], None]  # on a canvas, from a height downwards
 
 
@@ -38,15 +50,23 @@ class Sheet:
         load_fonts()
         self.form, self.pieces = form, list[tuple[float, Draw]]()
 
-    def pdf_of(self, blocks: Sequence[layout.Block], title: str, author: str) -> bytes:
+    def pdf_of(self, blocks: Sequence[layout.Block], about: About) -> bytes:
+        """Return the file: the same bytes for the same paper, because its date is the weighing's."""
         for it in blocks:
             self._put(it)
         file = io.BytesIO()
         form = self.form
         height = form.height or sum(it[0] for it in self.pieces) + 2 * form.margin
-        canvas = Canvas(file, pagesize=(form.width, height), invariant=1, initialFontName=PLAIN)
-        canvas.setTitle(title)
-        canvas.setAuthor(author)
+        canvas = Canvas(
+            file,
+            pagesize=(form.width, height),
+            invariant=1,
+            initialFontName=PLAIN,
+            lang=about.language,
+        )
+        canvas.setTitle(about.title)
+        canvas.setAuthor(about.author)
+        canvas.setDateFormatter(lambda *_now: f"{about.moment:D:%Y%m%d%H%M%S}+00'00'")
         self._draw(canvas, height, marks_of(blocks))
         canvas.save()
         return file.getvalue()

@@ -2,13 +2,17 @@
 
 from collections.abc import Callable
 from pathlib import Path
+from typing import TYPE_CHECKING
 
-from . import layout
+from . import layout, words
 from .devices import GiveUp, Queue, Trouble, put_in_folder, wire_to
 from .escpos import Roll
 from .forms import FORMS
 from .printers import Printer
 from .spool import Job, Spool
+
+if TYPE_CHECKING:
+    from .pdf import About
 
 
 def data_of(paper: layout.Paper, printer: Printer) -> bytes:
@@ -18,9 +22,20 @@ def data_of(paper: layout.Paper, printer: Printer) -> bytes:
         return Roll(printer.columns, printer.pages, printer.is_cut).bytes_of(blocks)
     from .pdf import Sheet  # reportlab is large, and a printer for ESC/POS needs none
 
-    own = paper.text.own
-    return Sheet(FORMS[printer.form]).pdf_of(
-        blocks, f"{own.serial} {own.number}", " ".join(printer.template.header[:1])
+    return Sheet(FORMS[printer.form]).pdf_of(blocks, about(paper, printer.template))
+
+
+def about(paper: layout.Paper, template: layout.Template) -> "About":
+    """Return what a PDF says of itself, such as the title `Weighing ticket 2, WB01, AB-12`."""
+    from .pdf import About
+
+    text, own = paper.text, paper.text.own
+    kind = words.word("ticket" if text.is_ticket else "slip", template.language)
+    return About(
+        f"{kind} {own.number}, {own.serial}, {text.plate}",
+        " ".join(template.header[:1]),
+        own.at,
+        template.language,
     )
 
 
