@@ -9,8 +9,12 @@ is the office's address, http://127.0.0.1:8080 if it isn't set.
 Only the office's own judgement settles the request: a slip, a ticket, a refusal or `fault 422`. A response of another program, such as nginx's 401 or
 429, doesn't, because it says nothing of an earlier attempt.
 
-Status: 0 the weighing is stored and its text was printed, 1 it was refused, for the reason on standard error, 2 wrong arguments, 3 it isn't known
-whether it is stored, because no answer came in time or the entry under its key is damaged.
+The status is one of these:
+
+- 0: The weighing is stored, and its text was printed.
+- 1: It was refused. The reason is on standard error.
+- 2: The arguments are wrong.
+- 3: It isn't known whether the weighing is stored, because no answer came in time, or the entry under its key is damaged.
 """
 
 import argparse

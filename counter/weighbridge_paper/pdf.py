@@ -32,7 +32,7 @@ def width_of(text: str, font: str, size: float) -> float:
 
 @dataclass(frozen=True)
 class About:
-    """What the file says of itself."""
+    """Title, author, date and language, which the file has in its properties."""
 
     title: str
     author: str
