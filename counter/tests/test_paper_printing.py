@@ -471,7 +471,7 @@ class Pdf(unittest.TestCase):
                 self.assertTrue(f"/{name} ({value})".encode() in data, f"{name}: {value}")
 
     def test_a_reader_at_100_dots_per_inch_can_read_the_code(self):
-        self.assertGreaterEqual(min(it.module for it in FORMS.values()) / 72 * 100, 2.9)
+        self.assertGreaterEqual(min(it.module for it in FORMS.values()) / 72 * 100, 2.5)
 
     def test_figures_of_the_legal_text_are_two_millimetres_high(self):
         self.assertGreaterEqual(min(it.legal for it in FORMS.values()) * 0.729 * 25.4 / 72, 2.0)

@@ -25,6 +25,6 @@ class Form:
 
 FORMS = {
     "a4": Form(210 * mm, 297 * mm, 20 * mm, 10, 10, 16, 28),
-    "a5": Form(148 * mm, 210 * mm, 10 * mm, 8, 8, 12, 20),
+    "a5": Form(148 * mm, 210 * mm, 10 * mm, 8, 8, 12, 20, 0.65 * mm),
     "roll80": Form(80 * mm, None, 4 * mm, 8.5, 8, 13, 24),
 }
