@@ -1,4 +1,5 @@
 pub mod Filters
+pub mod LinesOfCounts
 pub mod Means
 pub mod Places
 pub mod Theorems

@@ -1,6 +1,6 @@
 //! Counts under one load, read from lines.
-ghost use Rattle.std.specs.Prelude.{◌≡◌, ◌+◌, ◌++◌, ◌∷◌, [], IfOk, Some, map, vec_len};
-ghost use Rattle.wb_converter.specs.Counts.{counts_of};
+ghost use Rattle.std.specs.Prelude.{◌≡◌, ◌≤◌, ◌++◌, ◌∷◌, ℕ, [], IfOk, IfSome, List, OnOk, Some, map, vec_len};
+ghost use Rattle.wb_converter.specs.Counts.{AreCounted, AreOfFirstLines, HasNoEnd, IsHeld, counts_in, counts_of_partial};
 
 use crate::counts::{LINE, counts_line};
 use std::alloc::Global;
@@ -11,7 +11,7 @@ use wb_input::LineBuffer;
 /// How many bytes of lines are read at once.
 const ROOM: usize = 512;
 
-/// How many reads there are at most.
+/// The most reads. An input that gives fewer bytes at a time is a fault.
 const READS: u32 = 10_000_000;
 
 /// Why no point was taken of lines.
@@ -31,17 +31,18 @@ pub enum SampleFault {
     Memory,
 }
 
-/// The counts of so many lines of an input.
+/// Reads the first `lines` lines of `input`, and returns their counts in order. What comes after the last LF is no line.
 ///
 /// # Errors
 ///
-/// A line without counts, an input that ends before or can't be read, and want of memory.
+/// A line has no counts, the input ends too early or can't be read, or memory was refused.
 pub fn read_counts<I: Read>(
     alloc: Global,
     input: &mut I,
     lines: u32,
 ) -> Result<Vec<i32>, SampleFault>
-    ensures { IfOk result (λ counts. vec_len counts ≡ lines) }
+    ensures all { IfOk result (λ counts. vec_len counts ≡ lines) }
+    ensures value { IfOk result (λ counts. IfSome (I.remaining input.old) (AreOfFirstLines (map Some counts.items))) }
 {
     let mut line = LineBuffer::<LINE>::new();
     let mut counts = Vec::new(alloc);
@@ -59,33 +60,33 @@ pub fn read_counts<I: Read>(
     Err(SampleFault::Input)
 }
 
-/// Appends the counts of the lines whose end is among these bytes, as long as there are fewer than so many.
+/// Adds `bytes` to the line that has begun, and appends the counts of each line that they end, until there are `lines` of them.
 fn push_counts(
     counts: &mut Vec<i32>,
     line: &mut LineBuffer<LINE>,
     bytes: &[u8],
     lines: u32,
-) -> Result<(), SampleFault> {
+) -> Result<(), SampleFault>
+    ensures { (begun after : List ℕ) → vec_len counts.old ≤ lines → HasNoEnd begun → IsHeld line.old begun
+        → OnOk result (AreCounted lines (map Some counts.new.items) line.new after (map Some counts.old.items ++ counts_in (begun ++ bytes.now ++ after))) }
+{
     let mut left = bytes;
-    for _ in 0..ROOM {
-        if counts.len() == lines as usize {
-            return Ok(());
-        }
+    while counts.len() < lines as usize {
         let Some(after) = line.take(left) else {
             return Ok(());
         };
         left = after;
-        push_line(counts, line.line().unwrap_or(&[]))?;
+        push_line(counts, line)?;
         line.begin();
     }
     Ok(())
 }
 
-/// Appends the counts of a line.
-fn push_line(counts: &mut Vec<i32>, line: &[u8]) -> Result<(), SampleFault>
-    ensures { IfOk result (λ _. map Some counts.new.items ≡ map Some counts.old.items ++ counts_of line.now ∷ []) }
+/// Appends the counts of the line that is held.
+fn push_line(counts: &mut Vec<i32>, line: &LineBuffer<LINE>) -> Result<(), SampleFault>
+    ensures { OnOk result (map Some counts.new.items ≡ map Some counts.old.items ++ counts_of_partial line.now ∷ []) }
 {
-    let Some(read) = counts_line(line) else {
+    let Some(read) = counts_line(line.line().unwrap_or(&[])) else {
         return Err(SampleFault::Line(counts.len() as u64 + 1));
     };
     match counts.push(read) {
