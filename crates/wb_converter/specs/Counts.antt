@@ -44,7 +44,7 @@ IsHeld line begun = (length begun ≤ 64 → line ≡ record { kept = begun; too
 abbrev pub HasNoEnd : List ℕ → Type 0
 HasNoEnd begun = All (λ b. (b == 10) ≡ false) begun
 
--- at most so many counts, those of the first of all lines; the others are in what is held of a line and in the bytes after it, unless there are enough
+-- no more counts than `lines`, all of the first lines; while there are fewer, the other lines are in the held line and the bytes after it
 abbrev pub AreCounted : ℕ → List (Option ℤ) → PartialLine → List ℕ → List (Option ℤ) → Type 0
 AreCounted lines counted line after all =
     (length counted ≤ lines) × (rest : List (Option ℤ)) × (counted ++ rest ≡ all) × (0 < length rest)

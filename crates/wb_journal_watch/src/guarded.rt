@@ -82,7 +82,7 @@ pub struct Guarded<'a, S: Sources + Drop> {
 
 impl<'a, S: Sources + Drop> Guarded<'a, S> {
     /// Returns sources that watch the journal in the file, which is open, of a bridge with this interval. They log if the readings come at another pace than
-    /// `stated` in a second. Returns `None` if a file can't be looked at.
+    /// `stated` in a second. Returns `None` if the program can't read the state of a file.
     pub fn new(
         rt: &'a HostRuntime,
         path: &str,

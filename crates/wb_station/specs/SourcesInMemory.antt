@@ -1,4 +1,4 @@
--- What sources in memory kept.
+-- The record that sources in memory keep.
 use Rattle.std.specs.Prelude.{ℕ, ◌<◌, ◌≤◌, ◌≡◌, ◌⊎◌, Bool, true, false, List, map, reverse, Option, Some, None}
 use Rattle.wb_station.specs.declared.list_sources.Answered.{Answered}
 use Rattle.wb_station.specs.declared.list_sources.Answered.TheVariants as kept
@@ -23,6 +23,6 @@ abbrev pub told_of : Bool → List Answered → List HandedIn → Option Told
 told_of true answered handed = None
 told_of false answered handed = Some (record { answers = reverse (map answer_of answered); handed = reverse (map handed_of handed) })
 
--- a fault is kept only where memory is asked for: for a copy of so many bytes, or for a place in a list that is full
+-- the sources keep a fault only after a request for memory: for a copy of at least one byte, or for a place in a full list
 abbrev pub AsksForMemory : Bool → Bool → ℕ → ℕ → ℕ → Type 0
 AsksForMemory before after bytes length capacity = before ≡ false → after ≡ true → (0 < bytes) ⊎ (capacity ≤ length)

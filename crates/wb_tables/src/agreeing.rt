@@ -40,6 +40,7 @@ pub fn agrees<S: Alter>(conn: &mut Connection<S>, open_weighings: &[Entry]) -> R
         → HasCleanDisk (state S.Store conn.new)
         → IfOk result (λ same. IsTrue same → AreOpen (state S.Store conn.old).now open_weighings.now) }
     ensures known { IfErr result (λ f. f ≢ Foreign) }
+    ensures limit { conn.new.step_limit ≡ conn.old.step_limit }
 {
     if have_own_keys(conn)? {
         has_rows(conn, open_weighings)
@@ -61,6 +62,7 @@ fn have_own_keys<S: Alter>(conn: &mut Connection<S>) -> Result<bool, Failure>
         → (have_rowids (open_in (state S.Store conn.old).now) ≡ true)
         × HaveOwnRowids (open_in (state S.Store conn.old).now)) }
     ensures known { IfErr result (λ f. f ≢ Foreign) }
+    ensures limit { conn.new.step_limit ≡ conn.old.step_limit }
 {
     let rows = keys_of_rows(conn)?;
     Ok(are_rising(rows.as_slice()))
@@ -72,6 +74,7 @@ pub fn keys_of_rows<S: Alter>(conn: &mut Connection<S>) -> Result<Vec<Row>, Erro
     ensures shows { HasOpenTable (state S.Store conn.old).now.schema
         → Selects S.Store conn.old conn.new result (IsPermutation (map (λ r. rowid r ∷ [])
         (open_in (state S.Store conn.old).now))) }
+    ensures limit { conn.new.step_limit ≡ conn.old.step_limit }
 {
     select(conn, "SELECT rowid FROM open_weighing", &[])
 }
@@ -117,6 +120,7 @@ fn has_rows<S: Alter>(conn: &mut Connection<S>, open_weighings: &[Entry]) -> Res
         → IfOk result (λ same. IsTrue same → IsPermutation (map open_row open_weighings.now)
         (map (drop 1) (open_in (state S.Store conn.old).now))) }
     ensures known { IfErr result (λ f. f ≢ Foreign) }
+    ensures limit { conn.new.step_limit ≡ conn.old.step_limit }
 {
     let rows = rows_of_open(conn)?;
     Ok(are_rows_of(rows.as_slice(), open_weighings))
@@ -128,6 +132,7 @@ fn rows_of_open<S: Alter>(conn: &mut Connection<S>) -> Result<Vec<Row>, Error>
     ensures shows { HasOpenTable (state S.Store conn.old).now.schema
         → Selects S.Store conn.old conn.new result (IsPermutation (map (drop 1)
         (open_in (state S.Store conn.old).now))) }
+    ensures limit { conn.new.step_limit ≡ conn.old.step_limit }
 {
     select(
         conn,

@@ -81,6 +81,7 @@ pub fn rows_of_about<S: Alter>(conn: &mut Connection<S>) -> Result<Vec<Row>, Err
         → HasCleanDisk (state S.Store conn.new) → IfErr result IsMeant }
     ensures selects { HasAbout (state S.Store conn.old).now.schema
         → Selects S.Store conn.old conn.new result (ShowsVersion (state S.Store conn.old).now) }
+    ensures limit { conn.new.step_limit ≡ conn.old.step_limit }
 {
     select(conn, "SELECT name, value FROM about", &[])
 }

@@ -26,6 +26,7 @@ fn says<S: Alter>(conn: &mut Connection<S>, version: Version) -> Result<bool, Fa
     ensures known { IfErr result IsOfDatabase }
     ensures there { IfOk result (λ says. IsTrue says
         → table_is_there (state S.Store conn.old).now.schema (codes "about") ≡ true) }
+    ensures limit { conn.new.step_limit ≡ conn.old.step_limit }
 {
     if !has_about_table(conn) {
         return Ok(false);
@@ -46,6 +47,7 @@ pub(crate) fn fault_apart<S: Alter>(
 ) -> StoreFault
     ensures reads { OnlyReads (state S.Store conn.old) (state S.Store conn.new) }
     ensures apart { IsApart (state S.Store conn.old) (state S.Store conn.new) failure.now version result }
+    ensures limit { conn.new.step_limit ≡ conn.old.step_limit }
 {
     match failure {
         Failure::Foreign => match says(conn, version) {
