@@ -5,6 +5,7 @@ the key of that answer, and never a ticket of another plate.
 """
 
 import signal
+import threading
 import time
 
 from counter_clerk import ENTER, ESCAPE, F1, F4, F6, F7, F9, F10, SPACE, TAB, Clerk, at_of
@@ -380,6 +381,7 @@ def a_single_off_zero(bridge, clerk):
     clerk.sees("Ready.", what="80 kg before the vehicle: a Single asks nothing")
     bridge.put(80)
     bridge.put(9170)
+    clerk.keys(ESCAPE + "SINGLE-1")
     clerk.sees(
         "The bridge showed 160 kg before this vehicle.",
         what="160 kg before the vehicle: a Single asks first",
@@ -412,9 +414,11 @@ def a_single_off_zero(bridge, clerk):
     clerk.sees("Ready.", what="a Single off zero: its key answers")
     bridge.put(0)
     bridge.put(9170)
+    clerk.keys(ESCAPE + "SINGLE-1")
     clerk.sees("Ready.", what="a Single after zero: it asks nothing")
     bridge.put(80)
     bridge.put(9170)
+    clerk.keys(ESCAPE + "SINGLE-1")
     clerk.sees(
         "The bridge showed 160 kg before this vehicle.",
         what="an answer is for one vehicle: the page asks again at the next one",
@@ -469,6 +473,76 @@ def letters_before_the_answer(bridge, clerk):
     same("and the next plate is still whole", "HB-KW-77", clerk.plate())
 
 
+def a_plate_leaves_with_its_load(bridge, clerk):
+    gone = "The vehicle has left the bridge."
+    bridge.next_vehicle(7000)
+    clerk.keys(ESCAPE + "LEFT-1")
+    clerk.sees("Ready.")
+    bridge.put(0)
+    clerk.sees(
+        f"{gone} LEFT-1 was removed", what="a load that wasn't weighed leaves: the page says so"
+    )
+    same("and its plate leaves the form", "", clerk.plate())
+    bridge.put(7000)
+    nothing_comes_of(
+        bridge,
+        clerk,
+        "the next vehicle after one that wasn't weighed: Enter hammered",
+        lambda: clerk.browser.hammer(TEN, 0.1),
+        "",
+    )
+    clerk.sees("Type the plate.", what="and it needs a plate of its own")
+    clerk.keys("MOVED-1")
+    clerk.sees("Ready.")
+    bridge.put(0)
+    clerk.sees(f"{gone} MOVED-1 was removed")
+    clerk.browser.run("document.querySelector('#choices button').click()")
+    same("one press puts the plate back, for a vehicle that only moved", "MOVED-1", clerk.plate())
+    time.sleep(1)
+    same("it stays on the empty bridge", "MOVED-1", clerk.plate())
+    bridge.put(7000)
+    clerk.sees("Ready.", what="and is there for its load")
+
+
+def a_colleague_weighs_it(bridge, clerk):
+    bridge.next_vehicle(7000)
+    clerk.keys(ESCAPE + "MINE-1")
+    clerk.sees("Ready.")
+    before = rows(bridge)
+    bridge.service.send_signal(signal.SIGSTOP)
+    colleague = threading.Thread(target=bridge.weigh, args=("colleague-1", "first", "AA-BB-101"))
+    colleague.start()
+    time.sleep(0.3)
+    clerk.keys(ENTER)
+    time.sleep(0.3)
+    bridge.service.send_signal(signal.SIGCONT)
+    colleague.join()
+    number = bridge.entries()[-1][0]
+    clerk.sees(
+        f"Already weighed: AA-BB-101, slip {number}.",
+        what="a colleague's press was before this one: the page names what is weighed",
+    )
+    same("only the colleague's is stored", [("first", "AA-BB-101")], rows(bridge)[len(before) :])
+    same("the clerk's plate is back", "MINE-1", clerk.plate())
+    bridge.put(0)
+    clerk.sees("The vehicle has left the bridge. MINE-1 was removed", 8)
+    same("and leaves with the load that the colleague weighed", "", clerk.plate())
+    bridge.put(7000)
+    bridge.weigh("colleague-2", "first", "AA-BB-102")
+    clerk.sees("AA-BB-102 is weighed")
+    clerk.keys(ESCAPE + "NEXT-1")
+    bridge.put(0)
+    time.sleep(1)
+    same("a plate that was typed while a weighed vehicle drives off stays", "NEXT-1", clerk.plate())
+    bridge.put(8000)
+    clerk.sees("Ready.", what="for the next vehicle")
+    clerk.keys(ENTER)
+    becomes(
+        "which is weighed under it",
+        lambda: rows(bridge)[len(before) + 2 :] == [("first", "NEXT-1")],
+    )
+
+
 def withdraws_only_what_it_shows(bridge, clerk):
     bridge.next_vehicle(9000)
     bridge.weigh("old-1", "first", "WD-1")
@@ -520,6 +594,8 @@ def show(program):
         off_zero(bridge, clerk)
         a_single_off_zero(bridge, clerk)
         letters_before_the_answer(bridge, clerk)
+        a_plate_leaves_with_its_load(bridge, clerk)
+        a_colleague_weighs_it(bridge, clerk)
         withdraws_only_what_it_shows(bridge, clerk)
     finally:
         if clerk:

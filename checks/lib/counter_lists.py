@@ -246,6 +246,51 @@ def kept_tares(bridge):
     same("and gone once it is dropped", (200, "{}"), bridge.ask("DELETE", "/tares/AB-12")[:2])
 
 
+def a_full_journal(program):
+    """Show that the counter says how long the journal has room, and when no vehicle can be weighed in."""
+    bridge = Bridge(program, 20, capacity=8).start_counter()
+    told = lambda: bridge.health()["state"]["room"]
+    try:
+        empty = {"places": 8, "days": None, "is_low": False, "is_full": False}
+        becomes("an empty journal has all its places", lambda: told() == empty)
+        same("and no fault of it", True, not {"room", "full"} & set(bridge.health()["faults"]))
+        for number in range(3):
+            bridge.next_vehicle(9170)
+            same(
+                "a First is stored", 201, bridge.weigh(f"room-{number}", "first", f"IN-{number}")[0]
+            )
+        low = {"places": 2, "days": 0, "is_low": True, "is_full": False}
+        becomes("three vehicles on site take six places", lambda: told() == low)
+        health = bridge.health()
+        same(
+            "the room is a fault, but a vehicle can still be weighed in",
+            (True, False, True),
+            ("room" in health["faults"], "full" in health["faults"], health["can_weigh"]),
+        )
+        bridge.next_vehicle(9170)
+        bridge.weigh("room-3", "first", "IN-3")
+        full = {"places": 0, "days": 0, "is_low": True, "is_full": True}
+        becomes("the fourth takes the last ones", lambda: told() == full)
+        same(
+            "a full journal can't weigh",
+            (True, False),
+            ("full" in bridge.health()["faults"], bridge.health()["can_weigh"]),
+        )
+        bridge.next_vehicle(9170)
+        same(
+            "as the office says",
+            (409, "refused 14 journal_full\n"),
+            bridge.weigh("room-4", "first", "IN-4"),
+        )
+        metrics = bridge.ask("GET", "/metrics")[1]
+        for name in ("journal_free_places", "journal_room_days"):
+            same(f"{name} is 0", True, f"\nweighbridge_counter_{name} 0\n" in metrics)
+        bridge.weigh("room-5", "second", "IN-0")
+        becomes("weighing out takes no more", lambda: told()["places"] == 0)
+    finally:
+        bridge.close()
+
+
 def resolved(schema, document):
     """A schema of OpenAPI as jsonschema understands it: nullable is a type of its own there."""
     if isinstance(schema, list):
@@ -439,3 +484,4 @@ def show(program):
         a_changed_row(bridge)
     finally:
         bridge.close()
+    a_full_journal(program)

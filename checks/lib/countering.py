@@ -88,8 +88,9 @@ class Bridge:
         settings="",
         options=(),
         patch=None,
+        capacity=100_000,
     ):
-        self.program, self.pace, self.options = program, pace, options
+        self.program, self.pace, self.options, self.capacity = program, pace, options, capacity
         self.folder = tempfile.mkdtemp(prefix="counter-")
         self.converter = Converter(pace)
         self.terminal, self.office, self.http = free_port(), free_port(), free_port()
@@ -129,7 +130,7 @@ class Bridge:
             "--turns",
             "1000000000",
             "--capacity",
-            "100000",
+            str(self.capacity),
             *self.options,
         ]
         with open(f"{self.folder}/service.log", "ab") as log:

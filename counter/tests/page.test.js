@@ -2,7 +2,7 @@
 
 import assert from 'node:assert/strict';
 import { test } from 'node:test';
-import { alike, demoOf, isFalseDemo, plateOf, step } from './web/guide.js';
+import { alike, demoOf, isFalseDemo, plateOf, PlateOfLoad, step } from './web/guide.js';
 import { ANSWER_KEYS, DEAF_FOR, Deafness, HAMMERED_WITHIN, PAGE_KEYS, deedOf } from './web/hands.js';
 
 const first = (plate, gross = 18340) => ({ plate, gross, at: '2026-03-10T08:00:00Z', number: 1 });
@@ -181,4 +181,50 @@ test('a demo over a true scale is told', () => {
   assert.equal(isFalseDemo({ demo: true }, 'DEMO'), false);
   assert.equal(isFalseDemo({ demo: true }, ''), false);
   assert.equal(isFalseDemo({ demo: false }, 'WB01'), false);
+});
+
+// ---- the load of a plate
+
+// Each row is what is known: the plate, the net weight, what the counter knows of the bridge, and if the plate leaves then.
+const leavings = rows => {
+  const load = new PlateOfLoad();
+  return rows.map(([plate, net, bridge]) => load.hasLeft(now({ plate, state: { ...now().state, bridge } }, {}, { net })));
+};
+
+test('a plate leaves with the load that it was typed for', () => {
+  assert.deepEqual(leavings([['', 9000, 'empty'], ['A', 9000, 'empty'], ['A', 380, 'empty'], ['A', 9000, 'empty']]), [false, false, true, false]);
+  assert.deepEqual(leavings([['A', 9000, 'empty'], ['AB', 9020, 'empty'], ['AB', 0, 'empty']]), [false, false, true], 'with what was typed last');
+});
+
+test('a plate leaves with its load if a colleague weighed that', () => {
+  assert.deepEqual(leavings([['A', 9000, 'empty'], ['A', 9000, 'weighed'], ['A', 0, 'weighed'], ['A', 0, 'empty']]), [false, false, true, false]);
+});
+
+test('a plate that was typed on an empty bridge stays until its load has been there', () => {
+  assert.deepEqual(leavings([['A', 0, 'empty'], ['A', 20, 'empty'], ['A', 400, 'empty'], ['A', 399, 'empty']]), [false, false, false, true]);
+});
+
+test('a plate that was typed while a weighed vehicle drives off is the next one\'s', () => {
+  for (const bridge of ['weighed', 'restarted']) {
+    assert.deepEqual(leavings([['', 9000, bridge], ['A', 9000, bridge], ['A', 0, bridge], ['A', 0, 'empty'], ['A', 9000, 'empty'], ['A', 0, 'empty']]), [false, false, false, false, false, true], bridge);
+  }
+});
+
+test('letters that are typed before the answer are the next vehicle\'s plate', () => {
+  const load = new PlateOfLoad(), at = (plate, net, waiting = null) => load.hasLeft(now({ plate, waiting }, {}, { net }));
+  assert.deepEqual([at('A', 9000), at('', 9000, {}), at('B', 9000, {})], [false, false, false]);
+  load.weighed();                  // the answer is there, and the counter's state isn't
+  assert.deepEqual([at('B', 9000), at('BC', 0), at('BC', 9000), at('BC', 0)], [false, false, false, true]);
+});
+
+test('a plate that was weighed or deleted leaves nothing behind', () => {
+  assert.deepEqual(leavings([['A', 9000, 'empty'], ['', 9000, 'weighed'], ['B', 9000, 'weighed'], ['B', 0, 'empty']]), [false, false, false, false]);
+});
+
+test('without a weight nothing leaves', () => {
+  const load = new PlateOfLoad();
+  assert.equal(load.hasLeft(now({ plate: 'A' })), false);
+  assert.equal(load.hasLeft({ ...now({ plate: 'A' }), weight: null }), false, 'no link');
+  assert.equal(load.hasLeft(now({ plate: 'A' }, {}, { net: null, state: '-' })), false, 'below zero');
+  assert.equal(load.hasLeft(now({ plate: 'A' }, {}, { net: -8820, tare: 9000 })), true, 'a tare is no load');
 });

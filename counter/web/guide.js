@@ -46,6 +46,28 @@ export function choiceOf(now) {
 
 export const grossOf = weight => weight && weight.net !== null ? weight.net + (weight.tare ?? 0) : null;
 
+// Which load the plate in the form is for. A plate that was typed on an empty bridge, or while a weighed vehicle drives off, is for the next load. A plate leaves
+// the form with its load, whoever weighed that, so that the next vehicle is never ready under it.
+export class PlateOfLoad {
+  #isForThis = false;
+  #isWeighed = false;
+
+  // Takes what is known now. Returns true once the load has left for which the plate was typed.
+  hasLeft({ plate, weight, state, min, waiting }) {
+    const gross = grossOf(weight), hadPlate = this.#isForThis && Boolean(plate);
+    if (gross === null) return false;
+    const isNoLoad = gross < min, isWeighed = this.#isWeighed || waiting !== null || ['weighed', 'restarted'].includes(state.bridge);
+    this.#isForThis = Boolean(plate) && !isNoLoad && (hadPlate || !isWeighed);
+    this.#isWeighed &&= !isNoLoad;
+    return isNoLoad && hadPlate;
+  }
+
+  // What is on the bridge was weighed by this page, which the counter's state tells a moment later.
+  weighed() {
+    this.#isWeighed = true;
+  }
+}
+
 export function netOf(choice, gross) {
   if (gross === null) return null;
   if (choice.first) return Math.abs(choice.first.gross - gross);

@@ -159,13 +159,24 @@ function clearGiven() {
   for (const it of GIVEN) part(it).value = '';
 }
 
-function clearPlate() {
+function emptyForm() {
   part('plate').value = '';
   clearGiven();
   clerk.oneTare = null;
   clerk.isFirstInstead = false;
+}
+
+function clearPlate() {
+  emptyForm();
   show();
   focusPlate();
+}
+
+// The load has left for which the plate was typed. A clerk whose vehicle only moves gets the plate back by one press.
+function plateLeft(of) {
+  emptyForm();
+  clerk.plateThatLeft = of;
+  tell('wait', 'plate_left', undefined, { plate: of }, ['plate_again']);
 }
 
 // What the clerk typed for one vehicle leaves the form with its request, so that letters typed before the answer are the next vehicle's plate, whole. If
@@ -216,6 +227,7 @@ function typed(event) {
 
 Object.assign(acts, {
   set_zero: setZero, clear_tare: clearTare, journal_seen: closeJournalBar, print: printResult, print_number: printNumber, show_papers: openPapers, keep_tare: keepTareOf, tare_from_papers: askTare, given_lines: askGiven, first_instead: weighFirstInstead,
+  plate_left: plateLeft, plate_again: () => take(clerk.plateThatLeft),
   withdraw: of => begin('/voids', { plate: of }), take, answer, clear: clearPlate, focus: focusPlate,
 });
 

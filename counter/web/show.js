@@ -15,6 +15,10 @@ export const acts = {};
 export function show() {
   if (!has('plate')) return;
   const now = nowKnown();
+  if (clerk.plateOfLoad.hasLeft(now)) {
+    acts.plate_left(now.plate);
+    return;
+  }
   forgetResult(now);
   forgetAnswers(now);
   Object.assign(now, { result: clerk.result, answered: clerk.answered });
@@ -120,6 +124,8 @@ function alarmsOf({ link, state, papers }) {
   if (state.office === 'no_answer' && link === 'up') alarms.push({ look: 'bad', text: t('office_silent') });
   if (state.journal_changed) alarms.push({ look: 'bad', text: t(`journal_${state.journal_changed.why}`, state.journal_changed), choice: 'journal_seen' });
   if (state.files_written === false) alarms.push({ look: 'bad', text: t('files_unwritten') });
+  if (state.room?.is_full) alarms.push({ look: 'bad', text: t('journal_full') });
+  else if (state.room?.is_low) alarms.push({ look: 'wait', text: t('journal_room', { days: number(state.room.days), places: number(state.room.places) }) });
   if (papers.is_writable === false) alarms.push({ look: 'bad', text: t('papers_unwritable') });
   if (papers.refused !== null) alarms.push({ look: 'bad', text: t('paper_refused', { number: papers.refused }) });
   for (const it of papersInTrouble(papers)) alarms.push(it);

@@ -1,11 +1,12 @@
 // A weighing from the press to its end: sent until it is answered, and then told.
 
-import { clerk, known, MIN_INTERVALS } from './known.js';
+import { clerk, known, MIN_INTERVALS, newestWeighing } from './known.js';
 import { paperOf } from './papers.js';
 import { counterWordOf, forget, isOld, isStored, keptRequest, newRequest, refusalOf, renewed, send } from './request.js';
 import { acts, show } from './show.js';
 import { has, t } from './words.js';
 
+const NOT_CLEARED = '11';
 const TOLD_FOR = { ok: 2500, wait: 6000, bad: 6000 };
 
 // Until then nothing else can be weighed; `choices` is what may be pressed.
@@ -14,8 +15,8 @@ function wait(look, word, values, choices) {
   show();
 }
 
-export function tell(look, word, more) {
-  const told = clerk.told = { look, word, more };
+export function tell(look, word, more, values, choices) {
+  const told = clerk.told = { look, word, more, values, choices };
   show();
   setTimeout(() => { if (clerk.told === told) { clerk.told = null; show(); } }, TOLD_FOR[look]);
 }
@@ -62,14 +63,16 @@ function leave(request, giveBack = NOTHING_TAKEN()) {
 }
 
 function refuse(answer) {
-  const refusal = refusalOf(answer), word = refusal ? `refused_${refusal}` : `counter_${counterWordOf(answer)}`;
-  tell('bad', has(word) ? word : 'refused', `${t('nothing_stored')} (${answer.text.trim().slice(0, 60)})`);
+  const refusal = refusalOf(answer), weighed = refusal === NOT_CLEARED && known.state?.bridge !== 'restarted' ? newestWeighing() : undefined;
+  const word = weighed ? 'already_weighed' : refusal ? `refused_${refusal}` : `counter_${counterWordOf(answer)}`;
+  tell('bad', has(word) ? word : 'refused', `${t('nothing_stored')} (${answer.text.trim().slice(0, 60)})`, weighed);
 }
 
 function finish(request, text) {
   const at = Number(/ (\d+)\n/.exec(text)[1]), net = /^N +(\d+) kg$/m.exec(text)?.[1], grosses = [...text.matchAll(/^G +(\d+) kg$/mg)].map(it => Number(it[1]));
   const kind = request.form.kind ?? 'void', values = { paper: paperOf({ kind }), number: at, plate: request.form.plate };
   const word = kind === 'void' ? 'done_void' : net === undefined ? 'done_first' : 'done_net';
+  if (kind !== 'void') clerk.plateOfLoad.weighed();
   const isPair = grosses.length === 2 && Number(net) >= MIN_INTERVALS * known.hello.interval;
   clerk.result = {
     look: 'ok', word, values: { ...values, kg: Number(net ?? grosses[0] ?? 0) }, choices: ['print'], number: at, text, madeAt: performance.now(),

@@ -14,6 +14,7 @@ from .off_zero import MIN_INTERVALS, OffZero
 from .office import NoAnswer, Office
 from .pages import FASTEST, SLOWEST, Pages
 from .papers import Printing, papers_of
+from .room import Room, capacity_of, room_of
 from .service import Service, find_service, program_of
 from .setup import Setup
 from .slips import Entry
@@ -205,6 +206,7 @@ class Counter:
         return "waits" if self.answers_at_office else "held"
 
     def state(self) -> dict[str, Any]:
+        room = self.room()
         return {
             "link": self.link(),
             "tare": self.terminal.fanout.tare,
@@ -217,8 +219,19 @@ class Counter:
             "tare_left": self.acts.may_be_left,
             "journal_changed": self.books.journal.told,
             "files_written": not self.files.faults,
+            "room": None if room is None else room.shown(),
             "busy": self.acts.is_busy(),
         }
+
+    def room(self) -> Room | None:
+        """Return the room in the journal, or None until the counter knows its places and has an export of it."""
+        lists = self.books.lists
+        capacity = capacity_of(self.service.words) if self.service else None
+        if capacity is None or not lists.is_of_export:
+            return None
+        return room_of(
+            capacity, len(lists.entries), len(lists.open), lists.per_day, self.now().date()
+        )
 
     def lists(self) -> dict[str, Any]:
         lists = self.books.lists

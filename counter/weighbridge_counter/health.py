@@ -30,7 +30,7 @@ def newest_of(counter: Counter) -> dict[str, Any] | None:
 
 
 def faults_of(counter: Counter) -> list[str]:
-    state, fanout = counter.state(), counter.terminal.fanout
+    state, fanout, room = counter.state(), counter.terminal.fanout, counter.room()
     has_weight = fanout.is_fresh() and fanout.value is not None and fanout.value.state != "I"
     found = {
         "terminal": state["link"] != "up",
@@ -43,11 +43,13 @@ def faults_of(counter: Counter) -> list[str]:
         "papers": counter.printing.faults(),
         "files": not state["files_written"],
         "program_changed": counter.program.get("changed_since") is True,
+        "room": room is not None and room.is_low,
+        "full": room is not None and room.is_full,
     }
     return [name for name, is_so in found.items() if is_so]
 
 
-STOPS_WEIGHING = {"terminal", "weight", "office"}
+STOPS_WEIGHING = {"terminal", "weight", "office", "full"}
 
 
 def health_of(counter: Counter) -> dict[str, Any]:
@@ -66,7 +68,7 @@ def health_of(counter: Counter) -> dict[str, Any]:
 
 
 def metrics_of(counter: Counter) -> str:
-    fanout, books = counter.terminal.fanout, counter.books
+    fanout, books, room = counter.terminal.fanout, counter.books, counter.room()
     age = fanout.age()
     is_fresh = fanout.is_fresh() and fanout.value is not None
     lines = [
@@ -98,6 +100,14 @@ def metrics_of(counter: Counter) -> str:
         "entries": ("Entries on the lists.", len(books.lists.entries)),
         "newest_entry": ("Number of the newest entry.", books.lists.last),
         "on_site": ("Vehicles that were weighed in, and not out.", len(books.lists.open)),
+        "journal_free_places": (
+            "Places of the journal that are free.",
+            room.places if room else None,
+        ),
+        "journal_room_days": (
+            "Days for which the free places last, by the entries of the last two weeks.",
+            room.days if room else None,
+        ),
         "export_seconds": ("Time that the last export and its reading took.", books.export_seconds),
         "files_written": (
             "1 if the disk took each file of the counter's own.",

@@ -1,5 +1,6 @@
 """What stands on the page's lists: made of one export and of each text that passed since. A help to the eye; the office judges."""
 
+import collections
 import datetime
 import zoneinfo
 from typing import Any
@@ -36,6 +37,7 @@ class Lists:
         self.partner: dict[int, int] = {}
         self.by_plate: dict[str, list[int]] = {}
         self.near = Near()
+        self.per_day: collections.Counter[datetime.date] = collections.Counter()
         self.last = 0
         self.is_whole = False  # whether nothing is known to be missing
 
@@ -121,6 +123,7 @@ class Lists:
         self.last = max(self.last, entry.number)
         self.by_plate.setdefault(entry.plate, []).append(entry.number)
         self.near.takes(entry.kind, entry.plate)
+        self.per_day[entry.at.date()] += 1
         if entry.kind == "first":
             self.open[entry.plate] = entry.number
         elif entry.kind in ("second", "void"):
