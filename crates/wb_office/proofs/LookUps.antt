@@ -37,6 +37,7 @@ module _ {D : Type 0} (g : Ghosts D) where
       still = l.closes.still;
       closes = l.closes.closes;
       honest = l.closes.honest;
+      limit = l.closes.limit;
     };
   }
 
@@ -50,6 +51,7 @@ module _ {D : Type 0} (g : Ghosts D) where
       still = l.closes.still;
       closes = l.closes.closes;
       honest = l.closes.honest;
+      limit = l.closes.limit;
     };
   }
 
@@ -63,6 +65,7 @@ module _ {D : Type 0} (g : Ghosts D) where
       still = l.closes.still;
       closes = l.closes.closes ∙ sym (or_none _);
       honest = l.closes.honest;
+      limit = l.closes.limit;
     };
   }
 
@@ -85,6 +88,7 @@ module _ {D : Type 0} (g : Ghosts D) where
       still = λ e. ok_is_no_fault {X = X} x (first.closes.closed.1 e);
       closes = next.closes.closes ∙ ap (λ was. closed_by was r) first.closes.closes;
       honest = λ h. first.closes.honest (next.closes.honest h);
+      limit = next.closes.limit ∙ first.closes.limit;
     };
   }
 
