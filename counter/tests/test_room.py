@@ -13,7 +13,7 @@ TODAY = datetime.date(2026, 3, 10)
 
 
 def days_ago(*counts):
-    """The entries of today, of yesterday and so on."""
+    """Return the entries of today, of yesterday and so on."""
     return {TODAY - datetime.timedelta(days=ago): count for ago, count in enumerate(counts)}
 
 

@@ -22,7 +22,7 @@ class Room:
 
     @property
     def is_full(self) -> bool:
-        """Whether the office refuses to weigh in."""
+        """Return True if the office refuses to weigh in."""
         return self.places < PLACES_OF_A_FIRST
 
     @property
@@ -39,7 +39,7 @@ class Room:
 
 
 def capacity_of(words: Sequence[str]) -> int | None:
-    """The places that the words of a service set. None if they set none: the counter doesn't know the program's own default."""
+    """Return the places that the words of a service set, or None if they set none, because the counter doesn't know the program's own default."""
     found = [
         after if word == "--capacity" else word.removeprefix("--capacity=")
         for word, after in zip(words, (*words[1:], ""))
@@ -55,7 +55,7 @@ def room_of(
     per_day: Mapping[datetime.date, int],
     today: datetime.date,
 ) -> Room:
-    """The room that is left, where `per_day` has the entries of each day. A journal that is younger than two weeks is measured by its own days."""
+    """Return the room that is left, where `per_day` has the entries of each day. A journal that is younger than two weeks is measured by its own days."""
     places = max(0, capacity - entries - on_site)
     begin = today - datetime.timedelta(days=RATE_DAYS - 1)
     counted = {day: count for day, count in per_day.items() if begin <= day <= today and count}
