@@ -213,8 +213,38 @@ test('a plate that was typed while a weighed vehicle drives off is the next one\
 test('letters that are typed before the answer are the next vehicle\'s plate', () => {
   const load = new PlateOfLoad(), at = (plate, net, waiting = null) => load.hasLeft(now({ plate, waiting }, {}, { net }));
   assert.deepEqual([at('A', 9000), at('', 9000, {}), at('B', 9000, {})], [false, false, false]);
-  load.weighed();                  // the answer is there, and the counter's state isn't
+  load.weighed({ kind: 'first', plate: 'A', number: 7 });     // the answer is there, and the counter's state isn't
   assert.deepEqual([at('B', 9000), at('BC', 0), at('BC', 9000), at('BC', 0)], [false, false, false, true]);
+});
+
+test('a plate that comes back after a refusal leaves with the load that a colleague weighed', () => {
+  const load = new PlateOfLoad(), at = (plate, net, waiting = null) => load.hasLeft(now({ plate, waiting }, {}, { net }));
+  assert.deepEqual([at('A', 9000), at('', 9000, {})], [false, false]);
+  load.weighed({ kind: 'first', plate: 'B', number: 7 });
+  load.isBack();
+  assert.deepEqual([at('A', 9000), at('A', 0), at('A', 0)], [false, true, false]);
+});
+
+test('a plate that comes back after its load has left stays for the clerk to see', () => {
+  const load = new PlateOfLoad(), at = (plate, net) => load.hasLeft(now({ plate }, {}, { net }));
+  load.isBack();
+  assert.deepEqual([at('A', 0), at('A', 0), at('A', 9000), at('A', 0)], [false, false, false, true]);
+  load.isBack();
+  assert.deepEqual([at('A', 0), at('', 9000)], [false, false]);
+  load.weighed({ kind: 'first', plate: 'C', number: 8 });
+  assert.deepEqual([at('B', 9000), at('B', 0)], [false, false], 'and that is forgotten at the next plate');
+});
+
+test('the entry of the load is known until it has left', () => {
+  const load = new PlateOfLoad(), entry = { kind: 'second', plate: 'A', number: 7 };
+  assert.equal(load.entry, null);
+  load.weighed(entry);
+  load.hasLeft(now({ plate: 'B' }));
+  assert.equal(load.entry, entry);
+  load.hasLeft({ ...now(), weight: null });
+  assert.equal(load.entry, entry, 'no link');
+  load.hasLeft(now({ plate: '' }, {}, { net: 380 }));
+  assert.equal(load.entry, null, 'so a later refusal names no vehicle of before');
 });
 
 test('a plate that was weighed or deleted leaves nothing behind', () => {

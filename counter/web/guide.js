@@ -50,21 +50,33 @@ export const grossOf = weight => weight && weight.net !== null ? weight.net + (w
 // the form with its load, whoever weighed that, so that the next vehicle is never ready under it.
 export class PlateOfLoad {
   #isForThis = false;
-  #isWeighed = false;
+  #isBack = false;
+  #entry = null;
+
+  // The entry by which the load on the bridge was weighed; null if it wasn't, or if the counter didn't see it.
+  get entry() {
+    return this.#entry;
+  }
+
+  // The load on the bridge was weighed, by this page or by another. The counter's state says so a moment later.
+  weighed(entry) {
+    this.#entry = entry;
+  }
+
+  // The plate is in the form again, because nothing was stored of its request. It is for the load that is still there, even if a colleague weighed that.
+  isBack() {
+    this.#isBack = true;
+  }
 
   // Takes what is known now. Returns true once the load has left for which the plate was typed.
   hasLeft({ plate, weight, state, min, waiting }) {
     const gross = grossOf(weight), hadPlate = this.#isForThis && Boolean(plate);
     if (gross === null) return false;
-    const isNoLoad = gross < min, isWeighed = this.#isWeighed || waiting !== null || ['weighed', 'restarted'].includes(state.bridge);
-    this.#isForThis = Boolean(plate) && !isNoLoad && (hadPlate || !isWeighed);
-    this.#isWeighed &&= !isNoLoad;
+    const isNoLoad = gross < min, isWeighed = this.#entry !== null || waiting !== null || ['weighed', 'restarted'].includes(state.bridge);
+    this.#isForThis = Boolean(plate) && !isNoLoad && (hadPlate || this.#isBack || !isWeighed);
+    this.#isBack = false;
+    if (isNoLoad) this.#entry = null;
     return isNoLoad && hadPlate;
-  }
-
-  // What is on the bridge was weighed by this page, which the counter's state tells a moment later.
-  weighed() {
-    this.#isWeighed = true;
   }
 }
 

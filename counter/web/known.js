@@ -24,7 +24,7 @@ export function linkNow() {
   return feed.age() > OLDEST_WEIGHT ? 'held' : 'up';
 }
 
-export function newestWeighing() {
+function newestWeighing() {
   const newest = known.today.find(it => it.kind !== 'void');
   return newest && { plate: newest.plate, number: newest.number, paper: paperOf(newest) };
 }

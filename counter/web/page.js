@@ -48,6 +48,7 @@ function takeHello(hello) {
 function takeEntry({ entry, on_site: onSite, weighed_near: weighedNear }) {
   Object.assign(known, { onSite, weighedNear });
   clerk.newest = entry.number;
+  if (entry.kind !== 'void') clerk.plateOfLoad.weighed(entry);
   if (!known.today.some(it => it.number === entry.number)) known.today.unshift(entry);
 }
 
@@ -187,6 +188,7 @@ function takeForm() {
   return () => {
     if (plate()) return;
     part('plate').value = held.plate;
+    clerk.plateOfLoad.isBack();
     for (const it of GIVEN) part(it).value = held.given[it];
     Object.assign(clerk, { oneTare: held.oneTare, isFirstInstead: held.isFirstInstead });
     show();

@@ -1,6 +1,6 @@
 // A weighing from the press to its end: sent until it is answered, and then told.
 
-import { clerk, known, MIN_INTERVALS, newestWeighing } from './known.js';
+import { clerk, known, MIN_INTERVALS } from './known.js';
 import { paperOf } from './papers.js';
 import { counterWordOf, forget, isOld, isStored, keptRequest, newRequest, refusalOf, renewed, send } from './request.js';
 import { acts, show } from './show.js';
@@ -63,16 +63,17 @@ function leave(request, giveBack = NOTHING_TAKEN()) {
 }
 
 function refuse(answer) {
-  const refusal = refusalOf(answer), weighed = refusal === NOT_CLEARED && known.state?.bridge !== 'restarted' ? newestWeighing() : undefined;
-  const word = weighed ? 'already_weighed' : refusal ? `refused_${refusal}` : `counter_${counterWordOf(answer)}`;
-  tell('bad', has(word) ? word : 'refused', `${t('nothing_stored')} (${answer.text.trim().slice(0, 60)})`, weighed);
+  const refusal = refusalOf(answer), entry = refusal === NOT_CLEARED ? clerk.plateOfLoad.entry : null;
+  const word = entry ? 'already_weighed' : refusal ? `refused_${refusal}` : `counter_${counterWordOf(answer)}`;
+  const values = entry && { plate: entry.plate, paper: paperOf(entry), number: entry.number };
+  tell('bad', has(word) ? word : 'refused', `${t('nothing_stored')} (${answer.text.trim().slice(0, 60)})`, values);
 }
 
 function finish(request, text) {
   const at = Number(/ (\d+)\n/.exec(text)[1]), net = /^N +(\d+) kg$/m.exec(text)?.[1], grosses = [...text.matchAll(/^G +(\d+) kg$/mg)].map(it => Number(it[1]));
   const kind = request.form.kind ?? 'void', values = { paper: paperOf({ kind }), number: at, plate: request.form.plate };
   const word = kind === 'void' ? 'done_void' : net === undefined ? 'done_first' : 'done_net';
-  if (kind !== 'void') clerk.plateOfLoad.weighed();
+  if (kind !== 'void') clerk.plateOfLoad.weighed({ kind, plate: request.form.plate, number: at });
   const isPair = grosses.length === 2 && Number(net) >= MIN_INTERVALS * known.hello.interval;
   clerk.result = {
     look: 'ok', word, values: { ...values, kg: Number(net ?? grosses[0] ?? 0) }, choices: ['print'], number: at, text, madeAt: performance.now(),
