@@ -5,7 +5,6 @@ the key of that answer, and never a ticket of another plate.
 """
 
 import signal
-import threading
 import time
 
 from counter_clerk import ENTER, ESCAPE, F1, F4, F6, F7, F9, F10, SPACE, TAB, Clerk, at_of
@@ -509,14 +508,18 @@ def a_colleague_weighs_it(bridge, clerk):
     clerk.keys(ESCAPE + "MINE-1")
     clerk.sees("Ready.")
     before = rows(bridge)
-    bridge.service.send_signal(signal.SIGSTOP)
-    colleague = threading.Thread(target=bridge.weigh, args=("colleague-1", "first", "AA-BB-101"))
-    colleague.start()
-    time.sleep(0.3)
+    slow = """const real = window.realFetch ??= window.fetch;
+        window.fetch = async (target, how) => {
+          if (target.endsWith('/weighings')) await new Promise(done => setTimeout(done, 1500));
+          return real(target, how);
+        }"""
+    clerk.browser.run(slow)
     clerk.keys(ENTER)
-    time.sleep(0.3)
-    bridge.service.send_signal(signal.SIGCONT)
-    colleague.join()
+    same(
+        "a colleague is faster than this press",
+        201,
+        bridge.weigh("colleague-1", "first", "AA-BB-101")[0],
+    )
     number = bridge.entries()[-1][0]
     clerk.sees(
         f"Already weighed: AA-BB-101, slip {number}.",
@@ -524,6 +527,7 @@ def a_colleague_weighs_it(bridge, clerk):
     )
     same("only the colleague's is stored", [("first", "AA-BB-101")], rows(bridge)[len(before) :])
     same("the clerk's plate is back", "MINE-1", clerk.plate())
+    clerk.browser.run("window.fetch = window.realFetch")
     bridge.put(0)
     clerk.sees("The vehicle has left the bridge. MINE-1 was removed", 8)
     same("and leaves with the load that the colleague weighed", "", clerk.plate())
