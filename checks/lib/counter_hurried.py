@@ -522,7 +522,7 @@ def a_colleague_weighs_it(bridge, clerk):
     )
     number = bridge.entries()[-1][0]
     clerk.sees(
-        f"Already weighed: AA-BB-101, slip {number}.",
+        f"Already weighed: AA-BB-101, Slip {number}.",
         what="a colleague's press was before this one: the page names what is weighed",
     )
     same("only the colleague's is stored", [("first", "AA-BB-101")], rows(bridge)[len(before) :])
