@@ -52,7 +52,10 @@ def processes_of(*folders):
 
 
 class Running:
-    """A demo that was started. `words` are more of its words. `hangup` is what SIGHUP does to it, even if the check itself runs under nohup."""
+    """A demo that was started. `words` are more of its words.
+
+    `hangup` is what SIGHUP does to it, even if the check itself runs under nohup. Ctrl-C ends it, even if a shell began the check with `&`, which ignores that.
+    """
 
     def __init__(
         self,
@@ -72,7 +75,10 @@ class Running:
             text=True,
             env={**os.environ, **NO_DESKTOP, **(environment or {})},
             start_new_session=True,
-            preexec_fn=lambda: signal.signal(signal.SIGHUP, hangup),
+            preexec_fn=lambda: (
+                signal.signal(signal.SIGHUP, hangup),
+                signal.signal(signal.SIGINT, signal.SIG_DFL),
+            ),
         )
         self.out, self.err = [], []
         self.readers = [
