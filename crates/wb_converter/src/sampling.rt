@@ -31,7 +31,7 @@ pub enum SampleFault {
     Memory,
 }
 
-/// Reads the first `lines` lines of `input`, and returns their counts in order. What comes after the last LF is no line.
+/// Reads the first `lines` lines of `input`, and returns their counts in order. Bytes after the last LF are no line.
 ///
 /// # Errors
 ///
