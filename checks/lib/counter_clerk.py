@@ -81,7 +81,7 @@ class Clerk:
 
     def is_ready(self):
         """Return True if the clerk can press the weigh button for the plate in the field."""
-        return self.browser.run("return !document.getElementById('go').disabled")
+        return self.browser.run("return document.getElementById('go').dataset.look === 'weighs'")
 
     def answers(self):
         """Return the answers to the page's question, with their keys."""

@@ -438,6 +438,113 @@ def a_single_off_zero(bridge, clerk):
     )
 
 
+def an_early_enter(bridge, clerk):
+    """Enter while the load sways: it is weighed once it stands, and never after anything else happened."""
+    waits, armed = "Wait until it stands still.", "is weighed as soon as it stands still."
+
+    def sways(plate, load=7000):
+        bridge.put(0)
+        bridge.converter.load, bridge.converter.sway = load, 100
+        clerk.keys(ESCAPE + ESCAPE + plate)
+        clerk.sees(waits, what=f"{plate} sways on the bridge")
+
+    def arms(plate, load=7000):
+        sways(plate, load)
+        clerk.keys(ENTER)
+        clerk.sees(f"{plate} {armed}", what=f"{plate} sways: Enter arms")
+
+    def stands(load=7000):
+        bridge.converter.sway = 0
+        bridge.put(load)
+
+    def nothing_comes(what, plate):
+        before = rows(bridge)
+        stands()
+        time.sleep(2.5)
+        same(
+            f"{what}: nothing is stored, and its plate stays",
+            ([], None, plate),
+            (rows(bridge)[len(before) :], clerk.kept(), clerk.plate()),
+        )
+
+    before = rows(bridge)
+    sways("ARM-1")
+    same("it says so", "Or press Enter once the whole vehicle is on the bridge.", clerk.more())
+    clerk.browser.hammer(TEN, 0.1)
+    clerk.sees(f"ARM-1 {armed}")
+    same(
+        "while it sways, Enter hammered stores nothing",
+        ([], "ARM-1"),
+        (rows(bridge)[len(before) :], clerk.plate()),
+    )
+    bridge.converter.sway = 0
+    becomes(
+        "once it stands, it is weighed",
+        lambda: rows(bridge)[len(before) :] == [("first", "ARM-1")],
+    )
+    clerk.browser.hammer(TEN, 0.1)
+    same("and only once", [("first", "ARM-1")], rows(bridge)[len(before) :])
+
+    arms("ARM-2")
+    clerk.keys(ESCAPE)
+    clerk.sees(waits, what="Esc ends it")
+    nothing_comes("after Esc", "ARM-2")
+    clerk.sees("Ready.")
+
+    arms("ARM-3")
+    clerk.keys("X")
+    nothing_comes("after another letter", "ARM-3X")
+
+    arms("ARM-4")
+    bridge.converter.sway = 0
+    bridge.put(0)
+    clerk.sees("The vehicle has left the bridge. ARM-4 was removed")
+    nothing_comes("the next vehicle after an emptied bridge", "")
+
+    arms("ARM-5")
+    clerk.keys(F4 + ESCAPE)
+    clerk.sees("ARM-5 was not weighed.", what="a search ends it, and the page says so")
+    nothing_comes("after a search", "ARM-5")
+
+    arms("ARM-1", 7010)
+    bridge.converter.sway = 0
+    clerk.sees("The net would be only 20 kg.", what="a question ends it")
+    nothing_comes("after a question", "ARM-1")
+
+    arms("ARM-6")
+    clerk.sees("ARM-6 was not weighed.", 25, "after 20 s it is over, and the page says so")
+    nothing_comes("after 20 s", "ARM-6")
+
+    # the load begins to sway between the press and its arrival at the office
+    bridge.put(0)
+    bridge.put(7000)
+    before = rows(bridge)
+    clerk.keys(ESCAPE + ESCAPE + "ARM-8")
+    clerk.sees("Ready.")
+    clerk.browser.run(
+        """const real = window.realFetch ??= window.fetch;
+        window.weighed = [];
+        window.fetch = async (target, how) => {
+          if (target.endsWith('/weighings')) {
+            window.weighed.push(how.body.get('key'));
+            if (window.weighed.length === 1) await new Promise(done => setTimeout(done, 1500));
+          }
+          return real(target, how);
+        }"""
+    )
+    clerk.keys(ENTER)
+    bridge.converter.sway = 100
+    clerk.sees(f"ARM-8 {armed}", what="an office that finds it moving: it is armed again")
+    bridge.converter.sway = 0
+    becomes(
+        "and weighed once it stands",
+        lambda: rows(bridge)[len(before) :] == [("first", "ARM-8")],
+    )
+    keys = clerk.browser.run("return window.weighed")
+    same("under a new key", (2, 2), (len(keys), len(set(keys))))
+    clerk.browser.run("window.fetch = window.realFetch")
+
+
 def letters_before_the_answer(bridge, clerk):
     bridge.put(0)
     becomes("the bridge is at zero again", lambda: bridge.terminal_says("till", "Z") == "Z A")
@@ -597,6 +704,7 @@ def show(program):
         a_small_net(bridge, clerk)
         off_zero(bridge, clerk)
         a_single_off_zero(bridge, clerk)
+        an_early_enter(bridge, clerk)
         letters_before_the_answer(bridge, clerk)
         a_plate_leaves_with_its_load(bridge, clerk)
         a_colleague_weighs_it(bridge, clerk)

@@ -53,6 +53,7 @@ class Converter(threading.Thread):
     def __init__(self, pace):
         super().__init__(daemon=True)
         self.pace, self.load, self.is_silent, self.is_over = pace, 0, False, False
+        self.sway = 0  # how much more every second line has
         self.listener = socket.create_server((HOST, 0))
         self.port = self.listener.getsockname()[1]
         self.sent = deque(maxlen=200_000)
@@ -71,8 +72,9 @@ class Converter(threading.Thread):
         due = time.monotonic()
         while not self.is_over:
             if not self.is_silent:
-                self.sent.append((time.monotonic(), self.load))
-                stream.sendall(b"%d\n" % self.load)
+                load = self.load + self.sway * (len(self.sent) % 2)
+                self.sent.append((time.monotonic(), load))
+                stream.sendall(b"%d\n" % load)
             due = max(due + 1 / self.pace, time.monotonic() - 1)
             time.sleep(max(0, due - time.monotonic()))
 

@@ -2,7 +2,8 @@
 
 import assert from 'node:assert/strict';
 import { test } from 'node:test';
-import { alike, demoOf, isFalseDemo, plateOf, PlateOfLoad, step } from './web/guide.js';
+import { ARMED_FOR, Arming, READY_FOR, subjectOf } from './web/arming.js';
+import { alike, choiceOf, demoOf, isFalseDemo, plateOf, PlateOfLoad, step } from './web/guide.js';
 import { ANSWER_KEYS, DEAF_FOR, Deafness, HAMMERED_WITHIN, PAGE_KEYS, deedOf } from './web/hands.js';
 
 const first = (plate, gross = 18340) => ({ plate, gross, at: '2026-03-10T08:00:00Z', number: 1 });
@@ -257,4 +258,78 @@ test('without a weight nothing leaves', () => {
   assert.equal(load.hasLeft({ ...now({ plate: 'A' }), weight: null }), false, 'no link');
   assert.equal(load.hasLeft(now({ plate: 'A' }, {}, { net: null, state: '-' })), false, 'below zero');
   assert.equal(load.hasLeft(now({ plate: 'A' }, {}, { net: -8820, tare: 9000 })), true, 'a tare is no load');
+});
+
+// ---- a press while the load moves
+
+const READY = { isReady: true }, MOVES = { isArmable: true }, PRESSED = 1000;
+const armed = (subject = 'A first') => { const it = new Arming(); it.begin(subject, PRESSED); return it; };
+// What the arming does at each moment after the press, with what the page asks then.
+const arm = (...rows) => { const it = armed(); return rows.map(([after, told, subject = 'A first']) => it.next(told, subject, PRESSED + after)); };
+
+test('while the load moves, a plate without a question can be armed, and it is not ready', () => {
+  const told = step(now({}, {}, { state: 'D' }));
+  assert.deepEqual([told.word, told.isArmable, told.isReady], ['moving_typed', true, undefined]);
+  assert.equal(step(now()).isArmable, undefined);
+});
+
+test('nothing can be armed without a plate, a load, or while the page asks or Enter does not react', () => {
+  const kept = { 'HB-X-1': { kg: 5000, is_over: false } };
+  for (const [more, offZero, weight] of [
+    [{ plate: '' }], [{ plate: 'A.B' }], [{ isDeaf: true }], [{ onSite: [first('HB-X-12')] }], [{ link: 'held', weight: null }], [{ state: { ...now().state, bridge: 'weighed' } }],
+    [{ waiting: { look: 'wait', word: 'sent' } }], [{ told: { look: 'bad', word: 'refused_7' } }], [{ tares: kept }, { before: 160, is_doubtful: true }], [{}, {}, { net: 380 }], [{}, {}, { tare: 20 }],
+  ]) assert.ok(!step(now(more, offZero, { state: 'D', ...weight })).isArmable, JSON.stringify([more, offZero, weight]));
+});
+
+test('a question about the plate comes while the load moves, and one about the net once it stands', () => {
+  const onSite = [first('HB-X-1', 9020)];
+  assert.equal(step(now({ onSite: [first('HB-X-12')] }, {}, { state: 'D' })).word, 'is_it');
+  assert.equal(step(now({ onSite }, {}, { state: 'D' })).word, 'moving_typed');
+  assert.equal(step(now({ onSite })).word, 'small_net');
+});
+
+test('a press fires once the page has been ready for a second, and only once', () => {
+  assert.deepEqual(arm([0, MOVES], [5000, MOVES], [5100, READY], [5100 + READY_FOR - 1, READY], [5100 + READY_FOR, READY]), ['waits', 'waits', 'waits', 'waits', 'fires']);
+  const it = armed();
+  it.next(READY, 'A first', PRESSED);
+  assert.equal(it.next(READY, 'A first', PRESSED + READY_FOR), 'fires');
+  assert.equal(it.isArmed, false);
+});
+
+test('a load that moves again before that second is over has to stand a second again', () => {
+  assert.deepEqual(arm([0, READY], [900, READY], [950, MOVES], [1100, READY], [2000, READY], [2100, READY]), ['waits', 'waits', 'waits', 'waits', 'waits', 'fires']);
+});
+
+test('a press is over after 20 seconds, ready or not', () => {
+  for (const told of [MOVES, READY]) assert.deepEqual(arm([ARMED_FOR, MOVES], [ARMED_FOR + 1, told]), ['waits', 'over']);
+  assert.equal(ARMED_FOR, 20000);
+});
+
+test('a press is over if the weighing would be another one', () => {
+  const of = more => subjectOf('A', choiceOf(now({ plate: 'A', ...more })));
+  const subjects = [of(), of({ onSite: [first('A')] }), of({ onSite: [{ ...first('A'), number: 2 }] }), of({ tares: { A: { kg: 5000, is_over: false } } }), of({ oneTare: 4000 }), subjectOf('B', choiceOf(now({ plate: 'B' })))];
+  assert.equal(new Set(subjects).size, subjects.length);
+  for (const subject of subjects) {
+    const it = armed(subject);
+    assert.equal(it.next(READY, subject, PRESSED), 'waits');
+    for (const other of subjects.filter(other => other !== subject)) assert.equal(armed(subject).next(MOVES, other, PRESSED), 'over');
+  }
+});
+
+test('any question and any warning ends a press, and nothing fires after it', () => {
+  for (const told of [{ word: 'is_it', answers: [] }, { word: 'small_net' }, { word: 'link_held' }, { word: 'empty' }, { word: 'no_weight' }, { word: 'drive_off' }, { word: 'refused_11' }, { word: 'foreign_tare' }]) {
+    const it = armed();
+    assert.equal(it.next(told, 'A first', PRESSED), 'asked', told.word);
+    assert.equal(it.isArmed, false, told.word);
+  }
+  assert.equal(armed().next({ word: 'one_moment' }, 'A first', PRESSED), 'over', 'what shows nothing of it is told');
+});
+
+test('a press that is armed once more counts from the clerk\'s press', () => {
+  const it = armed();
+  it.next(READY, 'A first', PRESSED);
+  it.next(READY, 'A first', PRESSED + READY_FOR);
+  it.begin('A first', PRESSED);
+  assert.equal(it.next(READY, 'A first', PRESSED + 2000), 'waits', 'it has to stand a second again');
+  assert.equal(it.next(MOVES, 'A first', PRESSED + ARMED_FOR + 1), 'over');
 });

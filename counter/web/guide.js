@@ -138,17 +138,17 @@ export function step(now) {
   if (isLight) return isEmpty(state.off_zero);
   if (state.bridge === 'weighed') return { look: 'wait', ...driveOff(now.newest) };
   if (state.bridge === 'restarted') return { look: 'wait', word: 'drive_off_restarted' };
-  if (weight.state === 'D') return { look: 'wait', word: 'moving' };
-  if (!plate) return { look: 'do', word: 'type_plate' };
+  const moves = weight.state === 'D';
+  if (!plate) return moves ? { look: 'wait', word: 'moving' } : { look: 'do', word: 'type_plate' };
   if (!isPlate(plate)) return { look: 'wait', word: 'no_plate' };
   const like = alike(plate, now.onSite, now.weighedNear);
   if (like.length && !isAnswered(now, 'is_it', subjectOf(like))) return isItOneOf(like);
-  const choice = choiceOf(now), net = netOf(choice, gross);
-  if (choice.tare && net <= 0) return { look: 'wait', word: 'tare_too_great' };
+  const choice = choiceOf(now), net = moves ? null : netOf(choice, gross);
+  if (choice.tare && net !== null && net <= 0) return { look: 'wait', word: 'tare_too_great' };
   if (choice.tare && state.off_zero.is_doubtful && !isAnswered(now, 'off_zero', `${state.off_zero.before}`)) return wasOffZero(state.off_zero);
   if (net !== null && net < now.min && !isAnswered(now, 'small_net', choice.kind)) {
     return { look: 'wait', word: 'small_net', values: { net }, answers: [answerTo('small_net', choice.kind, ANSWER_KEYS.small_net, 'right_vehicle')] };
   }
   if (now.isDeaf) return { look: 'wait', word: 'one_moment', values: { plate } };
-  return { look: 'do', word: 'ready', isReady: true };
+  return moves ? { look: 'wait', word: 'moving_typed', isArmable: true } : { look: 'do', word: 'ready', isReady: true };
 }

@@ -1,5 +1,6 @@
 // What is known now: what the counter told, and what the clerk is at.
 
+import { Arming } from './arming.js';
 import { Feed, OLDEST_WEIGHT } from './feed.js';
 import { PlateOfLoad } from './guide.js';
 import { Deafness } from './hands.js';
@@ -11,7 +12,7 @@ const RESULT_BEFORE_FAULTS = 5000;   // milliseconds that a result is shown befo
 
 export const feed = new Feed();
 export const known = { hello: { interval: 20, zone: 'UTC', tare_days: 90 }, state: null, onSite: [], weighedNear: [], today: [], tares: {}, papers: { printers: [], jobs: [], refused: null } };
-export const clerk = { oneTare: null, isFirstInstead: false, waiting: null, result: null, told: null, newest: null, answered: {}, answers: [], deafness: new Deafness(), plateOfLoad: new PlateOfLoad(), plateThatLeft: '' };
+export const clerk = { oneTare: null, isFirstInstead: false, waiting: null, result: null, told: null, newest: null, answered: {}, answers: [], deafness: new Deafness(), arming: new Arming(), plateOfLoad: new PlateOfLoad(), plateThatLeft: '' };
 
 export const GIVEN = ['goods', 'order', 'driver'];     // free lines for the paper, which the office doesn't get
 

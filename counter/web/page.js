@@ -1,5 +1,6 @@
 // The clerk's page: what the counter tells is shown, what the clerk presses is asked. It judges nothing: the office does.
 
+import { ARMED_FOR, subjectOf } from './arming.js';
 import { OLDEST_WEIGHT } from './feed.js';
 import { choiceOf, plateOf } from './guide.js';
 import { DEAF_FOR, deedOf } from './hands.js';
@@ -9,7 +10,7 @@ import { keepTare, print, showJobs } from './papers.js';
 import { make, part } from './parts.js';
 import { ask, askJson } from './request.js';
 import { showRuns } from './runs.js';
-import { acts, show } from './show.js';
+import { acts, isAsking, show } from './show.js';
 import { begin, resume, tell } from './weighing.js';
 import { clockOf, kg, language, number, speak, t, useZone, wantedLanguage } from './words.js';
 
@@ -137,7 +138,6 @@ function weighFirstInstead() {
 // ---- hands
 
 const isTouched = () => matchMedia('(pointer: coarse)').matches;
-const isAsking = () => document.querySelector('dialog[open]') !== null;
 const focusPlate = () => { if (!isAsking() && !isTouched()) part('plate').focus(); };
 
 // The clerk must see what was taken from a list or answered before it is weighed.
@@ -161,6 +161,7 @@ function clearGiven() {
 }
 
 function emptyForm() {
+  clerk.arming.end();
   part('plate').value = '';
   clearGiven();
   clerk.oneTare = null;
@@ -181,17 +182,20 @@ function plateLeft(of) {
 }
 
 // What the clerk typed for one vehicle leaves the form with its request, so that letters typed before the answer are the next vehicle's plate, whole. If
-// nothing was stored, it comes back, unless the next plate has been begun.
-function takeForm() {
+// nothing was stored, it comes back, unless the next plate has been begun. If the load moved, the press waits for it, and true is returned.
+function takeForm(subject, since) {
   const held = { plate: plate(), oneTare: clerk.oneTare, isFirstInstead: clerk.isFirstInstead, given: Object.fromEntries(GIVEN.map(it => [it, part(it).value])) };
   clearPlate();
-  return () => {
-    if (plate()) return;
+  return hasMoved => {
+    if (plate()) return false;
     part('plate').value = held.plate;
     clerk.plateOfLoad.isBack();
     for (const it of GIVEN) part(it).value = held.given[it];
     Object.assign(clerk, { oneTare: held.oneTare, isFirstInstead: held.isFirstInstead });
+    const isArmed = hasMoved && performance.now() - since <= ARMED_FOR;
+    if (isArmed) clerk.arming.begin(subject, since);
     show();
+    return isArmed;
   };
 }
 
@@ -219,6 +223,7 @@ function typed(event) {
     field.value = text;
     field.setSelectionRange(at, at);
   }
+  clerk.arming.end();
   clerk.oneTare = null;
   clerk.isFirstInstead = false;
   clerk.answered = {};
@@ -229,7 +234,7 @@ function typed(event) {
 
 Object.assign(acts, {
   set_zero: setZero, clear_tare: clearTare, journal_seen: closeJournalBar, print: printResult, print_number: printNumber, show_papers: openPapers, keep_tare: keepTareOf, tare_from_papers: askTare, given_lines: askGiven, first_instead: weighFirstInstead,
-  plate_left: plateLeft, plate_again: () => take(clerk.plateThatLeft),
+  plate_left: plateLeft, plate_again: () => take(clerk.plateThatLeft), weigh, disarm, armed_over: () => tell('wait', 'armed_over', undefined, { plate: plate() }),
   withdraw: of => begin('/voids', { plate: of }), take, answer, clear: clearPlate, focus: focusPlate,
 });
 
@@ -237,9 +242,23 @@ function press(event) {
   event.preventDefault();
   show();
   if (part('go').disabled) return;
-  const choice = choiceOf(nowKnown());
+  const now = nowKnown();
+  if (part('go').dataset.look === 'weighs') weigh();
+  else clerk.arming.begin(subjectOf(now.plate, choiceOf(now)), performance.now());
+  show();
+}
+
+// `since` is the moment of the clerk's press.
+function weigh(since = performance.now()) {
+  const choice = choiceOf(nowKnown()), subject = subjectOf(plate(), choice);
   const given = Object.fromEntries(GIVEN.map(it => [it, givenOf(it)]).filter(([, value]) => value));
-  begin('/weighings', { kind: choice.kind, plate: plate(), ...(choice.tare ? { tare: String(choice.tare) } : {}), ...given }, takeForm);
+  begin('/weighings', { kind: choice.kind, plate: plate(), ...(choice.tare ? { tare: String(choice.tare) } : {}), ...given }, () => takeForm(subject, since));
+}
+
+function disarm() {
+  clerk.arming.end();
+  show();
+  focusPlate();
 }
 
 function placeOf(target) {
@@ -256,7 +275,7 @@ function keyed(event) {
   if (deed.is === 'clicked') part(deed.part).click();
   if (deed.is === 'deaf') clerk.deafness.pressed(at);
   if (deed.is === 'closing') beDeaf();          // at once, because the event of its end comes later
-  if (deed.is === 'cleared') clearPlate();
+  if (deed.is === 'cleared') (clerk.arming.isArmed ? disarm : clearPlate)();
   if (deed.is === 'typed') part('plate').focus();
 }
 

@@ -1,5 +1,6 @@
 // What is shown: the weight, the one sentence, the form and the bars at the top, each only where it changed.
 
+import { subjectOf } from './arming.js';
 import { choiceOf, demoOf, grossOf, isFalseDemo, isPlate, netOf, step } from './guide.js';
 import { PAGE_KEYS } from './hands.js';
 import { clerk, known, nowKnown } from './known.js';
@@ -12,6 +13,8 @@ const SIGNS = { ok: '✔', wait: '◔', bad: '⚠', calm: '▷', do: '➜' };
 // What may be pressed, by its word. Whoever does it puts it in here.
 export const acts = {};
 
+export const isAsking = () => document.querySelector('dialog[open]') !== null;
+
 export function show() {
   if (!has('plate')) return;
   const now = nowKnown();
@@ -23,14 +26,27 @@ export function show() {
   forgetAnswers(now);
   Object.assign(now, { result: clerk.result, answered: clerk.answered });
   const told = step(now);
+  if (goesOn(now, told)) return;
   clerk.answers = told.answers ?? [];
   showScale(now);
-  showGuide({ ...told, language });
+  showGuide({ ...(clerk.arming.isArmed ? armed(now.plate) : told), language });
   showForm(formOf(now, told));
   showDemo({ demo: demoOf(known.hello, known.state?.serial), company: known.hello.company, language });
   showAlarms(alarmsOf(now));
   showNote(now.link !== 'off' && known.state && !known.state.lists_whole ? t('lists_lack') : '');
 }
+
+// While a press waits for the load to stand still, good news waits too. Returns true if the press is over, and what follows from that is shown.
+function goesOn(now, told) {
+  if (!clerk.arming.isArmed) return false;
+  const asked = isAsking() ? { word: 'one_moment' } : told.look === 'ok' ? step({ ...now, told: null }) : told;
+  const outcome = clerk.arming.next(asked, subjectOf(now.plate, choiceOf(now)), performance.now());
+  if (outcome === 'fires') acts.weigh();
+  if (outcome === 'over') acts.armed_over();
+  return outcome === 'fires' || outcome === 'over';
+}
+
+const armed = plate => ({ look: 'wait', word: 'armed', values: { plate }, choices: ['disarm'] });
 
 // What came of a press stays until the vehicle has left for a while, and goes when the next one comes.
 function forgetResult(now) {
@@ -71,7 +87,7 @@ function withKey(made, key) {
   return made;
 }
 
-const KEY_OF = { set_zero: Object.keys(PAGE_KEYS).find(it => PAGE_KEYS[it] === 'zero') };
+const KEY_OF = { set_zero: Object.keys(PAGE_KEYS).find(it => PAGE_KEYS[it] === 'zero'), disarm: 'Esc' };
 const choiceButton = it => withKey(button(t(it), acts[it], { className: 'choice' }), KEY_OF[it]);
 const answerButton = it => withKey(button(it.plate ?? t(it.word), () => acts.answer(it), { className: 'answer' }), it.key);
 
@@ -82,14 +98,16 @@ function inWords(values) {
 
 function formOf(now, told) {
   const choice = choiceOf(now), isReady = Boolean(told.isReady) && !clerk.waiting, net = netOf(choice, grossOf(now.weight));
-  return { plate: now.plate, choice, isReady, net: isReady && net > 0 ? net : null, kept: now.tares[now.plate], answers: clerk.answers, tareOf: clerk.result?.tare, given: now.given, language };
+  const isArmable = Boolean(told.isArmable) && !clerk.waiting;
+  return { plate: now.plate, choice, isReady, isArmable, isArmed: clerk.arming.isArmed, net: isReady && net > 0 ? net : null, kept: now.tares[now.plate], answers: clerk.answers, tareOf: clerk.result?.tare, given: now.given, language };
 }
 
 const showForm = onlyChanged(form => {
   const { choice } = form;
-  part('go').disabled = !form.isReady;
+  part('go').disabled = !form.isReady && (!form.isArmable || form.isArmed);
+  part('go').dataset.look = form.isReady ? 'weighs' : form.isArmable ? 'arms' : '';
   part('go-words').textContent = form.plate ? `${t(`weigh_${choice.kind}`, { tare: choice.tare ? kg(choice.tare) : '' })} · ${form.plate}` : t('weigh');
-  part('go-more').textContent = form.net === null ? '' : t('net_to_come', { kg: kg(form.net) });
+  part('go-more').textContent = form.isArmable ? t('once_still') : form.net === null ? '' : t('net_to_come', { kg: kg(form.net) });
   part('hint').replaceChildren(...hintsOf(form));
   part('others').replaceChildren(...othersOf(form));
 });

@@ -6,7 +6,7 @@ import { counterWordOf, forget, isOld, isStored, keptRequest, newRequest, refusa
 import { acts, show } from './show.js';
 import { has, t } from './words.js';
 
-const NOT_CLEARED = '11';
+const UNSTABLE = '7', NOT_CLEARED = '11';
 const TOLD_FOR = { ok: 2500, wait: 6000, bad: 6000 };
 
 // Until then nothing else can be weighed; `choices` is what may be pressed.
@@ -21,10 +21,10 @@ export function tell(look, word, more, values, choices) {
   setTimeout(() => { if (clerk.told === told) { clerk.told = null; show(); } }, TOLD_FOR[look]);
 }
 
-const NOTHING_TAKEN = () => () => {};
+const NOTHING_TAKEN = () => () => false;
 
 // One request at a time in a browser: one that another window keeps is ended first. `takeForm` takes what was typed for it, once it is kept, and returns
-// what gives that back if nothing is stored.
+// what gives that back if nothing is stored. That is told if the load moved, and returns true if the press waits for it.
 export function begin(target, form, takeForm = NOTHING_TAKEN) {
   if (clerk.waiting) return;
   if (keptRequest()) { resume(); return; }
@@ -42,7 +42,7 @@ async function conclude(request, giveBack = NOTHING_TAKEN()) {
   if (answer === null) { leave(request, giveBack); return; }
   clerk.waiting = null;
   if (answer.status === 201) finish(request, answer.text);
-  else { giveBack(); refuse(answer); }
+  else if (!giveBack(refusalOf(answer) === UNSTABLE)) refuse(answer);
   acts.focus();
 }
 
@@ -56,7 +56,7 @@ function leave(request, giveBack = NOTHING_TAKEN()) {
     if (stored === null) { leave(request, giveBack); return; }
     forget(request);
     clerk.waiting = null;
-    giveBack();
+    giveBack(false);
     tell('bad', 'was_not_stored');
   };
   wait('bad', 'lost', whatOf(request), ['send_again', 'look_up']);

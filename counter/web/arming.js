@@ -1,0 +1,39 @@
+// Keeps a press of the clerk while the load still moves. It needs no browser, and has no clock of its own.
+
+export const ARMED_FOR = 20000;      // milliseconds after the press
+export const READY_FOR = 1000;       // milliseconds that the page is ready before the weighing is sent, so that the clerk sees the weight
+
+// What a press is for. If any of it changes, the clerk has to press again.
+export const subjectOf = (plate, choice) => [plate, choice.kind, choice.tare ?? '', choice.first?.number ?? ''].join(' ');
+
+export class Arming {
+  #subject = null;
+  #since = -Infinity;
+  #readySince = null;
+
+  get isArmed() { return this.#subject !== null; }
+
+  // `since` is the moment of the press, also if the same press is armed once more.
+  begin(subject, since) {
+    this.#subject = subject;
+    this.#since = since;
+    this.#readySince = null;
+  }
+
+  end() { this.#subject = null; }
+
+  // Takes what the page asks of the clerk now. Only after 'waits' it is still armed. 'fires': the weighing is sent. 'asked': the page asks or warns. 'over': the time
+  // is over, or the weighing would be another one, which the clerk has to be told.
+  next(told, subject, at) {
+    this.#readySince = told.isReady ? this.#readySince ?? at : null;
+    const outcome = this.#outcome(told, subject, at);
+    if (outcome !== 'waits') this.end();
+    return outcome;
+  }
+
+  #outcome(told, subject, at) {
+    if (!told.isReady && !told.isArmable) return told.word === 'one_moment' ? 'over' : 'asked';
+    if (subject !== this.#subject || at - this.#since > ARMED_FOR) return 'over';
+    return told.isReady && at - this.#readySince >= READY_FOR ? 'fires' : 'waits';
+  }
+}
