@@ -94,6 +94,13 @@ test('the page asks about a small net, even one of zero', () => {
   assert.equal(step(now({ plate: 'RA-KM-1236', onSite: [first('RA-KM-1236', 9400)] })).word, 'ready');
 });
 
+test('a weighing that was withdrawn is not called weighed while its vehicle is on the bridge', () => {
+  const newest = { plate: 'HB-X-1', number: 4, paper: 'Slip', isWithdrawn: false }, state = { ...now().state, bridge: 'weighed' };
+  assert.equal(step(now({ newest, state })).word, 'drive_off');
+  const told = step(now({ newest: { ...newest, isWithdrawn: true }, state }));
+  assert.deepEqual([told.word, told.values.number], ['drive_off_withdrawn', 4]);
+});
+
 test('an empty bridge off zero asks for zero, and sends for the operator if that is refused', () => {
   const light = { net: 160 };
   assert.equal(step(now({}, {}, light)).word, 'empty');

@@ -122,7 +122,7 @@ function isEmpty({ kg, is_refused: isRefused }) {
 // Who it is that is weighed, also if the page was loaded since.
 function driveOff(newest) {
   if (!newest) return { word: 'drive_off_any' };
-  return { word: 'drive_off', values: { plate: newest.plate, paper: newest.paper, number: newest.number } };
+  return { word: newest.isWithdrawn ? 'drive_off_withdrawn' : 'drive_off', values: { plate: newest.plate, paper: newest.paper, number: newest.number } };
 }
 
 export function step(now) {

@@ -5,7 +5,7 @@ import { Feed, OLDEST_WEIGHT } from './feed.js';
 import { PlateOfLoad } from './guide.js';
 import { Deafness } from './hands.js';
 import { part } from './parts.js';
-import { paperOf } from './papers.js';
+import { paperOf } from './words.js';
 
 export const MIN_INTERVALS = 20;     // below so many intervals the bridge is empty
 const RESULT_BEFORE_FAULTS = 5000;   // milliseconds that a result is shown before a fault is
@@ -25,9 +25,12 @@ export function linkNow() {
   return feed.age() > OLDEST_WEIGHT ? 'held' : 'up';
 }
 
+// By the number of a first weighing: the void by which it was withdrawn today.
+export const withdrawnBy = () => new Map(known.today.filter(it => it.kind === 'void').map(it => [it.first, it]));
+
 function newestWeighing() {
   const newest = known.today.find(it => it.kind !== 'void');
-  return newest && { plate: newest.plate, number: newest.number, paper: paperOf(newest) };
+  return newest && { plate: newest.plate, number: newest.number, paper: paperOf(newest), isWithdrawn: withdrawnBy().has(newest.number) };
 }
 
 export function nowKnown() {

@@ -1,37 +1,116 @@
 // The lists: vehicles on site, the papers of today, and what a search finds.
 
-import { clerk, known } from './known.js';
+import { clerk, known, withdrawnBy } from './known.js';
 import { openEntry } from './papers.js';
 import { button, make, part } from './parts.js';
 import { askJson } from './request.js';
 import { acts } from './show.js';
-import { isToday, kg, number, t, whenOf } from './words.js';
+import { dayOf, isToday, kg, language, number, paperOf, t, whenOf } from './words.js';
 
-const MOST_ROWS = 200;
+const ROWS_AT_ONCE = 200;            // further rows are drawn as the clerk scrolls to their end
 const KINDS = { first: '→', second: '⇄', single: '◆', void: '✕' };
 
-function rowOf(entry, isOnSite) {
-  const late = isOnSite && !isToday(entry.at);
-  const weight = entry.net !== null ? t('net_of', { kg: kg(entry.net) }) : entry.gross !== null ? kg(entry.gross) : '';
-  const more = isOnSite ? `${whenOf(entry.at)} · ${t('slip')} ${entry.number}${late ? ` · ${t('since_before')}` : ''}` : `${KINDS[entry.kind]} ${whenOf(entry.at)} · ${t(`kind_${entry.kind}`)} ${entry.number}`;
-  const row = button('', () => isOnSite ? acts.take(entry.plate) : open(entry), { className: late ? 'late' : '' });
-  row.append(make('span', { className: 'plate', textContent: entry.plate }), make('span', { className: 'kg', textContent: weight }), make('span', { className: 'more', textContent: more }));
-  return row;
+// Shows entries as rows, keyed by their numbers. A row that stays keeps its buttons. So a press that lasts over a change is still a press, and no focus is lost.
+class Rows {
+  #list;
+  #press;
+  #made = new Map();
+  #most = ROWS_AT_ONCE;
+  #end = make('li', { className: 'none' });
+  #shown = [];
+  #reached = null;                   // the row that Tab reaches, after which arrow keys go to the others
+
+  // `press` is called with the entry whose row is pressed.
+  constructor(id, press) {
+    this.#list = part(id);
+    this.#press = press;
+    this.#list.addEventListener('keydown', event => this.#keyed(event));
+    this.#list.addEventListener('focusin', event => this.#reach(event.target.closest('li')));
+    new IntersectionObserver(seen => { if (seen.some(it => it.isIntersecting)) this.#grow(); }, { root: this.#list }).observe(this.#end);
+  }
+
+  // `moreOf` gives the second line of an entry, `lookOf` its class, `end` what stands below the last row.
+  show(entries, { moreOf, lookOf, end }) {
+    this.#shown = [entries, { moreOf, lookOf, end }];
+    const wanted = entries.slice(0, this.#most), day = dayOf(Date.now()), numbers = new Set(wanted.map(it => it.number));
+    for (const [it, { row }] of this.#made) {
+      if (numbers.has(it)) continue;
+      row.remove();
+      this.#made.delete(it);
+    }
+    let next = this.#list.firstChild;
+    for (const entry of wanted) {
+      const look = lookOf(entry), made = this.#made.get(entry.number) ?? this.#make(entry.number);
+      const says = [language, day, look, entry.plate, entry.at, entry.gross, entry.net].join(' ');
+      if (made.says !== says) this.#fill(Object.assign(made, { says, entry }), look, moreOf(entry));
+      if (made.row === next) next = next.nextSibling;
+      else this.#list.insertBefore(made.row, next);
+    }
+    const left = entries.length - wanted.length;
+    this.#end.textContent = left > 0 ? t('rows_more', { number: number(left) }) : end;
+    this.#end.hidden = !this.#end.textContent;
+    if (this.#list.lastChild !== this.#end) this.#list.append(this.#end);
+    this.#reach(this.#reached?.isConnected ? this.#reached : this.#list.querySelector('li:not(.none)'));
+  }
+
+  #reach(row) {
+    this.#reached?.querySelector('.main').setAttribute('tabindex', '-1');
+    this.#reached = row;
+    row?.querySelector('.main').setAttribute('tabindex', '0');
+  }
+
+  #keyed(event) {
+    const row = event.target.closest('li'), isMenu = event.target.matches('.menu');
+    const rows = [...this.#list.querySelectorAll('li:not(.none)')], at = rows.indexOf(row);
+    const to = { ArrowDown: rows[at + 1], ArrowUp: rows[at - 1], Home: rows[0], End: rows.at(-1), ArrowLeft: row, ArrowRight: row }[event.key];
+    if (!to || event.ctrlKey || event.altKey || event.metaKey || event.shiftKey) return;
+    event.preventDefault();
+    const goesToMenu = event.key === 'ArrowRight' || (isMenu && event.key !== 'ArrowLeft');
+    to.querySelector(goesToMenu ? '.menu' : '.main').focus();
+  }
+
+  #grow() {
+    if (this.#shown.length === 0 || this.#shown[0].length <= this.#most) return;
+    this.#most += ROWS_AT_ONCE;
+    this.show(...this.#shown);
+  }
+
+  #make(key) {
+    const made = { row: make('li'), entry: null, says: '' };
+    made.main = button('', () => this.#press(made.entry), { className: 'main', tabIndex: -1 });
+    made.parts = ['plate', 'kg', 'more'].map(className => make('span', { className }));
+    made.menu = button('⋯', () => open(made.entry), { className: 'menu', tabIndex: -1 });
+    made.main.append(...made.parts);
+    made.row.append(made.main, made.menu);
+    this.#made.set(key, made);
+    return made;
+  }
+
+  #fill({ row, entry, parts: [plate, weight, more], menu }, look, says) {
+    row.className = look;
+    plate.textContent = entry.plate;
+    weight.textContent = entry.net !== null ? t('net_of', { kg: kg(entry.net) }) : entry.gross !== null ? kg(entry.gross) : '';
+    more.textContent = says;
+    menu.title = t('row_menu');
+    menu.setAttribute('aria-label', `${entry.plate}, ${paperOf(entry)} ${entry.number}: ${t('row_menu')}`);
+  }
 }
 
-function fill(id, entries, isOnSite, empty, voided = new Set()) {
-  const rows = entries.slice(0, MOST_ROWS).map(it => make('li', { className: [it.number === clerk.newest ? 'new' : '', it.kind === 'void' || voided.has(it.number) ? 'void' : ''].join(' ') }, rowOf(it, isOnSite)));
-  part(id).replaceChildren(...(rows.length ? rows : [make('li', { className: 'none', textContent: empty })]));
-}
+const isLate = entry => !isToday(entry.at);
+const onSiteSays = entry => `${whenOf(entry.at)} · ${t('slip')} ${entry.number}${isLate(entry) ? ` · ${t('since_before')}` : ''}`;
+const entrySays = entry => `${KINDS[entry.kind]} ${whenOf(entry.at)} · ${t(`kind_${entry.kind}`)} ${entry.number}${entry.kind === 'void' && entry.first ? ` · ${t('of_first', { number: entry.first })}` : ''}`;
+const isNew = entry => entry.number === clerk.newest ? 'new' : '';
+
+let rows;
 
 export function showLists() {
-  const tickets = known.today.filter(it => it.net !== null);
-  const voided = new Set(known.today.filter(it => it.kind === 'void').map(it => it.first));
+  rows ??= { site: new Rows('site', entry => acts.take(entry.plate)), today: new Rows('today', open), hits: new Rows('hits', closeSearch) };
+  const tickets = known.today.filter(it => it.net !== null), withdrawn = withdrawnBy();
   part('site-count').textContent = known.onSite.length || '';
   part('today-count').textContent = known.today.length || '';
   part('today-sum').textContent = tickets.length ? t('sum', { number: number(tickets.length), kg: kg(tickets.reduce((sum, it) => sum + it.net, 0)) }) : '';
-  fill('site', known.onSite, true, t('nobody_on_site'));
-  fill('today', known.today, false, t('nothing_today'), voided);
+  rows.site.show(known.onSite, { moreOf: onSiteSays, lookOf: entry => `${isNew(entry)} ${isLate(entry) ? 'late' : ''}`, end: known.onSite.length ? '' : t('nobody_on_site') });
+  rows.today.show(known.today, { moreOf: entrySays, lookOf: entry => `${isNew(entry)} ${entry.kind === 'void' || withdrawn.has(entry.number) ? 'void' : ''}`, end: known.today.length ? '' : t('nothing_today') });
 }
 
 function open(entry) {
@@ -39,10 +118,14 @@ function open(entry) {
   openEntry(entry, known.papers.printers, acts.print_number, isOpenFirst, acts.withdraw);
 }
 
+function closeSearch(entry) {
+  part('searching').close();
+  open(entry);
+}
+
 export async function search() {
   const query = part('query').value.trim();
   const hits = query ? (await askJson('GET', `/search?q=${encodeURIComponent(query)}`))?.hits ?? [] : [];
   if (part('query').value.trim() !== query) return;
-  fill('hits', hits, false, query ? t('nothing_found') : '');
-  for (const row of part('hits').querySelectorAll('button')) row.addEventListener('click', () => part('searching').close(), { capture: true });
+  rows.hits.show(hits, { moreOf: entrySays, lookOf: entry => entry.kind === 'void' ? 'void' : '', end: hits.length || !query ? '' : t('nothing_found') });
 }

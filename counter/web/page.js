@@ -235,7 +235,7 @@ function typed(event) {
 Object.assign(acts, {
   set_zero: setZero, clear_tare: clearTare, journal_seen: closeJournalBar, print: printResult, print_number: printNumber, show_papers: openPapers, keep_tare: keepTareOf, tare_from_papers: askTare, given_lines: askGiven, first_instead: weighFirstInstead,
   plate_left: plateLeft, plate_again: () => take(clerk.plateThatLeft), weigh, disarm, armed_over: () => tell('wait', 'armed_over', undefined, { plate: plate() }),
-  withdraw: of => begin('/voids', { plate: of }), take, answer, clear: clearPlate, focus: focusPlate,
+  withdraw: ({ plate: of, number: first }) => begin('/voids', { plate: of }, undefined, { first }), take, answer, clear: clearPlate, focus: focusPlate,
 });
 
 function press(event) {

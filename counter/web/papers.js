@@ -1,12 +1,11 @@
 // The texts of entries: a slip or ticket again, and its paper, by a printer of the counter or by the browser. On paper the text stands letter for letter.
 
 import { DEAF_FOR } from './hands.js';
+import { withdrawnBy } from './known.js';
 import { fillPaper } from './paper.js';
 import { button, make, part } from './parts.js';
 import { ask, askJson } from './request.js';
-import { dayOf, has, kg, t, timeOf } from './words.js';
-
-export const paperOf = entry => t(entry.kind === 'second' || entry.kind === 'single' ? 'ticket' : 'slip');
+import { dayOf, has, kg, paperOf, t, timeOf } from './words.js';
 
 // Papers come in the order in which they were pressed: so the first one is the original.
 let before = Promise.resolve();
@@ -37,8 +36,7 @@ export async function textAgain(number) {
 export async function openEntry(entry, printers, press, isOpenFirst, withdraw) {
   const { text, from, why } = await textAgain(entry.number);
   part('entry-title').textContent = `${paperOf(entry)} ${entry.number} · ${entry.plate}`;
-  const net = entry.net === null ? '' : ` · ${t('net_of', { kg: kg(entry.net) })}`;
-  part('entry-sub').textContent = `${t(`kind_${entry.kind}`)} · ${dayOf(entry.at)} ${timeOf(entry.at)}${net}`;
+  part('entry-sub').textContent = [t(`kind_${entry.kind}`), `${dayOf(entry.at)} ${timeOf(entry.at)}`, ...moreOf(entry)].join(' · ');
   part('entry-text').textContent = text ?? why;
   part('entry-from').textContent = text === undefined ? '' : `${t(`from_${from}`)} ${t('in_utc')}`;
   const tools = [];
@@ -48,6 +46,14 @@ export async function openEntry(entry, printers, press, isOpenFirst, withdraw) {
   tools.push(button(t('close'), () => part('entry').close()));
   part('entry-tools').replaceChildren(...tools);
   part('entry').showModal();
+}
+
+function moreOf(entry) {
+  const by = withdrawnBy().get(entry.number);
+  return [
+    ...(entry.net === null ? [] : [t('net_of', { kg: kg(entry.net) })]), ...(entry.kind === 'void' && entry.first ? [t('of_first', { number: entry.first })] : []),
+    ...(by ? [t('withdrawn_by', { number: by.number })] : []),
+  ];
 }
 
 // The clerk must press it twice. A double click isn't enough. A void names the plate, not the entry. So if the plate has another open first weighing by now, or
@@ -67,7 +73,7 @@ function voidButton(entry, isOpenFirst, withdraw) {
     }
     if (performance.now() - askedAt < DEAF_FOR) return;
     part('entry').close();
-    withdraw(entry.plate);
+    withdraw(entry);
   }, { className: 'danger' });
   return made;
 }

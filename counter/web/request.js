@@ -55,9 +55,9 @@ export function forget(request) {
   if (keptRequest()?.form.key === request.form.key) localStorage.removeItem(KEPT);
 }
 
-// A request that is kept, or null if this browser keeps nothing: then nothing is sent.
-export function newRequest(target, form) {
-  const request = { target, form: { key: newKey(), ...form }, made: Date.now(), isUnsure: false };
+// A request that is kept, or null if this browser keeps nothing: then nothing is sent. `about` is for the page, and isn't sent.
+export function newRequest(target, form, about) {
+  const request = { target, form: { key: newKey(), ...form }, about, made: Date.now(), isUnsure: false };
   return keep(request) ? request : null;
 }
 

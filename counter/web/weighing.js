@@ -1,10 +1,9 @@
 // A weighing from the press to its end: sent until it is answered, and then told.
 
-import { clerk, known, MIN_INTERVALS } from './known.js';
-import { paperOf } from './papers.js';
+import { clerk, known, MIN_INTERVALS, withdrawnBy } from './known.js';
 import { counterWordOf, forget, isOld, isStored, keptRequest, newRequest, refusalOf, renewed, send } from './request.js';
 import { acts, show } from './show.js';
-import { has, t } from './words.js';
+import { has, paperOf, t } from './words.js';
 
 const UNSTABLE = '7', NOT_CLEARED = '11';
 const TOLD_FOR = { ok: 2500, wait: 6000, bad: 6000 };
@@ -25,10 +24,10 @@ const NOTHING_TAKEN = () => () => false;
 
 // One request at a time in a browser: one that another window keeps is ended first. `takeForm` takes what was typed for it, once it is kept, and returns
 // what gives that back if nothing is stored. That is told if the load moved, and returns true if the press waits for it.
-export function begin(target, form, takeForm = NOTHING_TAKEN) {
+export function begin(target, form, takeForm = NOTHING_TAKEN, about = {}) {
   if (clerk.waiting) return;
   if (keptRequest()) { resume(); return; }
-  const request = newRequest(target, form);
+  const request = newRequest(target, form, about);
   if (request === null) tell('bad', 'keeps_nothing');
   else conclude(request, takeForm());
 }
@@ -63,7 +62,8 @@ function leave(request, giveBack = NOTHING_TAKEN()) {
 }
 
 function refuse(answer) {
-  const refusal = refusalOf(answer), entry = refusal === NOT_CLEARED ? clerk.plateOfLoad.entry : null;
+  const refusal = refusalOf(answer), weighed = refusal === NOT_CLEARED ? clerk.plateOfLoad.entry : null;
+  const entry = weighed && !withdrawnBy().has(weighed.number) ? weighed : null;
   const word = entry ? 'already_weighed' : refusal ? `refused_${refusal}` : `counter_${counterWordOf(answer)}`;
   const values = entry && { plate: entry.plate, paper: paperOf(entry), number: entry.number };
   tell('bad', has(word) ? word : 'refused', `${t('nothing_stored')} (${answer.text.trim().slice(0, 60)})`, values);
@@ -71,8 +71,8 @@ function refuse(answer) {
 
 function finish(request, text) {
   const at = Number(/ (\d+)\n/.exec(text)[1]), net = /^N +(\d+) kg$/m.exec(text)?.[1], grosses = [...text.matchAll(/^G +(\d+) kg$/mg)].map(it => Number(it[1]));
-  const kind = request.form.kind ?? 'void', values = { paper: paperOf({ kind }), number: at, plate: request.form.plate };
-  const word = kind === 'void' ? 'done_void' : net === undefined ? 'done_first' : 'done_net';
+  const kind = request.form.kind ?? 'void', first = request.about?.first, values = { paper: paperOf({ kind }), number: at, plate: request.form.plate, first };
+  const word = kind === 'void' ? first ? 'done_void' : 'done_void_any' : net === undefined ? 'done_first' : 'done_net';
   if (kind !== 'void') clerk.plateOfLoad.weighed({ kind, plate: request.form.plate, number: at });
   const isPair = grosses.length === 2 && Number(net) >= MIN_INTERVALS * known.hello.interval;
   clerk.result = {

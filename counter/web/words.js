@@ -8,10 +8,19 @@ let zone = 'UTC';
 
 export const has = key => words[key] !== undefined;
 export const t = (key, values = {}) => (words[key] ?? key).replace(/\{(\w+)\}/g, (_, name) => values[name] ?? '');
-export const number = (value, digits = 0) => new Intl.NumberFormat(words.place, { minimumFractionDigits: digits, maximumFractionDigits: digits, useGrouping: 'always' }).format(value);
-export const kg = value => `${number(value)} kg`;
+// What writes numbers or moments takes a tenth of a millisecond to make, so each is kept.
+const writers = new Map();
+function writer(Kind, options) {
+  const key = [Kind.name, words.place, JSON.stringify(options)].join(' ');
+  if (!writers.has(key)) writers.set(key, new Kind(words.place, options));
+  return writers.get(key);
+}
 
-const written = (at, options) => new Intl.DateTimeFormat(words.place, { timeZone: zone, ...options }).format(new Date(at));
+export const number = (value, digits = 0) => writer(Intl.NumberFormat, { minimumFractionDigits: digits, maximumFractionDigits: digits, useGrouping: 'always' }).format(value);
+export const kg = value => `${number(value)} kg`;
+export const paperOf = entry => t(entry.kind === 'second' || entry.kind === 'single' ? 'ticket' : 'slip');
+
+const written = (at, options) => writer(Intl.DateTimeFormat, { timeZone: zone, ...options }).format(new Date(at));
 export const dayOf = at => written(at, { day: '2-digit', month: 'short', year: 'numeric' });
 export const timeOf = at => written(at, { hour: '2-digit', minute: '2-digit', hourCycle: 'h23' });
 export const isToday = at => dayOf(at) === dayOf(Date.now());
