@@ -468,58 +468,58 @@ def an_early_enter(bridge, clerk):
         )
 
     before = rows(bridge)
-    sways("ARM-1")
+    sways("SW-AA-11")
     same("it says so", "Or press Enter once the whole vehicle is on the bridge.", clerk.more())
     clerk.browser.hammer(TEN, 0.1)
-    clerk.sees(f"ARM-1 {armed}")
+    clerk.sees(f"SW-AA-11 {armed}")
     same(
         "while it sways, Enter hammered stores nothing",
-        ([], "ARM-1"),
+        ([], "SW-AA-11"),
         (rows(bridge)[len(before) :], clerk.plate()),
     )
     bridge.converter.sway = 0
     becomes(
         "once it stands, it is weighed",
-        lambda: rows(bridge)[len(before) :] == [("first", "ARM-1")],
+        lambda: rows(bridge)[len(before) :] == [("first", "SW-AA-11")],
     )
     clerk.browser.hammer(TEN, 0.1)
-    same("and only once", [("first", "ARM-1")], rows(bridge)[len(before) :])
+    same("and only once", [("first", "SW-AA-11")], rows(bridge)[len(before) :])
 
-    arms("ARM-2")
+    arms("KO-BB-22")
     clerk.keys(ESCAPE)
     clerk.sees(waits, what="Esc ends it")
-    nothing_comes("after Esc", "ARM-2")
+    nothing_comes("after Esc", "KO-BB-22")
     clerk.sees("Ready.")
 
-    arms("ARM-3")
+    arms("HH-CC-33")
     clerk.keys("X")
-    nothing_comes("after another letter", "ARM-3X")
+    nothing_comes("after another letter", "HH-CC-33X")
 
-    arms("ARM-4")
+    arms("MZ-DD-44")
     bridge.converter.sway = 0
     bridge.put(0)
-    clerk.sees("The vehicle has left the bridge. ARM-4 was removed")
+    clerk.sees("The vehicle has left the bridge. MZ-DD-44 was removed")
     nothing_comes("the next vehicle after an emptied bridge", "")
 
-    arms("ARM-5")
+    arms("TR-EE-55")
     clerk.keys(F4 + ESCAPE)
-    clerk.sees("ARM-5 was not weighed.", what="a search ends it, and the page says so")
-    nothing_comes("after a search", "ARM-5")
+    clerk.sees("TR-EE-55 was not weighed.", what="a search ends it, and the page says so")
+    nothing_comes("after a search", "TR-EE-55")
 
-    arms("ARM-1", 7010)
+    arms("SW-AA-11", 7010)
     bridge.converter.sway = 0
     clerk.sees("The net would be only 20 kg.", what="a question ends it")
-    nothing_comes("after a question", "ARM-1")
+    nothing_comes("after a question", "SW-AA-11")
 
-    arms("ARM-6")
-    clerk.sees("ARM-6 was not weighed.", 25, "after 20 s it is over, and the page says so")
-    nothing_comes("after 20 s", "ARM-6")
+    arms("LB-FF-66")
+    clerk.sees("LB-FF-66 was not weighed.", 25, "after 20 s it is over, and the page says so")
+    nothing_comes("after 20 s", "LB-FF-66")
 
     # the load begins to sway between the press and its arrival at the office
     bridge.put(0)
     bridge.put(7000)
     before = rows(bridge)
-    clerk.keys(ESCAPE + ESCAPE + "ARM-8")
+    clerk.keys(ESCAPE + ESCAPE + "WO-GG-88")
     clerk.sees("Ready.")
     clerk.browser.run(
         """const real = window.realFetch ??= window.fetch;
@@ -534,11 +534,11 @@ def an_early_enter(bridge, clerk):
     )
     clerk.keys(ENTER)
     bridge.converter.sway = 100
-    clerk.sees(f"ARM-8 {armed}", what="an office that finds it moving: it is armed again")
+    clerk.sees(f"WO-GG-88 {armed}", what="an office that finds it moving: it is armed again")
     bridge.converter.sway = 0
     becomes(
         "and weighed once it stands",
-        lambda: rows(bridge)[len(before) :] == [("first", "ARM-8")],
+        lambda: rows(bridge)[len(before) :] == [("first", "WO-GG-88")],
     )
     keys = clerk.browser.run("return window.weighed")
     same("under a new key", (2, 2), (len(keys), len(set(keys))))
