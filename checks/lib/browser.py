@@ -169,9 +169,10 @@ class Browser:
         """Click the mouse at a point of the window, `count` times at once. A double click is two."""
         for it in range(1, count + 1):
             for kind in ("mousePressed", "mouseReleased"):
-                self.tool(
-                    "Input.dispatchMouseEvent", type=kind, x=x, y=y, button="left", clickCount=it
-                )
+                self.mouse(kind, x, y, it)
+
+    def mouse(self, kind, x, y, count=1):
+        self.tool("Input.dispatchMouseEvent", type=kind, x=x, y=y, button="left", clickCount=count)
 
     def middle_of(self, selector):
         return self.run(

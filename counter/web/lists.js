@@ -29,9 +29,9 @@ class Rows {
     new IntersectionObserver(seen => { if (seen.some(it => it.isIntersecting)) this.#grow(); }, { root: this.#list }).observe(this.#end);
   }
 
-  // `moreOf` gives the second line of an entry, `lookOf` its class, `end` what stands below the last row.
-  show(entries, { moreOf, lookOf, end }) {
-    this.#shown = [entries, { moreOf, lookOf, end }];
+  // `lookOf` gives the class of an entry's row by what changes while it is there, `says` the second line and if it is late, `end` what stands below the last row.
+  show(entries, { lookOf, says, end }) {
+    this.#shown = [entries, { lookOf, says, end }];
     const wanted = entries.slice(0, this.#most), day = dayOf(Date.now()), numbers = new Set(wanted.map(it => it.number));
     for (const [it, { row }] of this.#made) {
       if (numbers.has(it)) continue;
@@ -41,8 +41,8 @@ class Rows {
     let next = this.#list.firstChild;
     for (const entry of wanted) {
       const look = lookOf(entry), made = this.#made.get(entry.number) ?? this.#make(entry.number);
-      const says = [language, day, look, entry.plate, entry.at, entry.gross, entry.net].join(' ');
-      if (made.says !== says) this.#fill(Object.assign(made, { says, entry }), look, moreOf(entry));
+      const told = [language, day, look, entry.plate, entry.at, entry.gross, entry.net].join(' ');
+      if (made.told !== told) this.#fill(Object.assign(made, { told, entry }), look, says(entry));
       if (made.row === next) next = next.nextSibling;
       else this.#list.insertBefore(made.row, next);
     }
@@ -50,7 +50,7 @@ class Rows {
     this.#end.textContent = left > 0 ? t('rows_more', { number: number(left) }) : end;
     this.#end.hidden = !this.#end.textContent;
     if (this.#list.lastChild !== this.#end) this.#list.append(this.#end);
-    this.#reach(this.#reached?.isConnected ? this.#reached : this.#list.querySelector('li:not(.none)'));
+    if (!this.#list.contains(document.activeElement)) this.#reach(this.#list.querySelector('li:not(.none)'));
   }
 
   #reach(row) {
@@ -76,7 +76,7 @@ class Rows {
   }
 
   #make(key) {
-    const made = { row: make('li'), entry: null, says: '' };
+    const made = { row: make('li'), entry: null, told: '' };
     made.main = button('', () => this.#press(made.entry), { className: 'main', tabIndex: -1 });
     made.parts = ['plate', 'kg', 'more'].map(className => make('span', { className }));
     made.menu = button('⋯', () => open(made.entry), { className: 'menu', tabIndex: -1 });
@@ -86,19 +86,26 @@ class Rows {
     return made;
   }
 
-  #fill({ row, entry, parts: [plate, weight, more], menu }, look, says) {
-    row.className = look;
+  #fill({ row, entry, parts: [plate, weight, more], menu }, look, { text, isLate }) {
+    row.className = `entry ${look} ${isLate ? 'late' : ''}`;
     plate.textContent = entry.plate;
     weight.textContent = entry.net !== null ? t('net_of', { kg: kg(entry.net) }) : entry.gross !== null ? kg(entry.gross) : '';
-    more.textContent = says;
+    more.textContent = text;
     menu.title = t('row_menu');
     menu.setAttribute('aria-label', `${entry.plate}, ${paperOf(entry)} ${entry.number}: ${t('row_menu')}`);
   }
 }
 
-const isLate = entry => !isToday(entry.at);
-const onSiteSays = entry => `${whenOf(entry.at)} · ${t('slip')} ${entry.number}${isLate(entry) ? ` · ${t('since_before')}` : ''}`;
-const entrySays = entry => `${KINDS[entry.kind]} ${whenOf(entry.at)} · ${t(`kind_${entry.kind}`)} ${entry.number}${entry.kind === 'void' && entry.first ? ` · ${t('of_first', { number: entry.first })}` : ''}`;
+function onSiteSays(entry) {
+  const isLate = !isToday(entry.at);
+  return { text: `${whenOf(entry.at)} · ${t('slip')} ${entry.number}${isLate ? ` · ${t('since_before')}` : ''}`, isLate };
+}
+
+function entrySays(entry) {
+  const first = entry.kind === 'void' && entry.first ? ` · ${t('of_first', { number: entry.first })}` : '';
+  return { text: `${KINDS[entry.kind]} ${whenOf(entry.at)} · ${t(`kind_${entry.kind}`)} ${entry.number}${first}`, isLate: false };
+}
+
 const isNew = entry => entry.number === clerk.newest ? 'new' : '';
 
 let rows;
@@ -109,8 +116,8 @@ export function showLists() {
   part('site-count').textContent = known.onSite.length || '';
   part('today-count').textContent = known.today.length || '';
   part('today-sum').textContent = tickets.length ? t('sum', { number: number(tickets.length), kg: kg(tickets.reduce((sum, it) => sum + it.net, 0)) }) : '';
-  rows.site.show(known.onSite, { moreOf: onSiteSays, lookOf: entry => `${isNew(entry)} ${isLate(entry) ? 'late' : ''}`, end: known.onSite.length ? '' : t('nobody_on_site') });
-  rows.today.show(known.today, { moreOf: entrySays, lookOf: entry => `${isNew(entry)} ${entry.kind === 'void' || withdrawn.has(entry.number) ? 'void' : ''}`, end: known.today.length ? '' : t('nothing_today') });
+  rows.site.show(known.onSite, { lookOf: isNew, says: onSiteSays, end: known.onSite.length ? '' : t('nobody_on_site') });
+  rows.today.show(known.today, { lookOf: entry => `${isNew(entry)} ${entry.kind === 'void' || withdrawn.has(entry.number) ? 'void' : ''}`, says: entrySays, end: known.today.length ? '' : t('nothing_today') });
 }
 
 function open(entry) {
@@ -127,5 +134,5 @@ export async function search() {
   const query = part('query').value.trim();
   const hits = query ? (await askJson('GET', `/search?q=${encodeURIComponent(query)}`))?.hits ?? [] : [];
   if (part('query').value.trim() !== query) return;
-  rows.hits.show(hits, { moreOf: entrySays, lookOf: entry => entry.kind === 'void' ? 'void' : '', end: hits.length || !query ? '' : t('nothing_found') });
+  rows.hits.show(hits, { lookOf: entry => entry.kind === 'void' ? 'void' : '', says: entrySays, end: hits.length || !query ? '' : t('nothing_found') });
 }

@@ -1,0 +1,179 @@
+"""Part of checks/counter: the rows of the page's lists. Each has a menu, keeps its buttons while others come, and costs little with 300 vehicles on site."""
+
+import time
+
+from counter_clerk import ENTER, ESCAPE, TAB, Clerk, at_of
+from countering import Bridge, becomes, holds, same
+
+DOWN, RIGHT, LEFT, END = "\ue015", "\ue014", "\ue012", "\ue010"
+ON_SITE = 300
+MOST_MILLISECONDS = 10  # of the page's thread for an entry
+FOCUS = "const it = document.activeElement; return [it.closest('ul')?.id, it.closest('li')?.querySelector('.plate').textContent, it.className]"
+DIALOG = "return document.querySelector('#entry[open]') && [...document.querySelectorAll('#entry h2, #entry #entry-sub, #entry button')].map(it => it.textContent)"
+# The page is told of so many vehicles on site, and then of 21 entries. How long each holds up its thread, in milliseconds: the median.
+COST = """
+const [count, done] = arguments;
+import('/web/known.js').then(async ({ feed, known }) => {
+  const entry = at => ({ number: 90000 + at, kind: 'first', plate: `COST-${at}`, at: new Date().toISOString(), gross: 18340, tare: null, net: null, first: null });
+  const lists = { on_site: Array.from({ length: count }, (_, at) => entry(count - at)), today: known.today, tares: known.tares, weighed_near: known.weighedNear };
+  feed.hear('lists', lists);
+  const took = [];
+  for (let at = 1; at <= 21; at++) {
+    const text = JSON.stringify({ entry: entry(count + at), on_site: [entry(count + at), ...known.onSite], weighed_near: known.weighedNear });
+    await new Promise(requestAnimationFrame);
+    const from = performance.now();
+    feed.hear('entry', JSON.parse(text));
+    document.getElementById('site').getBoundingClientRect();
+    took.push(performance.now() - from);
+  }
+  done(took.sort((one, other) => one - other)[10]);
+});"""
+
+
+def menu_of(plate, list="site"):
+    return f"[...document.querySelectorAll('#{list} li')].find(it => it.querySelector('.plate')?.textContent === '{plate}').querySelector('.menu')"
+
+
+def a_menu_withdraws(bridge, clerk):
+    bridge.next_vehicle(9170)
+    clerk.keys("AA-WR-1")
+    clerk.sees("Ready.")
+    clerk.keys(ENTER)
+    clerk.sees("Slip 1")
+    becomes(
+        "it is on site",
+        lambda: clerk.browser.run("return document.querySelectorAll('#site .menu').length") == 1,
+    )
+    clerk.browser.run(menu_of("AA-WR-1") + ".click()")
+    found = becomes("the menu of a row on site opens its text", lambda: clerk.browser.run(DIALOG))
+    same("with its title", "Slip 1 · AA-WR-1", found[0])
+    same("print, withdraw and close", ["Print again", "Withdraw this weighing", "Close"], found[2:])
+    clerk.browser.run("document.querySelector('#entry .danger').click()")
+    time.sleep(0.8)
+    clerk.browser.run("document.querySelector('#entry .danger').click()")
+    clerk.sees("Withdrawn: AA-WR-1, slip 1", what="the page names the First that is withdrawn")
+    same("and the slip that says so", "Slip 2 says so.", clerk.more()[:15])
+    clerk.load()
+    clerk.sees(
+        "AA-WR-1, Slip 1, is withdrawn.", what="the vehicle on the bridge isn't called weighed"
+    )
+    clerk.keys("BB-RI-2")
+    clerk.sees("AA-WR-1, Slip 1, is withdrawn.")
+    same("nobody is on site", "", clerk.browser.text("#site-count"))
+    becomes(
+        "the withdrawal's row names the First",
+        lambda: "Withdrawal 2 · of slip 1" in clerk.browser.text("#today"),
+    )
+    clerk.keys(ESCAPE)
+    for plate, says in (("AA-WR-1", "withdrawn by slip 2"), ("AA-WR-1", "of slip 1")):
+        at = 1 if says.startswith("withdrawn") else 0
+        clerk.browser.run(f"document.querySelectorAll('#today .menu')[{at}].click()")
+        found = becomes(
+            "the menu of a row of today opens its text", lambda: clerk.browser.run(DIALOG)
+        )
+        holds(f"which says {says}", says in found[1], found[1])
+        holds("and offers no withdrawal", "Withdraw this weighing" not in found, found)
+        clerk.keys(ESCAPE)
+        becomes("it is closed", lambda: clerk.browser.run(DIALOG) is None)
+
+
+def arrow_keys(bridge, clerk):
+    for at, plate in enumerate(("AR-ON-11", "BR-TW-22", "CR-TH-33")):
+        bridge.next_vehicle(9000 + at)
+        bridge.weigh(f"arrow-{at}", "first", plate)
+    becomes("three are on site", lambda: clerk.browser.text("#site-count") == "3")
+    clerk.browser.run(
+        "document.querySelector('#last').focus(); document.querySelector('#find').focus()"
+    )
+    clerk.keys(TAB)
+    same(
+        "Tab goes to the first row on site", ["site", "CR-TH-33", "main"], clerk.browser.run(FOCUS)
+    )
+    for key, name, wanted in (
+        (DOWN, "down", ["site", "BR-TW-22", "main"]),
+        (RIGHT, "right", ["site", "BR-TW-22", "menu"]),
+        (DOWN, "down in the menus", ["site", "AR-ON-11", "menu"]),
+        (DOWN, "down at the last row", ["site", "AR-ON-11", "menu"]),
+        (LEFT, "left", ["site", "AR-ON-11", "main"]),
+        (END, "End", ["site", "AR-ON-11", "main"]),
+    ):
+        clerk.keys(key)
+        same(f"the arrow keys: {name}", wanted, clerk.browser.run(FOCUS))
+    bridge.next_vehicle(9500)
+    bridge.weigh("arrow-4", "first", "DR-FO-44")
+    becomes("a fourth comes", lambda: clerk.browser.text("#site-count") == "4")
+    same("and the focus stays", ["site", "AR-ON-11", "main"], clerk.browser.run(FOCUS))
+    clerk.keys(TAB)
+    same("Tab leaves the list", "today", clerk.browser.run(FOCUS)[0])
+    clerk.keys(ESCAPE)
+
+
+def a_press_that_lasts(bridge, clerk):
+    """A press begins on a row, another entry comes, and the press ends there."""
+    clerk.browser.run("document.querySelector('#site').scrollTop = 0")
+    at = clerk.browser.middle_of("#site li:nth-child(2) .main")
+    plate = clerk.browser.run(
+        "return document.querySelector('#site li:nth-child(2) .plate').textContent"
+    )
+    row = "document.querySelectorAll('#site .main')[1]"
+    clerk.browser.run(
+        f"window.pressed = {row}; window.clicks = 0; window.pressed.addEventListener('click', () => window.clicks++)"
+    )
+    clerk.browser.mouse("mousePressed", *at)
+    bridge.next_vehicle(9600)
+    bridge.weigh("press-1", "second", "AR-ON-11")
+    becomes(
+        "an entry comes while the button is down", lambda: clerk.browser.text("#site-count") == "3"
+    )
+    same(
+        "the row is the same part of the page",
+        [True, plate],
+        clerk.browser.run(
+            f"return [window.pressed.isConnected, window.pressed.querySelector('.plate').textContent]"
+        ),
+    )
+    clerk.browser.mouse(
+        "mouseReleased",
+        *clerk.browser.run(
+            "const it = window.pressed.getBoundingClientRect(); return [it.x + 20, it.y + 10]"
+        ),
+    )
+    becomes("and the press acts", lambda: clerk.plate() == plate)
+    clerk.keys(ESCAPE)
+
+
+def what_an_entry_costs(bridge, clerk):
+    drawn = lambda: clerk.browser.run("return document.querySelectorAll('#site .main').length")
+    took = clerk.browser.call("POST", "/execute/async", {"script": COST, "args": [ON_SITE]})
+    holds(
+        f"with {ON_SITE} on site an entry costs the page's thread less than {MOST_MILLISECONDS} ms",
+        took < MOST_MILLISECONDS,
+        f"{took:.1f} ms",
+    )
+    same("200 rows are drawn at first", 200, drawn())
+    same(
+        "and the list says how many more there are",
+        f"{ON_SITE + 21 - 200} more: scroll down",
+        clerk.browser.text("#site li:last-child"),
+    )
+    clerk.browser.run("const it = document.getElementById('site'); it.scrollTop = it.scrollHeight")
+    becomes("all are drawn once one scrolls", lambda: drawn() == ON_SITE + 21)
+    clerk.load()
+
+
+def show(program, bridge=None):
+    print("---- the rows of the lists", flush=True)
+    bridge = bridge or Bridge(program, 10).start_counter()
+    clerk = None
+    try:
+        bridge.put(0)
+        clerk = Clerk(at_of(bridge.http))
+        clerk.sees("The bridge is empty")
+        a_menu_withdraws(bridge, clerk)
+        arrow_keys(bridge, clerk)
+        a_press_that_lasts(bridge, clerk)
+        what_an_entry_costs(bridge, clerk)
+    finally:
+        if clerk:
+            clerk.close()
+        bridge.close()
