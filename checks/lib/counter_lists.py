@@ -1,12 +1,15 @@
 """Lists, texts again, keys, who may ask, the description of the routes and the languages, for checks/counter."""
 
+import datetime
 import json
 import os
 import re
 import sqlite3
 import subprocess
+import time
+import zoneinfo
 
-from countering import TOP, Bridge, becomes, holds, same
+from countering import TOP, Bridge, Meanwhile, becomes, holds, same
 
 OPENAPI_SCHEMA = "/usr/share/openapi-specification/schemas/v3.0/schema.json"
 
@@ -226,6 +229,7 @@ def kept_tares(bridge):
     for target, body in (
         ("/tares/ab", '{"kg": 5000}'),
         ("/tares/AB-12", '{"kg": 0}'),
+        ("/tares/AB-12", '{"kg": 9}'),
         ("/tares/AB-12", '{"kg": "5"}'),
         ("/tares/AB-12", "5"),
         ("/tares/AB-12", ""),
@@ -237,13 +241,43 @@ def kept_tares(bridge):
         )
     bridge.kill_counter()
     bridge.start_counter()
-    kept = next(it for name, it in bridge.events(1.0) if name == "lists")["tares"]
+    kept = lambda: next(it for name, it in bridge.events(1.0) if name == "tares")
+    shown = {"kg": 5000, "by": "anna", "is_over": False, "used": None, "empty": None}
     same(
         "it is there after a start, with the clerk who kept it",
-        (5000, "anna", False),
-        (kept["AB-12"]["kg"], kept["AB-12"]["by"], kept["AB-12"]["is_over"]),
+        shown,
+        {name: kept()["AB-12"][name] for name in shown},
+    )
+    bridge.next_vehicle(9170)
+    same("it is weighed with", 201, bridge.weigh("tare-used", "single", "AB-12", 5000)[0])
+    today = datetime.datetime.now(zoneinfo.ZoneInfo("Europe/Berlin")).date().isoformat()
+    becomes("it has the day of its last use", lambda: kept()["AB-12"]["used"] == today)
+    bridge.next_vehicle(9170)
+    bridge.weigh("tare-first", "first", "AB-12")
+    bridge.next_vehicle(2520)
+    told = Meanwhile(bridge.events, 3.0)
+    time.sleep(0.5)
+    bridge.weigh("tare-second", "second", "AB-12")
+    told = [it for name, it in told.get() if name == "tare"]
+    same(
+        "a pair changes its last empty weight, and the pages are told of this tare alone",
+        [("AB-12", 5040)],
+        [(it["plate"], it["tare"]["empty"]) for it in told],
+    )
+    same(
+        "whoever asks for the plate gets it too",
+        ({"plate": "AB-12", "empty": 5040}, {"plate": "NEW-1", "empty": None}),
+        (bridge.json("GET", "/plates/AB-12"), bridge.json("GET", "/plates/NEW-1")),
+    )
+    bridge.kill_counter()
+    bridge.start_counter()
+    same(
+        "the day is there after a start too, and the weight",
+        (today, 5040),
+        (kept()["AB-12"]["used"], kept()["AB-12"]["empty"]),
     )
     same("and gone once it is dropped", (200, "{}"), bridge.ask("DELETE", "/tares/AB-12")[:2])
+    same("for each page", {}, kept())
 
 
 def a_full_journal(program):
@@ -386,6 +420,7 @@ def the_description(bridge):
     answered("/web/{name}", "GET", bridge.http, "/web/none.js")
     for number in ("1", "999999"):
         answered("/entries/{number}", "GET", bridge.http, f"/entries/{number}")
+    answered("/plates/{plate}", "GET", bridge.http, "/plates/AB-12")
     answered("/tares/{plate}", "PUT", bridge.http, "/tares/AB-12", body='{"kg": 5000}')
     answered("/tares/{plate}", "PUT", bridge.http, "/tares/AB-12", body="{}")
     answered("/tares/{plate}", "DELETE", bridge.http, "/tares/AB-12")

@@ -3,7 +3,7 @@
 import assert from 'node:assert/strict';
 import { test } from 'node:test';
 import { ARMED_FOR, Arming, READY_FOR, subjectOf } from './web/arming.js';
-import { alike, choiceOf, demoOf, isFalseDemo, plateOf, PlateOfLoad, step } from './web/guide.js';
+import { alike, choiceOf, demoOf, doubtOf, isFalseDemo, plateOf, PlateOfLoad, roundedTare, step } from './web/guide.js';
 import { ANSWER_KEYS, DEAF_FOR, Deafness, HAMMERED_WITHIN, PAGE_KEYS, deedOf } from './web/hands.js';
 
 const first = (plate, gross = 18340) => ({ plate, gross, at: '2026-03-10T08:00:00Z', number: 1 });
@@ -54,7 +54,7 @@ test('the likeliest comes first, each as newest first', () => {
 const CALM = { kg: null, is_refused: false, before: 0, is_doubtful: false };
 const now = (more = {}, offZero = {}, weight = {}) => ({
   link: 'up', weight: { state: 'S', net: 9000, tare: 0, ...weight }, state: { bridge: 'empty', busy: false, off_zero: { ...CALM, ...offZero } }, plate: 'HB-X-1', onSite: [],
-  weighedNear: [], tares: {}, min: 400, oneTare: null, isFirstInstead: false, waiting: null, result: null, told: null, newest: null, isResultNew: false, answered: {}, isDeaf: false, ...more,
+  weighedNear: [], tares: {}, interval: 20, empty: null, min: 400, oneTare: null, isFirstInstead: false, waiting: null, result: null, told: null, newest: null, isResultNew: false, answered: {}, isDeaf: false, ...more,
 });
 const keysOf = told => told.answers.map(it => it.key);
 
@@ -339,4 +339,65 @@ test('a press that is armed once more counts from the clerk\'s press', () => {
   it.begin('A first', PRESSED);
   assert.equal(it.next(READY, 'A first', PRESSED + 2000), 'waits', 'it has to stand a second again');
   assert.equal(it.next(MOVES, 'A first', PRESSED + ARMED_FOR + 1), 'over');
+});
+
+// ---- kept tares
+
+const kept = (kg, more = {}) => ({ kg, until: '2026-06-08', by: 'anna', used: null, is_over: false, empty: null, ...more });
+
+test('a tare is shown and used as the scale rounds it', () => {
+  for (const [kg, interval, wanted] of [[5000, 20, 5000], [5009, 20, 5000], [5010, 20, 5020], [9, 20, 0], [10, 20, 20], [7, 5, 5], [8, 5, 10], [3, 1, 3], [24, 50, 0], [25, 50, 50]]) assert.equal(roundedTare(kg, interval), wanted, `${kg} ${interval}`);
+  assert.equal(choiceOf(now({ tares: { 'HB-X-1': kept(1451) } })).tare, 1460);
+  assert.equal(choiceOf(now({ oneTare: 1451 })).tare, 1460);
+});
+
+test('a kept tare of a plate with other hyphens is offered, and never taken', () => {
+  for (const [typed, other] of [['SUEWAB12E', 'SUEW-AB-12E'], ['A-BC-123', 'AB-C-123']]) {
+    const know = { plate: typed, tares: { [other]: kept(5000) } }, told = step(now(know));
+    assert.equal(choiceOf(now(know)).kind, 'first', typed);
+    assert.deepEqual([told.word, told.values, keysOf(told)], ['is_it_spelled', { plate: other, kg: 5000 }, ['F2', 'F6']], typed);
+    assert.equal(told.answers[0].plate, other);
+    assert.ok(step(now({ ...know, answered: { spelling: other } })).isReady, 'another vehicle');
+    assert.equal(step(now({ ...know, answered: { spelling: 'X' } })).word, 'is_it_spelled');
+  }
+});
+
+test('two spellings have two keys, and what needs no tare asks nothing', () => {
+  const tares = { 'A-BC-123': kept(5000), 'ABC-123': kept(6000) }, at = more => step(now({ plate: 'AB-C-123', tares, ...more }));
+  assert.deepEqual(keysOf(at()), ['F2', 'F3', 'F6']);
+  assert.ok(at({ oneTare: 4000 }).isReady);
+  assert.ok(at({ onSite: [first('AB-C-123')] }).isReady, 'it is weighed out');
+  assert.ok(step(now({ plate: 'A-BC-123', tares })).isReady, 'its own spelling');
+  assert.ok(at({ tares: { 'A-BC-123': kept(5000, { is_over: true }) } }).isReady, 'one that has expired');
+});
+
+test('a tare below a fifth of the gross is doubted, and one that differs by a twentieth from the last empty weight', () => {
+  for (const [tare, gross, empty, word] of [
+    [1460, 9000, null, 'small_tare'], [1800, 9000, null, undefined], [1780, 9000, null, 'small_tare'], [5000, 9000, 5000, undefined], [5000, 9000, 5260, undefined], [5000, 9000, 5280, 'other_tare'],
+    [5260, 9000, 5000, 'other_tare'], [5240, 9000, 5000, undefined], [1460, null, null, undefined], [1460, null, 14460, 'other_tare'], [1460, 9000, 14460, 'small_tare'],
+  ]) assert.equal(doubtOf(tare, gross, empty)?.word, word, `${tare} ${gross} ${empty}`);
+});
+
+test('a doubted tare is weighed with only once its own key was pressed', () => {
+  const know = { tares: { 'HB-X-1': kept(1451) } }, told = step(now(know));
+  assert.deepEqual([told.word, told.values, keysOf(told)], ['small_tare', { kg: 1460 }, ['F3']]);
+  assert.ok(step(now({ ...know, answered: { odd_tare: told.answers[0].subject } })).isReady);
+  assert.equal(step(now({ ...know, answered: { odd_tare: 'small_tare 1440' } })).word, 'small_tare', 'another tare');
+  assert.equal(step(now({ oneTare: 1451 })).word, 'small_tare', 'one that was typed');
+  assert.equal(step(now({ ...know, empty: 14460 }, {}, { state: 'D' })).word, 'other_tare', 'while it moves');
+  assert.ok(step(now({ ...know, empty: 14460 }, {}, { state: 'D' })).isArmable === undefined);
+  assert.ok(step(now({ ...know, isFirstInstead: true })).isReady);
+});
+
+test('a key that answered answers nothing more for a while, and other keys do', () => {
+  const deaf = new Deafness(), answers = [{ key: 'F2' }, { key: 'F6' }], at = time => deedOf({ key: 'F2', code: 'F2' }, 'plate', { answers, isDialog: false, isDeaf: deaf.isDeaf(time), deafKey: deaf.keyAt(time) }).is;
+  assert.equal(at(0), 'answered');
+  deaf.begin(0, 'F2');
+  assert.equal(at(DEAF_FOR - 1), 'deaf');
+  assert.equal(deedOf({ key: 'F6', code: 'F6' }, 'plate', { answers, isDialog: false, isDeaf: true, deafKey: deaf.keyAt(1) }).is, 'answered');
+  deaf.pressed(DEAF_FOR - 1);
+  assert.equal(at(DEAF_FOR + HAMMERED_WITHIN - 2), 'deaf', 'while it is hammered');
+  assert.equal(at(DEAF_FOR + HAMMERED_WITHIN), 'answered');
+  deaf.begin(5000);
+  assert.equal(at(5001), 'answered', 'a plate that was taken from a list was taken by no key');
 });

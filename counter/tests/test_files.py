@@ -413,12 +413,12 @@ class TheCounter(OnADisk):
             )
             self.assertEqual(
                 (["AB-1"], ["AB-1"]),
-                (list(counter.tares.shown()), list(found_in(counter.files.path("tares.json")))),
+                (list(counter.tares.kept), list(found_in(counter.files.path("tares.json")))),
             )
         self.disk.fault = None
         self.assertEqual((200, {}), await asked("DELETE", "AB-1"))
         self.assertEqual(
-            {}, Tares(Files(counter.files.folder), counter.tares.today, 90, 60000).shown()
+            {}, Tares(Files(counter.files.folder), counter.tares.today, 90, 60000).kept
         )
 
 

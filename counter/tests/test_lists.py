@@ -18,6 +18,7 @@ from weighbridge_counter.service import Service, program_of
 from weighbridge_counter.setup import SetupFault, languages, read_setup
 from weighbridge_counter.slips import HEADER, NoText, entry_of_text, has_key, slip_of_row
 from weighbridge_counter.tares import BadTare, Tares
+from weighbridge_counter.tares import Kept as KeptTare
 from weighbridge_counter.zero import Zero
 
 from .played import at_once
@@ -213,18 +214,66 @@ class Kept(unittest.IsolatedAsyncioTestCase):
         return Files(self.folder, at_once)
 
     def tares(self):
-        return Tares(self.files(), lambda: self.day, 90, 60000)
+        return Tares(self.files(), lambda: self.day, 90, 60000, {"AB-12": 4980}.get)
 
     async def test_a_tare_has_a_last_day_and_who_kept_it(self):
         await self.tares().keep("AB-12", 5000, "anna")
-        self.assertEqual(
-            {"AB-12": {"kg": 5000, "until": "2025-06-08", "by": "anna", "is_over": False}},
-            self.tares().shown(),
-        )
+        shown = {
+            "kg": 5000,
+            "until": "2025-06-08",
+            "by": "anna",
+            "used": None,
+            "is_over": False,
+            "empty": 4980,
+        }
+        self.assertEqual({"AB-12": shown}, self.tares().all_shown())
         self.day = datetime.date(2025, 6, 9)
-        self.assertTrue(self.tares().shown()["AB-12"]["is_over"])
+        self.assertTrue(self.tares().shown("AB-12")["is_over"])
         await self.tares().drop("AB-12")
-        self.assertEqual({}, self.tares().shown())
+        self.assertEqual({}, self.tares().all_shown())
+
+    async def test_the_day_of_its_last_use_is_kept(self):
+        tares, told = self.tares(), []
+        tares.on_change = lambda plate: told.append((plate, tares.shown(plate)))
+        await tares.keep("AB-12", 5000, "anna")
+        for asked in (
+            {"plate": "AB-12", "kind": "first"},
+            {"plate": "CD-34", "tare": "5000"},
+            {"tare": "5000"},
+            {},
+        ):
+            await tares.use(asked)
+        self.assertEqual(["AB-12"], [plate for plate, _ in told])
+        self.day = datetime.date(2025, 3, 12)
+        for _ in range(2):
+            await tares.use({"plate": "AB-12", "kind": "single", "tare": "5000"})
+        await tares.files.bring()
+        self.assertEqual("2025-03-12", self.tares().shown("AB-12")["used"])
+        self.assertEqual(["AB-12", "AB-12"], [plate for plate, _ in told])
+        await tares.keep("AB-12", 5100, "otto")
+        self.assertIsNone(self.tares().shown("AB-12")["used"], "another tare was never used")
+        await tares.drop("AB-12")
+        self.assertEqual(("AB-12", None), told[-1])
+        await tares.drop("AB-12")
+        self.assertEqual(4, len(told), "nothing was dropped")
+
+    async def test_rows_that_are_no_tares_are_left_out_and_said(self):
+        good = {"kg": 5000, "until": "2025-06-08", "by": "anna"}
+        bad = [
+            None,
+            5000,
+            [],
+            {},
+            {**good, "kg": "5000"},
+            {**good, "kg": True},
+            {**good, "by": None},
+        ]
+        bad += [{**good, "until": "soon"}, {**good, "until": None}, {**good, "used": "soon"}]
+        rows = {f"BAD-{at}": it for at, it in enumerate(bad)} | {"AB-12": good}
+        await self.files().write("tares.json", rows, 1)
+        with contextlib.redirect_stderr(io.StringIO()) as said:
+            self.assertEqual(["AB-12"], list(self.tares().kept))
+        self.assertIn(f"tares.json: {len(bad)} of its rows are no tares", said.getvalue())
 
     async def test_what_is_none_is_refused(self):
         for plate, kg in (
@@ -242,9 +291,15 @@ class Kept(unittest.IsolatedAsyncioTestCase):
             with self.assertRaises(BadTare):
                 await self.tares().keep(plate, kg, "")
 
+    async def test_a_tare_that_the_scale_rounds_to_nothing_is_refused(self):
+        tares = Tares(self.files(), lambda: self.day, 90, 60000, least=10)
+        with self.assertRaisesRegex(BadTare, "from 10 to 59999"):
+            await tares.keep("AB-12", 9, "")
+        await tares.keep("AB-12", 10, "")
+
     async def test_so_many_are_kept_and_no_more(self):
         tares = self.tares()
-        tares.kept = {f"P{it}": {"kg": 1, "until": "2025-03-10", "by": ""} for it in range(2000)}
+        tares.kept = {f"P{it}": KeptTare(1, self.day, "") for it in range(2000)}
         await tares.keep("P7", 5000, "")
         with self.assertRaisesRegex(BadTare, "2000 already"):
             await tares.keep("NEW", 5000, "")

@@ -191,7 +191,7 @@ class AtTheCounter(unittest.TestCase):
         self.addCleanup(folder.cleanup)
         self.counter, self.page, self.at = (
             Counter(Setup(Path(folder.name), interval=10)),
-            Page(),
+            Page([], lambda: None),
             1000.0,
         )
         self.counter.pages.open.add(self.page)

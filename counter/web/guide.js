@@ -13,6 +13,12 @@ export function plateOf(text) {
 
 const bare = plate => plate.replaceAll('-', '');
 
+// A preset tare as the scale rounds it: to the interval, and upwards from half of one. `checks/counter` compares it with the terminal's reply to `TA`.
+export const roundedTare = (kg, interval) => Math.floor((2 * kg + interval) / (2 * interval)) * interval;
+
+const SMALL_TARE = 0.2;              // of the gross: below that it is doubted
+const OTHER_THAN_EMPTY = 0.05;       // of the last empty weight: if it differs by more, it is doubted
+
 // One letter more, less or other, or two that changed places.
 function isNear(one, other) {
   if (Math.abs(one.length - other.length) > 1 || other.length < 2) return false;
@@ -38,10 +44,30 @@ export function alike(plate, onSite, weighedNear) {
 export function choiceOf(now) {
   const first = now.onSite.find(it => it.plate === now.plate);
   if (first) return { kind: 'second', first };
-  if (now.oneTare) return { kind: 'single', tare: now.oneTare };
+  if (now.oneTare) return { kind: 'single', tare: roundedTare(now.oneTare, now.interval) };
   const kept = now.tares[now.plate];
-  if (kept && !kept.is_over && !now.isFirstInstead) return { kind: 'single', tare: kept.kg };
+  if (kept && !kept.is_over && !now.isFirstInstead) return { kind: 'single', tare: roundedTare(kept.kg, now.interval) };
   return { kind: 'first' };
+}
+
+// Returns the plates with a kept tare that are the typed one without hyphens. They may be other vehicles, so none is taken without an answer.
+function spellings({ plate, tares }, choice) {
+  if (choice.kind !== 'first' || tares[plate]) return [];
+  const typed = bare(plate);
+  return Object.keys(tares).filter(it => bare(it) === typed && !tares[it].is_over).sort();
+}
+
+function isItSpelled({ tares, interval }, others) {
+  const shown = others.slice(0, ANSWER_KEYS.spelling.length).map((plate, at) => ({ key: ANSWER_KEYS.spelling[at], plate }));
+  const answers = [...shown, answerTo('spelling', others.join(' '), ANSWER_KEYS.another, 'another_vehicle')];
+  return { look: 'wait', word: 'is_it_spelled', values: { plate: others[0], kg: roundedTare(tares[others[0]].kg, interval) }, answers };
+}
+
+// Why a tare is doubted, or null. Without a gross, because the load moves, only the last empty weight tells.
+export function doubtOf(tare, gross, empty) {
+  if (gross !== null && tare < SMALL_TARE * gross) return { word: 'small_tare', values: { kg: tare } };
+  if (empty && Math.abs(tare - empty) > OTHER_THAN_EMPTY * empty) return { word: 'other_tare', values: { kg: tare, empty } };
+  return null;
 }
 
 export const grossOf = weight => weight && weight.net !== null ? weight.net + (weight.tare ?? 0) : null;
@@ -144,7 +170,13 @@ export function step(now) {
   const like = alike(plate, now.onSite, now.weighedNear);
   if (like.length && !isAnswered(now, 'is_it', subjectOf(like))) return isItOneOf(like);
   const choice = choiceOf(now), net = moves ? null : netOf(choice, gross);
+  const others = spellings(now, choice);
+  if (others.length && !isAnswered(now, 'spelling', others.join(' '))) return isItSpelled(now, others);
   if (choice.tare && net !== null && net <= 0) return { look: 'wait', word: 'tare_too_great' };
+  const doubt = choice.tare ? doubtOf(choice.tare, moves ? null : gross, now.empty) : null;
+  if (doubt && !isAnswered(now, 'odd_tare', `${doubt.word} ${choice.tare}`)) {
+    return { look: 'wait', ...doubt, answers: [answerTo('odd_tare', `${doubt.word} ${choice.tare}`, ANSWER_KEYS.odd_tare, 'right_tare')] };
+  }
   if (choice.tare && state.off_zero.is_doubtful && !isAnswered(now, 'off_zero', `${state.off_zero.before}`)) return wasOffZero(state.off_zero);
   if (net !== null && net < now.min && !isAnswered(now, 'small_net', choice.kind)) {
     return { look: 'wait', word: 'small_net', values: { net }, answers: [answerTo('small_net', choice.kind, ANSWER_KEYS.small_net, 'right_vehicle')] };

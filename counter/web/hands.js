@@ -4,10 +4,17 @@ export const DEAF_FOR = 700;         // milliseconds after the clerk took a plat
 export const HAMMERED_WITHIN = 250;  // milliseconds at most between two presses by a clerk who hammers
 
 // Enter and the weigh button don't react for a while, and while the clerk hammers Enter. So hammering weighs nothing that the clerk hasn't seen.
+// Nor does the key that answered a question, so a key that is pressed too often doesn't answer the next one.
 export class Deafness {
   until = -Infinity;
+  #key = null;
 
-  begin(at) { this.until = Math.max(this.until, at + DEAF_FOR); }
+  begin(at, key = null) {
+    this.until = Math.max(this.until, at + DEAF_FOR);
+    this.#key = key;
+  }
+
+  keyAt(at) { return this.isDeaf(at) ? this.#key : null; }
 
   pressed(at) { if (this.isDeaf(at)) this.until = Math.max(this.until, at + HAMMERED_WITHIN); }
 
@@ -17,20 +24,20 @@ export class Deafness {
 export const PAGE_KEYS = { F9: 'zero', F8: 'last', F4: 'find' };
 
 // Each question has keys of its own, so that a key pressed too often answers no other question. Chromium and Firefox leave these keys to the page.
-export const ANSWER_KEYS = { on_site: ['F1', 'F2', 'F3'], another: 'F6', small_net: 'F7', off_zero: 'F10' };
+export const ANSWER_KEYS = { on_site: ['F1', 'F2', 'F3'], spelling: ['F2', 'F3'], another: 'F6', small_net: 'F7', odd_tare: 'F3', off_zero: 'F10' };
 const ANSWERING = new Set(Object.values(ANSWER_KEYS).flat());
 
 const LEAVE = { is: 'left' };        // to the browser
 const STOP = { is: 'stopped' };      // it does nothing, here or in the browser
 
-// `key` is a keydown event, `on` where it came: plate, answer, field or other. `page` has the answers to its question, and whether a dialog is open.
-export function deedOf(key, on, { answers, isDialog, isDeaf }) {
+// `key` is a keydown event, `on` where it came: plate, answer, field or other. `page` has the answers to its question, whether a dialog is open, and what doesn't react.
+export function deedOf(key, on, { answers, isDialog, isDeaf, deafKey = null }) {
   const isPlain = !key.ctrlKey && !key.altKey && !key.metaKey && !key.shiftKey;
   const isOurs = isPlain && (key.code in PAGE_KEYS || ANSWERING.has(key.code)), isEnter = key.key === 'Enter';
   if (key.repeat && (isOurs || isEnter || key.key === 'Escape')) return STOP;
   if (isDialog) return isOurs ? STOP : key.key === 'Escape' ? { is: 'closing' } : LEAVE;
   const answer = isOurs && answers.find(it => it.key === key.code);
-  if (answer) return { is: 'answered', answer };
+  if (answer) return key.code === deafKey ? { is: 'deaf' } : { is: 'answered', answer };
   if (isOurs) return key.code in PAGE_KEYS ? { is: 'clicked', part: PAGE_KEYS[key.code] } : STOP;
   if (isEnter && isDeaf) return { is: 'deaf' };
   if (isEnter) return answers.length && (on === 'plate' || on === 'answer') ? STOP : LEAVE;

@@ -2,11 +2,12 @@
 
 import { ARMED_FOR, subjectOf } from './arming.js';
 import { OLDEST_WEIGHT } from './feed.js';
-import { choiceOf, plateOf } from './guide.js';
+import { choiceOf, plateOf, roundedTare } from './guide.js';
 import { DEAF_FOR, deedOf } from './hands.js';
 import { clerk, feed, GIVEN, givenOf, known, linkNow, nowKnown, plate } from './known.js';
 import { search, showLists } from './lists.js';
 import { keepTare, print, showJobs } from './papers.js';
+import { showTares } from './tares.js';
 import { make, part } from './parts.js';
 import { ask, askJson } from './request.js';
 import { showRuns } from './runs.js';
@@ -21,8 +22,9 @@ const THEME = 'weighbridge.theme';
 feed.hear = (name, what) => {
   if (name === 'hello') takeHello(what);
   if (name === 'state') known.state = what;
-  if (name === 'lists') Object.assign(known, { onSite: what.on_site, weighedNear: what.weighed_near, today: what.today, tares: what.tares });
-  if (name === 'tares') known.tares = what;
+  if (name === 'lists') Object.assign(known, { onSite: what.on_site, weighedNear: what.weighed_near, today: what.today });
+  if (name === 'tares') takeTares(what);
+  if (name === 'tare') takeTares({ ...known.tares, [what.plate]: what.tare });
   if (name === 'papers') takePapers(what);
   if (name === 'entry') takeEntry(what);
   if (name === 'lists' || name === 'entry') showLists();
@@ -51,6 +53,11 @@ function takeEntry({ entry, on_site: onSite, weighed_near: weighedNear }) {
   clerk.newest = entry.number;
   if (entry.kind !== 'void') clerk.plateOfLoad.weighed(entry);
   if (!known.today.some(it => it.number === entry.number)) known.today.unshift(entry);
+}
+
+function takeTares(tares) {
+  known.tares = Object.fromEntries(Object.entries(tares).filter(([, it]) => it !== null));
+  if (part('keeping').open) showKept();
 }
 
 // ---- what may be pressed
@@ -114,18 +121,38 @@ async function keepTyped(of, value) {
   if (answer?.status !== 200) tell('bad', 'tare_not_kept', `${of}: ${kg(value)}`);
 }
 
-function askTare() {
+async function askTare() {
+  const of = plate();
+  clerk.ofPlate = null;
+  part('tare-empty').textContent = '';
   part('tare-label').textContent = t('tare_of', { plate: plate() });
   part('tare-keep-words').textContent = t('keep_it', { days: number(known.hello.tare_days) });
   part('tare-kg').value = '';
   part('tare-keep').checked = false;
   part('taring').showModal();
+  const answer = await askJson('GET', `/plates/${of}`);
+  if (plate() !== of || answer?.status !== 200) return;
+  clerk.ofPlate = answer;
+  if (answer.empty) part('tare-empty').textContent = t('last_empty', { kg: kg(answer.empty) });
 }
 
 function useTare() {
-  clerk.oneTare = Number(part('tare-kg').value);
-  if (part('tare-keep').checked) keepTyped(plate(), clerk.oneTare);
+  const typedTare = Number(part('tare-kg').value);
+  if (roundedTare(typedTare, known.hello.interval) === 0) {
+    tell('bad', 'counter_bad_tare');
+    return;
+  }
+  clerk.oneTare = typedTare;
+  if (part('tare-keep').checked) keepTyped(plate(), typedTare);
   beDeaf();
+}
+
+const showKept = () => showTares(known.tares, of => ask('DELETE', `/tares/${of}`));
+
+function openKept() {
+  part('kept-query').value = '';
+  showKept();
+  part('keeping').showModal();
 }
 
 function weighFirstInstead() {
@@ -141,8 +168,8 @@ const isTouched = () => matchMedia('(pointer: coarse)').matches;
 const focusPlate = () => { if (!isAsking() && !isTouched()) part('plate').focus(); };
 
 // The clerk must see what was taken from a list or answered before it is weighed.
-function beDeaf() {
-  clerk.deafness.begin(performance.now());
+function beDeaf(key) {
+  clerk.deafness.begin(performance.now(), key);
   showDeafness();
 }
 
@@ -199,20 +226,20 @@ function takeForm(subject, since) {
   };
 }
 
-function take(of) {
+function take(of, key) {
   part('plate').value = of;
   typed();
-  beDeaf();
+  beDeaf(key);
   focusPlate();
 }
 
 function answer(it) {
   if (it.plate !== undefined) {
-    take(it.plate);
+    take(it.plate, it.key);
     return;
   }
   clerk.answered = { ...clerk.answered, [it.question]: it.subject };
-  beDeaf();
+  beDeaf(it.key);
   focusPlate();
 }
 
@@ -269,7 +296,7 @@ function placeOf(target) {
 function keyed(event) {
   show();                            // what is asked now
   const at = performance.now();
-  const deed = deedOf(event, placeOf(event.target), { answers: clerk.answers, isDialog: isAsking(), isDeaf: clerk.deafness.isDeaf(at) });
+  const deed = deedOf(event, placeOf(event.target), { answers: clerk.answers, isDialog: isAsking(), isDeaf: clerk.deafness.isDeaf(at), deafKey: clerk.deafness.keyAt(at) });
   if (!['left', 'typed', 'closing'].includes(deed.is)) event.preventDefault();
   if (deed.is === 'answered') answer(deed.answer);
   if (deed.is === 'clicked') part(deed.part).click();
@@ -321,6 +348,8 @@ function listenToHands() {
   part('last').addEventListener('click', printLast);
   part('find').addEventListener('click', () => { part('searching').showModal(); part('query').select(); });
   part('query').addEventListener('input', search);
+  part('tares').addEventListener('click', openKept);
+  part('kept-query').addEventListener('input', showKept);
   part('language').addEventListener('change', () => change(part('language').value, true).then(focusPlate));
   part('theme').addEventListener('click', turnTheme);
   part('serial').addEventListener('click', showRuns);

@@ -45,7 +45,14 @@ class Counter:
             papers_of(setup), lambda number: self.books.lists.digest_of(number)
         )
         self.pages = Pages()
-        self.tares = Tares(self.files, lambda: self.now().date(), setup.tare_days, setup.max)
+        self.tares = Tares(
+            self.files,
+            lambda: self.now().date(),
+            setup.tare_days,
+            setup.max,
+            lambda plate: self.books.lists.empty_of(plate),
+            (setup.interval + 1) // 2,
+        )
         self.zero = Zero(self.files, self.now)
         self.off_zero = OffZero(setup.interval)
         self.service: Service | None = None
@@ -58,6 +65,7 @@ class Counter:
         self.told_weight: tuple[object, ...] = ()
         self.told_weight_at = 0.0
         self.tasks: set[asyncio.Task[None]] = set()
+        self.day = self.now().date()  # that the pages were informed of
         self._connect()
 
     def _connect(self) -> None:
@@ -65,7 +73,12 @@ class Counter:
         self.terminal.on_change = self.tell_state
         self.terminal.listeners.add(self._take_value)
         self.terminal.fanout.on_zero = self._zero_answered
-        self.acts.on_text += [self.printing.passed, self.books.passed]
+        self.acts.on_text += [
+            self.printing.passed,
+            self.books.passed,
+            lambda text, asked: self._keep_going(self.tares.use(asked)),
+        ]
+        self.tares.on_change = self.tell_tare
         self.printing.on_change = self._tell_papers
         self.printing.on_unlinked = self._miss_entries
         self.files.on_change = self.tell_state
@@ -169,6 +182,8 @@ class Counter:
                 "weighed_near": lists.near.shown(),
             },
         )
+        if entry.kind == "second" and entry.plate in self.tares.kept:
+            self.tell_tare(entry.plate)  # its last empty weight is another one
 
     def _miss_entries(self) -> None:
         """Ask for an export, because a text doesn't follow the newest entry of the lists."""
@@ -238,7 +253,6 @@ class Counter:
         return {
             "on_site": lists.on_site(),
             "today": lists.today(self.now()),
-            "tares": self.tares.shown(),
             "weighed_near": lists.near.shown(),
         }
 
@@ -269,8 +283,14 @@ class Counter:
             self.told_papers = papers
             self.pages.tell("papers", papers)
 
-    def tell_tares(self) -> None:
-        self.pages.tell("tares", self.tares.shown())
+    def tell_tare(self, plate: str) -> None:
+        """Inform the pages of one kept tare, because all of them together are long."""
+        self.pages.tell("tare", {"plate": plate, "tare": self.tares.shown(plate)})
+
+    def _tell_of_a_new_day(self) -> None:
+        self.day = self.now().date()
+        self.pages.tell("lists", self.lists())
+        self.pages.tell("tares", self.tares.all_shown())
 
     async def _look_for_another(self) -> None:
         """A service that answers at its office, and gives no value for so long, serves another one's terminal."""
@@ -288,6 +308,8 @@ class Counter:
     async def _tell_regularly(self) -> None:
         while True:
             self.tell_state()
+            if self.now().date() != self.day:
+                self._tell_of_a_new_day()
             if not self.terminal.fanout.is_fresh(GONE_AFTER):
                 # so that a page tells a silent scale from a counter that is gone
                 self.pages.tell("alive", self.milliseconds())

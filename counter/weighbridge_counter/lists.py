@@ -36,6 +36,7 @@ class Lists:
         self.open: dict[str, int] = {}  # the number of the open First of a plate
         self.partner: dict[int, int] = {}
         self.by_plate: dict[str, list[int]] = {}
+        self.empty: dict[str, int] = {}  # the number of a plate's last empty weighing
         self.near = Near()
         self.per_day: collections.Counter[datetime.date] = collections.Counter()
         self.last = 0
@@ -131,6 +132,16 @@ class Lists:
             first = entry.first if entry.first is not None else first
             if first is not None:
                 self.partner[entry.number] = first
+            if entry.kind == "second" and first in self.entries:
+                self.empty[entry.plate] = self._lighter(first, entry.number)
+
+    def _lighter(self, first: int, second: int) -> int:
+        gross, other = self.entries[first].gross or 0, self.entries[second].gross or 0
+        return first if gross < other else second
+
+    def empty_of(self, plate: str) -> int | None:
+        """Return the smaller weight in kg of a plate's last pair, or None if it has no pair."""
+        return self.entries[self.empty[plate]].gross if plate in self.empty else None
 
     def digest_of(self, number: int) -> str | None:
         """The digest of an entry, as it passed or as the export has it."""

@@ -92,6 +92,7 @@ class Routes:
                 web.delete(r"/jobs/{job:[1-9]\d{0,9}}", self.drop_job),
                 web.get("/search", self.search),
                 web.get("/keys/{key:[A-Za-z0-9-]{1,32}}", self.key),
+                web.get("/plates/{plate:[A-Z0-9-]{1,12}}", self.plate),
                 web.put("/tares/{plate}", self.keep_tare),
                 web.delete("/tares/{plate}", self.drop_tare),
                 web.post("/lists/refresh", self.refresh),
@@ -177,17 +178,20 @@ class Routes:
         transport.get_extra_info("socket").setsockopt(
             socket.SOL_SOCKET, socket.SO_SNDBUF, SMALL_BUFFER
         )
+        lists = await self.in_turn(self.counter.lists)
         # from here on nothing else comes between
-        page, lists = Page(), await self.in_turn(self.counter.lists)
-        page.put(b"retry: 500\n\n")
-        for name, what in (
-            ("hello", self.counter.hello()),
-            ("state", self.counter.state()),
-            ("lists", lists),
-            ("papers", self.counter.printing.state()),
-        ):
-            page.put(frame_of(name, what))
-        self.counter.pages.open.add(page)
+        frames = [
+            frame_of(name, what)
+            for name, what in (
+                ("hello", self.counter.hello()),
+                ("state", self.counter.state()),
+                ("lists", lists),
+                ("tares", self.counter.tares.all_shown()),
+                ("papers", self.counter.printing.state()),
+            )
+        ]
+        page = Page([b"retry: 500\n\n", *frames], transport.abort)
+        self.counter.pages.add(page)
         try:
             while (taken := await page.take()) and not transport.is_closing():
                 await response.write(taken)
@@ -196,7 +200,7 @@ class Routes:
         except ConnectionError:
             pass
         finally:
-            self.counter.pages.open.discard(page)
+            self.counter.pages.remove(page)
         return response
 
     async def is_taken(self, transport: asyncio.WriteTransport) -> bool:
@@ -356,6 +360,11 @@ class Routes:
 
     # ---- kept tares
 
+    async def plate(self, request: web.Request) -> web.StreamResponse:
+        """What the counter knows of a plate."""
+        plate = request.match_info["plate"]
+        return as_json({"plate": plate, "empty": self.counter.books.lists.empty_of(plate)})
+
     async def keep_tare(self, request: web.Request) -> web.StreamResponse:
         try:
             wish = json.loads(await request.read())
@@ -366,12 +375,10 @@ class Routes:
             return as_json({"why": 'send {"kg": a whole number}'}, 422)
         except BadTare as fault:
             return as_json({"why": str(fault)}, 422)
-        self.counter.tell_tares()
         return as_json({})
 
     async def drop_tare(self, request: web.Request) -> web.StreamResponse:
         await self.counter.tares.drop(request.match_info["plate"])
-        self.counter.tell_tares()
         return as_json({})
 
     # ---- monitoring
