@@ -1,6 +1,7 @@
 """What the counter costs, and how soon it tells, for checks/counter. Measured beside whatever else runs, so the bounds are wide where time is the clock's."""
 
 import json
+import os
 import random
 import selectors
 import socket
@@ -11,6 +12,7 @@ import time
 import bridge as sizes
 from countering import Bridge, holds
 
+MOST_ATTACKED = 100.0  # MB
 MOST_CPU, MOST_MEMORY = 5.0, 50.0  # per cent of a core, MB: 20 pages, 50 readings a second
 
 
@@ -101,8 +103,78 @@ def weigh_with(bridge, count):
     return times
 
 
+class Stubborn(threading.Thread):
+    """A page that begins a stream, reads next to nothing of it, and begins again once it is cut."""
+
+    def __init__(self, port):
+        super().__init__(daemon=True)
+        self.port, self.begun, self.is_over = port, 0, False
+        self.start()
+
+    def run(self):
+        while not self.is_over:
+            try:
+                with socket.socket() as stream:
+                    stream.setsockopt(socket.SOL_SOCKET, socket.SO_RCVBUF, 4096)
+                    stream.settimeout(10)
+                    stream.connect(("127.0.0.1", self.port))
+                    stream.sendall(
+                        f"GET /events HTTP/1.1\r\nHost: 127.0.0.1:{self.port}\r\n\r\n".encode()
+                    )
+                    self.begun += 1
+                    while not self.is_over and stream.recv(1024):
+                        time.sleep(0.2)
+            except OSError:
+                time.sleep(0.1)
+
+
+def under_attack(bridge, seconds=15, stubborn=20):
+    """Whoever has a clerk's password keeps tares and asks for the lists without a pause, while so many pages read next to nothing."""
+    tares = {
+        f"T{at:04}": {"kg": 5000, "until": "2099-01-01", "by": "anna" * 10} for at in range(2000)
+    }
+    os.makedirs(f"{bridge.folder}/state", mode=0o700, exist_ok=True)
+    with open(f"{bridge.folder}/state/tares.json", "w") as file:
+        json.dump(tares, file)
+    bridge.start_counter()
+    streams = Streams(bridge.http, 1)
+    pages = [Stubborn(bridge.http) for _ in range(stubborn)]
+    began, asked = time.monotonic(), 0
+    load, gaps = 0, []
+    while time.monotonic() < began + seconds:
+        load = 900 - load
+        bridge.converter.load = load  # so that weights come at each reading
+        kg = 5000 + 20 * (asked % 50)
+        bridge.ask("PUT", f"/tares/T{asked % 2000:04}", body=f'{{"kg": {kg}}}')
+        bridge.ask("POST", "/lists/refresh", body="")
+        asked += 1
+    moments = [at for at, _ in list(streams.weights) if at >= began]
+    gaps = [later - at for at, later in zip([began, *moments], [*moments, time.monotonic()])]
+    for it in pages:
+        it.is_over = True
+    streams.close()
+    with open(f"/proc/{bridge.counter.pid}/status") as status:
+        most = int(next(it for it in status if it.startswith("VmHWM")).split()[1]) / 1024
+    holds(
+        f"2,000 kept tares, {asked} changes of them, {stubborn} pages that read next to nothing: at most {MOST_ATTACKED:.0f} MB",
+        most <= MOST_ATTACKED,
+        f"{most:.0f} MB",
+    )
+    holds(
+        "and the weight goes on at a page that reads",
+        max(gaps) < 1.5 and streams.ended == 0,
+        f"longest gap {max(gaps):.1f} s",
+    )
+    holds("the other pages began", all(it.begun for it in pages))
+
+
 def show(program, seconds=12):
     print("---- what it costs", flush=True)
+    bridge = Bridge(program, 10)
+    try:
+        under_attack(bridge)
+    finally:
+        bridge.close()
     for pace, pages in ((10, 20), (50, 20), (50, 200)):
         bridge = Bridge(program, pace).start_counter()
         try:
