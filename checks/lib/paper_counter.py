@@ -388,7 +388,7 @@ def with_a_printer(program, pictures):
         clerk.keys(F8)
         becomes(
             "without paper a bar says so",
-            lambda: "Printer yard: There is no paper in it. Papers not printed: 1."
+            lambda: "Printer yard: There is no paper in it. 1 printout is missing."
             in clerk.alarms(),
         )
         press(clerk, "#alarms", "Show them")

@@ -5,7 +5,7 @@ import { openEntry } from './papers.js';
 import { button, make, part } from './parts.js';
 import { askJson } from './request.js';
 import { acts } from './show.js';
-import { isToday, kg, number, t, whenOf } from './words.js';
+import { isToday, kg, t, whenOf } from './words.js';
 
 const MOST_ROWS = 200;
 const KINDS = { first: '→', second: '⇄', single: '◆', void: '✕' };
@@ -29,7 +29,7 @@ export function showLists() {
   const voided = new Set(known.today.filter(it => it.kind === 'void').map(it => it.first));
   part('site-count').textContent = known.onSite.length || '';
   part('today-count').textContent = known.today.length || '';
-  part('today-sum').textContent = tickets.length ? t('sum', { number: number(tickets.length), kg: kg(tickets.reduce((sum, it) => sum + it.net, 0)) }) : '';
+  part('today-sum').textContent = tickets.length ? t('sum', { number: tickets.length, kg: kg(tickets.reduce((sum, it) => sum + it.net, 0)) }) : '';
   fill('site', known.onSite, true, t('nobody_on_site'));
   fill('today', known.today, false, t('nothing_today'), voided);
 }
