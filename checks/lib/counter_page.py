@@ -156,7 +156,7 @@ def search_and_withdraw_by_keyboard(bridge, clerk):
     same("it asks once more", "Press again: withdraw WRONG-1", clerk.focus())
     time.sleep(0.8)
     clerk.keys(ENTER)
-    clerk.sees("Slip 5: withdrawn")
+    clerk.sees("Withdrawal: WRONG-1, Slip 5")
     becomes("the focus returns", lambda: clerk.focus() == "plate")
     clerk.keys(F4 + ESCAPE)
     same("and from a dialog that is closed", "plate", clerk.focus())
