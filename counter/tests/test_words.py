@@ -198,6 +198,19 @@ class TheLanguages(unittest.TestCase):
                 if forms and language != "de":
                     self.assertNotEqual(it["one"], it["other"], (language, key))
 
+    def test_one_word_names_one_thing(self):
+        """Words that the clerk's page or the paper had for the same thing, or that no clerk says."""
+        gone = {
+            "en": r"\boffice\b|This is no\b|[Nn]othing waits|over since|\bplayed\b|by itself",
+            "de": r"Wiegebeleg|Schalter|Büro|\bSTEHT\b|Null ist|gemerkt|zurückz|Rücknahme|rufen|So drucken",
+            "fr": r"[Bb]alance|[Pp]ressez|[Tt]ouchez|guichet|bureau|[Pp]laque|[Rr]etir|non mis|opérateur|'",
+            "es": r"[Bb]ajo cero|[Dd]iario|[Vv]entanilla|[Oo]ficina|[Rr]etir|[Ff]ichero|Llame al operador|[Vv]ale\b|Boletín",
+        }
+        for language, pattern in gone.items():
+            for key, it in ALL[language].items():
+                for text in catalogue.forms_of(it):
+                    self.assertNotRegex(text, pattern, f"{language}: {key}")
+
 
 class OfAnOperator(unittest.TestCase):
     """A folder with English and a language that an operator adds."""
