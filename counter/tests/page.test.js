@@ -301,7 +301,7 @@ test('English fills in for a key that is missing, is empty or has other placehol
   assert.equal(t('close'), 'Close');
   assert.equal(t('drive_off', { plate: 'A', paper: 'Slip', number: 7 }), 'A is weighed, Slip 7.');
   assert.equal(t('sum', { number: 1000, kg: 'x' }), '1.000 tickets, x');
-  assert.deepEqual([has('close'), has('other')], [true, false]);
+  assert.deepEqual(['close', 'sum', 'other'].map(has), [true, true, false]);
 });
 
 test('English that fills in has its own plural', async () => {
