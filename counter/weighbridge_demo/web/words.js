@@ -38,7 +38,7 @@ const WORDS = {
   was_weighed: ['Weighed as number {number}.', 'Gewogen als Nummer {number}.', 'Pesé sous le numéro {number}.', 'Pesado con el número {number}.'],
   leaves: ['It drives off by itself.', 'Es fährt von selbst ab.', 'Il descend de lui-même.', 'Baja por sí solo.'],
   let_off: ['Press “Drive off”.', '„Abfahren“ drücken.', 'Appuyez sur « Le véhicule descend ».', 'Pulse «El vehículo baja».'],
-  was_mistyped: ['Weighed as {typed}, but this is {plate}. At a true bridge: withdraw it, and let it drive off and on again.', 'Gewogen als {typed}, aber das ist {plate}. An einer echten Waage: stornieren, ab- und wieder auffahren lassen.', 'Pesé comme {typed}, mais c’est {plate}. Sur un vrai pont : annulez, faites descendre et remonter.', 'Pesado como {typed}, pero es {plate}. En una báscula de verdad: anúlelo y haga que baje y suba otra vez.'],
+  was_mistyped: ['Weighed as {typed}, but this is {plate}. On a real bridge: withdraw it, and let it drive off and on again.', 'Gewogen als {typed}, aber das ist {plate}. An einer echten Waage: stornieren, ab- und wieder auffahren lassen.', 'Pesé comme {typed}, mais c’est {plate}. Sur un vrai pont : annulez, faites descendre et remonter.', 'Pesado como {typed}, pero es {plate}. En una báscula de verdad: anúlelo y haga que baje y suba otra vez.'],
   comes_in: ['Weigh in', 'Einwiegen', 'Pesée d’entrée', 'Pesada de entrada'],
   comes_out: ['Weigh out', 'Auswiegen', 'Pesée de sortie', 'Pesada de salida'],
   comes_once: ['Weigh once, with the tare {tare} of its papers', 'Einmal wiegen, mit der Tara {tare} aus seinen Papieren', 'Une seule pesée, avec la tare {tare} de ses papiers', 'Una sola pesada, con la tara {tare} de sus papeles'],
