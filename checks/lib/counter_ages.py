@@ -11,7 +11,7 @@ from countering import becomes, holds, kg_of
 
 FAULTS = (
     "No connection to the counter's program.",
-    "The scale's program doesn't run.",
+    "The scale's program isn't running.",
     "The scale doesn't answer.",
 )
 

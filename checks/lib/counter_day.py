@@ -44,7 +44,7 @@ ASKED = [
     ("A tare is set", "wait"),
     ("No answer came to", "again"),
     ("Wait until", "wait"),
-    ("It still moves", "wait"),
+    ("It is still moving", "wait"),
     ("Sent.", "wait"),
     ("No answer yet", "wait"),
     ("The scale gives no weight", "wait"),
@@ -52,7 +52,7 @@ ASKED = [
     ("doesn't run", "wait"),
     ("No connection", "wait"),
     ("Not sent", "wait"),
-    ("Zero is not set", "wait"),
+    ("Zero was not set", "wait"),
 ]
 
 

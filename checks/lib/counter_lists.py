@@ -452,8 +452,13 @@ def routes_of_the_program():
     return {it for it in plain if not it.startswith("/web/")}
 
 
+def forms_of(words):
+    """Return the text, or the text of each plural form."""
+    return [words] if isinstance(words, str) else list(words.values())
+
+
 def the_languages():
-    """Every word of a language is in each, with the same values, and the page asks for no other."""
+    """Every word of a language is in each, with the same values in each form, and the page asks for no other."""
     folder = os.path.join(TOP, "counter", "web")
     words = {}
     for name in sorted(os.listdir(f"{folder}/lang")):
@@ -469,13 +474,13 @@ def the_languages():
         values = [
             key
             for key in first
-            if set(re.findall(r"\{\w+\}", first[key]))
-            != set(re.findall(r"\{\w+\}", them.get(key, "")))
+            if {frozenset(re.findall(r"\{\w+\}", it)) for it in forms_of(first[key])}
+            != {frozenset(re.findall(r"\{\w+\}", it)) for it in forms_of(them.get(key, ""))}
         ]
         same(
             f"{name} has their values, and no empty one",
             ([], []),
-            (values, [key for key in them if not them[key].strip()]),
+            (values, [key for key in them if not all(it.strip() for it in forms_of(them[key]))]),
         )
     text = "".join(
         open(f"{folder}/{name}", encoding="utf-8").read()

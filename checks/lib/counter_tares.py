@@ -88,7 +88,7 @@ def an_unlike_tare(bridge, clerk):
         lambda: "14,460 kg" in clerk.browser.text("#tare-empty"),
     )
     clerk.keys("9" + ENTER)
-    clerk.sees("This is no tare.", what="a tare that rounds to nothing is refused")
+    clerk.sees("This isn't a valid tare.", what="a tare that rounds to nothing is refused")
     clerk.keys(ESCAPE)
 
 

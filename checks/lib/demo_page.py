@@ -139,7 +139,7 @@ def clerks_page(demo, window):
     """Read the bar on the clerk's page, and follow the links between both pages."""
     becomes(
         "the clerk's page says DEMO",
-        lambda: window.text("demo").startswith("DEMO The weights are played."),
+        lambda: window.text("demo").startswith("DEMO The weights are simulated."),
     )
     same("its title too", "DEMO · Played weighbridge", window.browser.run("return document.title"))
     becomes("and the scale's serial", lambda: window.text("serial") == "DEMO")

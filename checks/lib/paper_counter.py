@@ -294,7 +294,7 @@ def by_the_browser(program, pictures, looked_at):
             clerk.keys("Kies 0/16" + ENTER)
             becomes(
                 "what was given stands on the button",
-                lambda: "For the paper: Kies 0/16" in clerk.browser.text("#others"),
+                lambda: "On the printout: Kies 0/16" in clerk.browser.text("#others"),
             )
             # Enter doesn't react for 0.7 s after a dialog
             time.sleep(0.8)
@@ -388,7 +388,7 @@ def with_a_printer(program, pictures):
         clerk.keys(F8)
         becomes(
             "without paper a bar says so",
-            lambda: "Printer yard: There is no paper in it. Papers not printed: 1."
+            lambda: "Printer yard: There is no paper in it. 1 printout is missing."
             in clerk.alarms(),
         )
         press(clerk, "#alarms", "Show them")
@@ -410,7 +410,8 @@ def with_a_printer(program, pictures):
             lambda: len(played.printed) == 3 and clerk.alarms() == "",
         )
         becomes(
-            "and nothing waits on the list", lambda: clerk.browser.text("#jobs") == "Nothing waits."
+            "and nothing waits on the list",
+            lambda: clerk.browser.text("#jobs") == "Nothing is waiting.",
         )
         for _ in range(3):
             played.cut_after = 900
@@ -425,7 +426,8 @@ def with_a_printer(program, pictures):
         press(clerk, "#jobs", "Print again")
         becomes(
             "and a press prints it",
-            lambda: len(played.printed) == 4 and clerk.browser.text("#jobs") == "Nothing waits.",
+            lambda: len(played.printed) == 4
+            and clerk.browser.text("#jobs") == "Nothing is waiting.",
         )
     finally:
         clerk.close()

@@ -200,9 +200,7 @@ def killed():
             None,
         )
         if plate is not None:
-            originals[plate] = originals.get(plate, 0) + (
-                marks(paper) == 0 and b"Weighing ticket" in paper
-            )
+            originals[plate] = originals.get(plate, 0) + (marks(paper) == 0 and b"Ticket " in paper)
             wholes[plate] = wholes.get(plate, 0) + (paper in played.printed)
     same(
         f"killed {ROUNDS} times ({ends} had ended), no paper has two originals",

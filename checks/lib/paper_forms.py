@@ -128,7 +128,7 @@ def missing(rest, text, language):
         GIVEN["order"],
         GIVEN["driver"],
         "Kies 0/16",
-        words.word("given", language),
+        words.word("given_by_clerk", language),
     ]
     return [f"no {it}" for it in wanted if it.replace(" ", "") not in rest.replace(" ", "")]
 

@@ -1,6 +1,7 @@
 // What the page decides without a browser: which plates are asked for, what the sentence says, what a key does. `checks/counter --only unit` runs it by node.
 
 import assert from 'node:assert/strict';
+import { readFileSync } from 'node:fs';
 import { test } from 'node:test';
 import { ARMED_FOR, Arming, READY_FOR, subjectOf } from './web/arming.js';
 import { alike, choiceOf, demoOf, doubtOf, isFalseDemo, plateOf, PlateOfLoad, roundedTare, step } from './web/guide.js';
@@ -400,4 +401,85 @@ test('a key that answered answers nothing more for a while, and other keys do', 
   assert.equal(at(DEAF_FOR + HAMMERED_WITHIN), 'answered');
   deaf.begin(5000);
   assert.equal(at(5001), 'answered', 'a plate that was taken from a list was taken by no key');
+});
+
+// ---- the words
+
+const ENGLISH = { name: 'English', place: 'en-GB', close: 'Close', drive_off: '{plate} is weighed, {paper} {number}.', sum: { one: '{number} ticket, {kg}', other: '{number} tickets, {kg}' } };
+
+// The page's words with these catalogues, as a browser gets them from the counter.
+async function wordsOf(catalogues, asks) {
+  globalThis.location = { origin: '', search: '' };
+  globalThis.document = { documentElement: {} };
+  globalThis.fetch = async path => {
+    const found = catalogues[/(\w+)\.json$/.exec(path)[1]];
+    return { ok: found !== undefined, json: async () => typeof found === 'string' ? JSON.parse(found) : found };
+  };
+  return import(`./web/words.js?${asks}`);
+}
+
+test('a number chooses the form of its noun, as the language does', async () => {
+  const french = { ...ENGLISH, place: 'fr-FR', sum: { one: '{number} bulletin, {kg}', other: '{number} bulletins, {kg}' } };
+  const polish = { ...ENGLISH, place: 'pl-PL', sum: { one: '{number} kwit, {kg}', few: '{number} kwity, {kg}', many: '{number} kwitów, {kg}', other: '{number} kwitu, {kg}' } };
+  const { speak, t } = await wordsOf({ en: ENGLISH, fr: french, pl: polish }, 'plural');
+  for (const [language, count, says] of [
+    ['en', 0, '0 tickets, x'], ['en', 1, '1 ticket, x'], ['en', 1000, '1,000 tickets, x'], ['fr', 0, '0 bulletin, x'], ['fr', 1, '1 bulletin, x'], ['fr', 2, '2 bulletins, x'],
+    ['fr', 1e6, '1\u202f000\u202f000 bulletins, x'], ['pl', 1, '1 kwit, x'], ['pl', 3, '3 kwity, x'], ['pl', 5, '5 kwitów, x'],
+  ]) {
+    assert.ok(await speak(language));
+    assert.equal(t('sum', { number: count, kg: 'x' }), says);
+  }
+  assert.equal(t('sum', { number: '1', kg: 'x' }), '1 kwitu, x', 'a text counts nothing');
+});
+
+test('the number of a slip is not grouped', async () => {
+  const { speak, t } = await wordsOf({ en: ENGLISH }, 'number');
+  assert.ok(await speak('en'));
+  assert.equal(t('drive_off', { plate: 'HB-X-1', paper: 'Slip', number: 12345 }), 'HB-X-1 is weighed, Slip 12345.');
+});
+
+test('English fills in for a key that is missing, is empty or has other placeholders', async () => {
+  const { has, speak, t } = await wordsOf({ en: ENGLISH, it: { name: 'Italiano', place: 'it-IT', close: ' ', drive_off: '{plate} pesato, {carta} {number}.' } }, 'fallback');
+  assert.ok(await speak('it'));
+  assert.equal(t('close'), 'Close');
+  assert.equal(t('drive_off', { plate: 'A', paper: 'Slip', number: 7 }), 'A is weighed, Slip 7.');
+  assert.equal(t('sum', { number: 1000, kg: 'x' }), '1.000 tickets, x');
+  assert.deepEqual(['close', 'sum', 'other'].map(has), [true, true, false]);
+});
+
+test('English that fills in has its own plural', async () => {
+  const { speak, t } = await wordsOf({ en: ENGLISH, fr: { name: 'Français', place: 'fr-FR' } }, 'its own');
+  assert.ok(await speak('fr'));
+  assert.equal(t('sum', { number: 0, kg: 'x' }), '0 tickets, x');
+});
+
+test('a language without a place, or with one that is none, writes numbers as the language does', async () => {
+  const { kg, speak } = await wordsOf({ en: ENGLISH, it: { name: 'Italiano' }, de: { name: 'Deutsch', place: 'Germany!' } }, 'place');
+  for (const language of ['it', 'de']) {
+    assert.ok(await speak(language));
+    assert.equal(kg(9000), '9.000 kg');
+  }
+});
+
+test('a language that does not come leaves the page in the one it has', async () => {
+  const { speak, t } = await wordsOf({ en: ENGLISH, fr: '{', it: { name: 'Italiano', close: 'Chiudi' } }, 'gone');
+  assert.ok(await speak('it'));
+  assert.deepEqual([await speak('xx'), await speak('fr'), t('close')], [false, false, 'Chiudi']);
+});
+
+test('without English the page waits', async () => {
+  const { has, speak } = await wordsOf({ it: { name: 'Italiano', close: 'Chiudi' } }, 'alone');
+  assert.deepEqual([await speak('it'), has('close')], [false, false]);
+});
+
+test('one of each thing that is counted has no plural in any language', async () => {
+  const read = name => JSON.parse(readFileSync(new URL(`./web/lang/${name}.json`, import.meta.url)));
+  const { speak, t } = await wordsOf(Object.fromEntries(['en', 'de', 'fr', 'es'].map(it => [it, read(it)])), 'shipped');
+  for (const [language, one, many] of [
+    ['en', '1 ticket, net 5 kg', '2 tickets, net 5 kg'], ['de', '1 Wiegeschein, netto 5 kg', '2 Wiegescheine, netto 5 kg'],
+    ['fr', '1 ticket, net 5 kg', '2 tickets, net 5 kg'], ['es', '1 tique, neto 5 kg', '2 tiques, neto 5 kg'],
+  ]) {
+    assert.ok(await speak(language));
+    assert.deepEqual([1, 2].map(it => t('sum', { number: it, kg: '5 kg' })), [one, many]);
+  }
 });

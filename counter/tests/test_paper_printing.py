@@ -457,7 +457,7 @@ class Pdf(unittest.TestCase):
 
     def test_it_says_what_it_is_and_when_and_in_which_language(self):
         for sample, language, title in (
-            ("second", "en", "Weighing ticket 2, WB01, AB-12"),
+            ("second", "en", "Ticket 2, WB01, AB-12"),
             ("second", "de", "Wiegeschein 2, WB01, AB-12"),
             ("first", "fr", "Bulletin 2, WB01, AB-12"),
         ):

@@ -115,7 +115,7 @@ export function showLists() {
   const tickets = known.today.filter(it => it.net !== null), withdrawn = withdrawnBy();
   part('site-count').textContent = known.onSite.length || '';
   part('today-count').textContent = known.today.length || '';
-  part('today-sum').textContent = tickets.length ? t('sum', { number: number(tickets.length), kg: kg(tickets.reduce((sum, it) => sum + it.net, 0)) }) : '';
+  part('today-sum').textContent = tickets.length ? t('sum', { number: tickets.length, kg: kg(tickets.reduce((sum, it) => sum + it.net, 0)) }) : '';
   rows.site.show(known.onSite, { lookOf: isNew, says: onSiteSays, end: known.onSite.length ? '' : t('nobody_on_site') });
   rows.today.show(known.today, { lookOf: entry => `${isNew(entry)} ${entry.kind === 'void' || withdrawn.has(entry.number) ? 'void' : ''}`, says: entrySays, end: known.today.length ? '' : t('nothing_today') });
 }

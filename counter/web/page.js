@@ -126,7 +126,7 @@ async function askTare() {
   clerk.ofPlate = null;
   part('tare-empty').textContent = '';
   part('tare-label').textContent = t('tare_of', { plate: plate() });
-  part('tare-keep-words').textContent = t('keep_it', { days: number(known.hello.tare_days) });
+  part('tare-keep-words').textContent = t('keep_it', { number: known.hello.tare_days });
   part('tare-kg').value = '';
   part('tare-keep').checked = false;
   part('taring').showModal();

@@ -143,7 +143,7 @@ function alarmsOf({ link, state, papers }) {
   if (state.journal_changed) alarms.push({ look: 'bad', text: t(`journal_${state.journal_changed.why}`, state.journal_changed), choice: 'journal_seen' });
   if (state.files_written === false) alarms.push({ look: 'bad', text: t('files_unwritten') });
   if (state.room?.is_full) alarms.push({ look: 'bad', text: t('journal_full') });
-  else if (state.room?.is_low) alarms.push({ look: 'wait', text: t('journal_room', { days: number(state.room.days), places: number(state.room.places) }) });
+  else if (state.room?.is_low) alarms.push({ look: 'wait', text: t('journal_room', { days: t('days', { number: state.room.days }), places: t('weighings_left', { number: state.room.places }) }) });
   if (papers.is_writable === false) alarms.push({ look: 'bad', text: t('papers_unwritable') });
   if (papers.refused !== null) alarms.push({ look: 'bad', text: t('paper_refused', { number: papers.refused }) });
   for (const it of papersInTrouble(papers)) alarms.push(it);
@@ -155,7 +155,7 @@ function papersInTrouble({ jobs }) {
   const printers = [...new Set(jobs.filter(it => it.why || it.state === 'failed').map(it => it.printer))];
   return printers.map(printer => {
     const them = jobs.filter(it => it.printer === printer), why = them.find(it => it.why)?.why;
-    return { look: 'bad', text: t('papers_wait', { printer, number: number(them.length), why: why ? t(`trouble_${why}`) : '' }), choice: 'show_papers' };
+    return { look: 'bad', text: t('papers_wait', { printer, number: them.length, why: why ? t(`trouble_${why}`) : '' }), choice: 'show_papers' };
   });
 }
 

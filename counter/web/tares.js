@@ -4,7 +4,7 @@ import { DEAF_FOR } from './hands.js';
 import { known } from './known.js';
 import { roundedTare } from './guide.js';
 import { button, make, part } from './parts.js';
-import { dayOf, kg, t } from './words.js';
+import { dayOf, kg, number, t } from './words.js';
 
 const MOST_ROWS = 200;
 let asked = { plate: null, at: 0 };  // which one the clerk was asked about, and when
@@ -15,7 +15,7 @@ export function showTares(tares, drop) {
   const plates = Object.keys(tares).filter(it => it.replaceAll('-', '').includes(query)).sort();
   const rows = plates.slice(0, MOST_ROWS).map(plate => rowOf(plate, tares[plate], () => press(plate, tares, drop)));
   const left = plates.length - rows.length;
-  part('kept').replaceChildren(...rows, ...(left ? [make('li', { className: 'none', textContent: t('kept_more', { number: left }) })] : []),
+  part('kept').replaceChildren(...rows, ...(left ? [make('li', { className: 'none', textContent: t('kept_more', { number: number(left) }) })] : []),
     ...(plates.length ? [] : [make('li', { className: 'none', textContent: t('none_kept') })]));
 }
 

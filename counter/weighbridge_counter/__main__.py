@@ -6,7 +6,7 @@ import contextlib
 import os
 import signal
 import sys
-from collections.abc import Iterator
+from collections.abc import Iterator, Sequence
 from pathlib import Path
 
 from aiohttp import web
@@ -16,7 +16,7 @@ from weighbridge_paper.reader import Address, SetupFault, trouble_of_folder
 from .counter import Counter
 from .ports import open_port
 from .routes import Routes
-from .setup import Setup, read_setup, warning_of
+from .setup import Setup, gaps_of, read_setup, warning_of
 
 FOLDER = Path(__file__).resolve().parent.parent
 END_OF_ACT_WITHIN = 3.0  # seconds
@@ -27,7 +27,7 @@ EXAMPLE = """example:
   weighbridge-counter /etc/weighbridge-counter.toml           serve; the page is then at the address after `listen`
   weighbridge-counter --check /etc/weighbridge-counter.toml   serve nothing; say each mistake of the setup, or where the page will be
 
-status: 0 ended by a signal, or the setup is in order, 1 an address, a folder or a file can't be used, 2 the words or the setup are refused"""
+status: 0 ended by a signal, or the setup is in order, 1 an address, a folder, a file or the words of a language can't be used, 2 the words or the setup are refused"""
 
 
 def words_of(given: list[str]) -> argparse.Namespace:
@@ -92,8 +92,8 @@ async def serve(setup: Setup) -> None:
         running.result()
 
 
-def check(path: Path, setup: Setup) -> int:
-    """Say where the page of a setup without a mistake will be, or which folder of it can't be used."""
+def check(path: Path, setup: Setup, misfitting: Sequence[str]) -> int:
+    """Say where the page of a setup without a mistake will be, or which folder of it can't be used, and which languages have wrong placeholders."""
     folders = [("state", setup.state)]
     if setup.papers is not None:
         folders.append(("the spool of papers", setup.papers.spool))
@@ -103,19 +103,30 @@ def check(path: Path, setup: Setup) -> int:
             f"weighbridge-counter: {path}: {key}: {trouble}: the counter couldn't keep its files; repair that, or name another folder",
             file=sys.stderr,
         )
-    if not troubles:
+    for line in misfitting:
+        print(f"weighbridge-counter: {line}", file=sys.stderr)
+    if not troubles and not misfitting:
         print(f"{path}: in order; the page will be at http://{setup.listen[0]}:{setup.listen[1]}/")
-    return int(bool(troubles))
+    return int(bool(troubles or misfitting))
+
+
+def warn(line: str) -> None:
+    print(f"weighbridge-counter: warning: {line}", file=sys.stderr, flush=True)
 
 
 def main(given: list[str] | None = None) -> int:
     words = words_of(sys.argv[1:] if given is None else given)
     try:
         setup = read_setup(words.setup, FOLDER / "web")
+        lacking, misfitting = gaps_of(FOLDER / "web", setup.languages)
         if (warning := warning_of(setup, words.setup)) is not None:
-            print(f"weighbridge-counter: warning: {warning}", file=sys.stderr, flush=True)
+            warn(warning)
+        for line in lacking:
+            warn(line)
         if words.only_check:
-            return check(words.setup, setup)
+            return check(words.setup, setup, misfitting)
+        for line in misfitting:
+            warn(line)
         asyncio.run(serve(setup))
     except SetupFault as fault:
         for line in fault.mistakes:

@@ -1,10 +1,11 @@
 """The setup: a TOML file. Each mistake in it is named by file, key and what to do, all of them at once."""
 
-import json
 import zoneinfo
+from collections.abc import Iterable
 from dataclasses import dataclass, field
 from pathlib import Path
 
+from weighbridge_paper.catalogue import ENGLISH, NoCatalogue, misfits, missing, read, some_of
 from weighbridge_paper.printers import Papers, read_papers
 from weighbridge_paper.reader import (
     NO_ADDRESS,
@@ -51,16 +52,42 @@ class Setup:
 
 
 def languages(web: Path) -> dict[str, str]:
-    """The languages of the page, a file each."""
-    found: dict[str, str] = {}
+    """Return the languages of the page and the papers, a file each. Raise SetupFault with each file that can't be used."""
+    found, faults = dict[str, str](), list[str]()
     for path in sorted((web / "lang").glob("??.json")):
         try:
-            found[path.stem] = str(json.loads(path.read_text(encoding="utf-8"))["name"])
-        except (OSError, ValueError, KeyError, TypeError) as fault:
-            raise SetupFault(
-                f"{path}: it is no file of words: {fault}: compare it with en.json"
-            ) from None
+            found[path.stem] = str(read(path)["name"])
+        except NoCatalogue as fault:
+            faults.append(str(fault))
+    if faults:
+        raise SetupFault(*faults)
     return found
+
+
+def gaps_of(web: Path, known: Iterable[str]) -> tuple[list[str], list[str]]:
+    """Return a line for each language that lacks keys, and one for each that has other placeholders than English.
+
+    The page and the papers show the English of these keys. Raise SetupFault if there is no English.
+    """
+    folder = web / "lang"
+    lacking, misfitting = list[str](), list[str]()
+    try:
+        english = read(folder / f"{ENGLISH}.json")
+        for path in (folder / f"{it}.json" for it in sorted(known)):
+            own = read(path)
+            if keys := missing(own, english):
+                are = "1 key is" if len(keys) == 1 else f"{len(keys)} keys are"
+                lacking.append(
+                    f"{path}: {are} missing ({some_of(keys)}), so English is shown there; translate what en.json has"
+                )
+            if keys := misfits(own, english):
+                have = "1 key has" if len(keys) == 1 else f"{len(keys)} keys have"
+                misfitting.append(
+                    f"{path}: {have} other names in braces than en.json ({some_of(keys)}), so English is shown there; write the names of en.json"
+                )
+    except NoCatalogue as fault:
+        raise SetupFault(str(fault)) from None
+    return lacking, misfitting
 
 
 def read_setup(path: Path, web: Path) -> Setup:

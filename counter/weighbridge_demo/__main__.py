@@ -99,7 +99,7 @@ def tell_missing(path: str, is_given: bool) -> None:
 
 
 def tell_addresses(addresses: Addresses, folder: Path) -> None:
-    say("DEMO: the weights are played. Nothing here is a weighing.")
+    say("DEMO: the weights are simulated. Nothing here is a weighing.")
     say()
     say(f"  The clerk's page         {addresses.clerk}")
     say(

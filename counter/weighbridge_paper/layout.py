@@ -102,13 +102,13 @@ def blocks_of(paper: Paper, template: Template) -> list[Block]:
     for it in text.weighings:
         made += [Rule(), *weighing(it, template)]
     if paper.given:
-        made.append(Rule(words.word("given", language)))
+        made.append(Rule(words.word("given_by_clerk", language)))
         made += [Pair(words.word(name, language), value) for name, value in paper.given]
     made += [
-        Rule(words.word("legal", language)),
-        Legal(text.letters, words.word("wrapped", language)),
+        Rule(words.word("legal_text", language)),
+        Legal(text.letters, words.word("wrapped_line", language)),
     ]
-    made += [Rule(), Code(code_of(text), words.word("code", language))]
+    made += [Rule(), Code(code_of(text), words.word("number_and_digest", language))]
     made += [Line(it, "plain", True) for it in template.footer]
     return made + marks
 
@@ -123,7 +123,7 @@ def headline(text: Text, language: str) -> list[Block]:
     ]
     if text.net is not None:
         made += [
-            Line(words.word("net", language), "small"),
+            Line(words.word("paper_net", language), "small"),
             Line(words.kg(text.net, language), "large"),
         ]
     elif own.gross is not None:
@@ -132,19 +132,23 @@ def headline(text: Text, language: str) -> list[Block]:
             Line(words.kg(own.gross, language), "large"),
         ]
     else:
-        made.append(Line(words.word("withdrawn", language), "bold"))
+        made.append(Line(words.word("is_withdrawn", language), "bold"))
     return made
 
 
 def weighing(it: Weighing, template: Template) -> list[Block]:
     language = template.language
     made: list[Block] = [
-        Pair(words.word(it.kind, language), f"{words.word('number', language)} {it.number}", True)
+        Pair(
+            words.word(f"kind_{it.kind}", language),
+            f"{words.word('number_short', language)} {it.number}",
+            True,
+        )
     ]
     if it.gross is not None:
         made.append(Pair(words.word("gross", language), words.kg(it.gross, language)))
     if it.preset is not None:
-        made.append(Pair(words.word("preset", language), words.kg(it.preset, language)))
+        made.append(Pair(words.word("preset_tare", language), words.kg(it.preset, language)))
     return made + [Pair(words.local(it.at, template.zone, language), words.utc(it.at))]
 
 

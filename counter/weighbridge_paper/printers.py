@@ -4,11 +4,12 @@ import re
 from dataclasses import dataclass
 from pathlib import Path
 
+from .catalogue import ENGLISH
 from .escpos import PAGES
 from .layout import Template
 from .forms import FORMS
 from .reader import Reader, table_of, tables_in, zone_of
-from .words import LANGUAGES
+from .words import LANGUAGES, fault_of
 
 COLUMNS = {"escpos80": 48, "escpos58": 32}
 NARROWEST, WIDEST = 30, 96
@@ -62,7 +63,9 @@ def read_papers(path: Path) -> Papers:
             "write the folder in which papers wait, as /var/lib/weighbridge-counter/papers",
         )
     )
-    template = template_of(reader, Template((), (), "en", zone_of(reader)))
+    template = template_of(reader, Template((), (), ENGLISH, zone_of(reader)))
+    if (fault := fault_of(ENGLISH)) is not None:  # it fills in for each language
+        reader.mistake("language", fault)
     printers = tuple(printer_of(it, template) for it in tables)
     names = [it.name for it in printers]
     for at, name in enumerate(names, 1):
@@ -88,12 +91,11 @@ def template_of(reader: Reader, of_all: Template) -> Template:
             len(it) > LONGEST_LINE or not it.isprintable() for it in found[key]
         ):
             reader.mistake(key, what)
-    return Template(
-        found["header"],
-        found["footer"],
-        reader.choice("language", of_all.language, LANGUAGES),
-        of_all.zone,
-    )
+    is_chosen = "language" in reader.table
+    language = reader.choice("language", of_all.language, LANGUAGES)
+    if is_chosen and language not in ("", ENGLISH) and (fault := fault_of(language)) is not None:
+        reader.mistake("language", fault)
+    return Template(found["header"], found["footer"], language, of_all.zone)
 
 
 def printer_of(reader: Reader, of_all: Template) -> Printer:

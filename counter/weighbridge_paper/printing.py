@@ -26,7 +26,7 @@ def data_of(paper: layout.Paper, printer: Printer) -> bytes:
 
 
 def about(paper: layout.Paper, template: layout.Template) -> "About":
-    """Return what a PDF says of itself, such as the title `Weighing ticket 2, WB01, AB-12`."""
+    """Return what a PDF says of itself, such as the title `Ticket 2, WB01, AB-12`."""
     from .pdf import About
 
     text, own = paper.text, paper.text.own

@@ -1,87 +1,62 @@
 """The words around the legal text, and how numbers and moments are written there. The legal text has no language but its own."""
 
 import datetime
+import functools
 import zoneinfo
+from pathlib import Path
 
-LANGUAGES = ("en", "de", "fr", "es")
+from . import catalogue
+
+SHIPPED = (catalogue.ENGLISH, "de", "fr", "es")
 FREE_LINES = ("goods", "order", "driver")
 MONTHS = ("Jan", "Feb", "Mar", "Apr", "May", "Jun", "Jul", "Aug", "Sep", "Oct", "Nov", "Dec")
 NARROW_BLANK = "\u202f"
-
-WORDS: dict[str, tuple[str, str, str, str]] = {
-    "slip": ("Slip", "Wiegezettel", "Bulletin", "Boletín"),
-    "ticket": ("Weighing ticket", "Wiegeschein", "Bon de pesage", "Vale de pesaje"),
-    "first": ("First weighing", "Erstwägung", "Première pesée", "Primera pesada"),
-    "second": ("Second weighing", "Zweitwägung", "Deuxième pesée", "Segunda pesada"),
-    "single": (
-        "Weighing with a preset tare",
-        "Wägung mit Vorgabetara",
-        "Pesée avec tare prédéterminée",
-        "Pesada con tara predeterminada",
-    ),
-    "void": ("Withdrawal", "Stornierung", "Annulation", "Anulación"),
-    "plate": ("Plate", "Kennzeichen", "Immatriculation", "Matrícula"),
-    "net": ("Net", "Netto", "Net", "Neto"),
-    "gross": ("Gross", "Brutto", "Brut", "Bruto"),
-    "preset": (
-        "Preset tare (PT)",
-        "Vorgabetara (PT)",
-        "Tare prédéterminée (PT)",
-        "Tara predeterminada (PT)",
-    ),
-    "withdrawn": (
-        "The weighing is withdrawn",
-        "Die Wägung ist storniert",
-        "La pesée est annulée",
-        "La pesada está anulada",
-    ),
-    "number": ("No", "Nr.", "Nº", "N.º"),
-    "given": (
-        "Given by the clerk. No part of the weighing.",
-        "Angaben des Wägers. Kein Teil der Wägung.",
-        "Indiqué par l'opérateur. Ne fait pas partie de la pesée.",
-        "Indicado por el operador. No forma parte de la pesada.",
-    ),
-    "goods": ("Goods", "Ware", "Marchandise", "Mercancía"),
-    "order": ("Order", "Auftrag", "Commande", "Pedido"),
-    "driver": ("Driver", "Fahrer", "Chauffeur", "Conductor"),
-    "legal": (
-        "The weighing, letter for letter. This text counts.",
-        "Die Wägung, Zeichen für Zeichen. Dieser Text gilt.",
-        "La pesée, lettre pour lettre. Ce texte fait foi.",
-        "La pesada, letra por letra. Este texto da fe.",
-    ),
-    "wrapped": (
-        "> goes on the line above",
-        "> setzt die Zeile darüber fort",
-        "> continue la ligne au-dessus",
-        "> continúa la línea de arriba",
-    ),
-    "code": ("Number and digest", "Nummer und Prüfsumme", "Numéro et empreinte", "Número y huella"),
-    "duplicate": ("DUPLICATE", "DUPLIKAT", "DUPLICATA", "DUPLICADO"),
-    "copy": ("COPY", "KOPIE", "COPIE", "COPIA"),
-    "demo": (
-        "Played weights. This is no weighing.",
-        "Gespielte Gewichte. Das ist keine Wägung.",
-        "Poids simulés. Ceci n'est pas une pesée.",
-        "Pesos simulados. Esto no es una pesada.",
-    ),
-}
+# Between thousands. Other languages have a narrow blank there, because a dot or a comma could be read as a decimal mark.
 GROUPED_BY = {"en": ",", "de": ".", "fr": NARROW_BLANK, "es": "."}
 
 
-def word(name: str, language: str) -> str:
-    return WORDS[name][LANGUAGES.index(language)]
+def languages_in(folder: Path) -> tuple[str, ...]:
+    """Return the languages that have a file, those of the package first."""
+    found = {it.stem for it in folder.glob("??.json")}
+    return tuple(it for it in (*SHIPPED, *sorted(found.difference(SHIPPED))) if it in found)
 
 
-def mark(name: str, language: str) -> str:
-    """`DUPLICATE` or `COPY`, which stands on the paper in English too."""
-    there = word(name, language)
-    return there if language == "en" else f"{there} · {word(name, 'en')}"
+LANGUAGES = languages_in(catalogue.FOLDER)
+
+
+@functools.cache
+def catalogue_of(language: str, folder: Path) -> catalogue.Catalogue:
+    return catalogue.read(folder / f"{language}.json")
+
+
+def fault_of(language: str, folder: Path = catalogue.FOLDER) -> str | None:
+    """Return why the file of a language can't be used. Return None if it can."""
+    try:
+        catalogue_of(language, folder)
+    except catalogue.NoCatalogue as fault:
+        return str(fault)
+    return None
+
+
+def word(key: str, language: str, folder: Path = catalogue.FOLDER) -> str:
+    """Return the words of a key. They are English if the language has none, or has other placeholders.
+
+    A paper counts nothing, so of plural forms it has the one for `other`.
+    """
+    english = catalogue_of(catalogue.ENGLISH, folder)[key]
+    own = catalogue_of(language, folder)
+    is_own = catalogue.has(own, key) and catalogue.fits(own[key], english)
+    return catalogue.text_of(own[key] if is_own else english)
+
+
+def mark(key: str, language: str, folder: Path = catalogue.FOLDER) -> str:
+    """Return DUPLICATE or COPY in the language, and in English too."""
+    there, english = word(key, language, folder), word(key, catalogue.ENGLISH, folder)
+    return there if there == english else f"{there} · {english}"
 
 
 def kg(value: int, language: str) -> str:
-    return f"{value:,}".replace(",", GROUPED_BY[language]) + " kg"
+    return f"{value:,}".replace(",", GROUPED_BY.get(language, NARROW_BLANK)) + " kg"
 
 
 def local(at: datetime.datetime, zone: zoneinfo.ZoneInfo, language: str) -> str:
@@ -90,7 +65,9 @@ def local(at: datetime.datetime, zone: zoneinfo.ZoneInfo, language: str) -> str:
     day = {
         "en": f"{there.day} {MONTHS[there.month - 1]} {there.year:04}",
         "de": there.strftime("%d.%m.%Y"),
-    }.get(language, there.strftime("%d/%m/%Y"))
+        "fr": there.strftime("%d/%m/%Y"),
+        "es": there.strftime("%d/%m/%Y"),
+    }.get(language, f"{there:%Y-%m-%d}")
     offset = there.strftime("%z")
     name = there.strftime("%Z")
     far = f"{offset[:3]}:{offset[3:5]}"
