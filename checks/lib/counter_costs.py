@@ -129,7 +129,7 @@ class Stubborn(threading.Thread):
 
 
 def under_attack(bridge, seconds=15, stubborn=20):
-    """Whoever has a clerk's password keeps tares and asks for the lists without a pause, while so many pages read next to nothing."""
+    """Keep tares and ask for the lists without a pause, as a client with a clerk's password can, while `stubborn` pages read next to nothing."""
     tares = {
         f"T{at:04}": {"kg": 5000, "until": "2099-01-01", "by": "anna" * 10} for at in range(2000)
     }
@@ -161,7 +161,7 @@ def under_attack(bridge, seconds=15, stubborn=20):
         f"{most:.0f} MB",
     )
     holds(
-        "and the weight goes on at a page that reads",
+        "and the weight continues at a page that reads",
         max(gaps) < 1.5 and streams.ended == 0,
         f"longest gap {max(gaps):.1f} s",
     )

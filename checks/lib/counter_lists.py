@@ -260,7 +260,7 @@ def kept_tares(bridge):
     bridge.weigh("tare-second", "second", "AB-12")
     told = [it for name, it in told.get() if name == "tare"]
     same(
-        "a pair changes its last empty weight, and the pages are told of this tare alone",
+        "a pair changes its last empty weight, and the pages get only this tare",
         [("AB-12", 5040)],
         [(it["plate"], it["tare"]["empty"]) for it in told],
     )

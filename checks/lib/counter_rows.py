@@ -10,14 +10,12 @@ ON_SITE = 300
 MOST_MILLISECONDS = 10  # of the page's thread for an entry
 FOCUS = "const it = document.activeElement; return [it.closest('ul')?.id, it.closest('li')?.querySelector('.plate').textContent, it.className]"
 DIALOG = "return document.querySelector('#entry[open]') && [...document.querySelectorAll('#entry h2, #entry #entry-sub, #entry button')].map(it => it.textContent)"
-# The page is told of so many vehicles on site, and then of 21 entries. How long each holds up its thread, in milliseconds: the median.
-COST = """
-const [count, done] = arguments;
-import('/web/known.js').then(async ({ feed, known }) => {
+# Gives the page a list of vehicles on site, and then 21 entries. Returns for how long an entry holds up the page's thread: the median, in milliseconds.
+LISTS = """
   const entry = at => ({ number: 90000 + at, kind: 'first', plate: `COST-${at}`, at: new Date().toISOString(), gross: 18340, tare: null, net: null, first: null });
-  const lists = { on_site: Array.from({ length: count }, (_, at) => entry(count - at)), today: known.today, tares: known.tares, weighed_near: known.weighedNear };
-  feed.hear('lists', lists);
-  const took = [];
+  feed.hear('lists', { on_site: Array.from({ length: count }, (_, at) => entry(count - at)), today: known.today, weighed_near: known.weighedNear });
+"""
+ENTRIES = """
   for (let at = 1; at <= 21; at++) {
     const text = JSON.stringify({ entry: entry(count + at), on_site: [entry(count + at), ...known.onSite], weighed_near: known.weighedNear });
     await new Promise(requestAnimationFrame);
@@ -26,8 +24,12 @@ import('/web/known.js').then(async ({ feed, known }) => {
     document.getElementById('site').getBoundingClientRect();
     took.push(performance.now() - from);
   }
-  done(took.sort((one, other) => one - other)[10]);
-});"""
+"""
+COST = (
+    "const [count, done] = arguments, took = [];"
+    f"import('/web/known.js').then(async ({{ feed, known }}) => {{ {LISTS} {ENTRIES}"
+    " done(took.sort((one, other) => one - other)[10]); });"
+)
 
 
 def menu_of(plate, list="site"):
@@ -109,7 +111,7 @@ def arrow_keys(bridge, clerk):
 
 
 def a_press_that_lasts(bridge, clerk):
-    """A press begins on a row, another entry comes, and the press ends there."""
+    """Begin a press on a row, let another entry come, and end the press there."""
     clerk.browser.run("document.querySelector('#site').scrollTop = 0")
     at = clerk.browser.middle_of("#site li:nth-child(2) .main")
     plate = clerk.browser.run(

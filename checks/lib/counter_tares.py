@@ -1,4 +1,4 @@
-"""Part of checks/counter: kept tares at the page. A mistyped tare is doubted, other hyphens are asked about, and each tare can be seen and deleted.
+"""Part of checks/counter: kept tares at the page. The page doubts a mistyped tare, asks about other hyphens, and lists and deletes each tare.
 
 The page shows each tare as the scale rounds it.
 """
@@ -98,7 +98,7 @@ def other_hyphens(bridge, clerk):
     clerk.keys(ESCAPE + "SUEWAB12E")
     clerk.sees(
         "SUEW-AB-12E has a kept tare of 5,000 kg. Is it this vehicle?",
-        what="other hyphens are asked about",
+        what="it asks about other hyphens",
     )
     same("both have a key", ["SUEW-AB-12E F2", "No, another vehicle F6"], clerk.answers())
     nothing_comes_of(bridge, clerk, "other hyphens, and Enter", TEN, "SUEWAB12E")
@@ -128,10 +128,10 @@ def a_key_answers_one_question(bridge, clerk):
     clerk.keys(ESCAPE + "SUEWAB12E")
     clerk.sees("SUE-WAB-12E is on site. Is it this one?")
     nothing_comes_of(bridge, clerk, "a key that two questions have, hammered", 8 * F6, "SUEWAB12E")
-    clerk.sees("SUEW-AB-12E has a kept tare", what="it answers the first question alone")
+    clerk.sees("SUEW-AB-12E has a kept tare", what="it answers only the first question")
     time.sleep(1)
     clerk.keys(F6)
-    clerk.sees("Ready.", what="and the next one once it was pressed anew")
+    clerk.sees("Ready.", what="and the next one once it is pressed again")
     clerk.keys(ESCAPE)
 
 

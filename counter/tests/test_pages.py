@@ -1,4 +1,4 @@
-"""What waits for the pages: each event in order, of weights the newest alone, and within bounds for each page and for all."""
+"""The events that wait for the pages: each in order, of weights only the newest, and within bounds for each page and for all."""
 
 import asyncio
 import unittest

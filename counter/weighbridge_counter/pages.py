@@ -1,6 +1,6 @@
 """The event streams of the pages. A page gets every event, except that of weights it gets only the newest, so that a slow page gets no old one.
 
-What waits for a page is bounded in bytes, for each page and for all together. A page beyond a bound is closed, and begins anew.
+The bytes that wait are bounded, for each page and for all together. The counter cuts a page beyond a bound, and the page begins again.
 """
 
 import asyncio
@@ -20,7 +20,7 @@ def frame_of(name: str, what: Any) -> bytes:
 
 
 class Page:
-    """What waits for a page. `bytes` counts what was taken last too, because that is on its way until the page asks for more."""
+    """The events that wait for a page. `bytes` also counts what was taken last, because that is on its way until the page asks for more."""
 
     def __init__(self, beginning: list[bytes], abort: Callable[[], None]) -> None:
         self.abort = abort  # cut the page's connection, and let go of what is on its way
@@ -44,7 +44,7 @@ class Page:
         self.has_some.set()
 
     def close(self) -> None:
-        """Let go of all that waits. The page gets nothing more, and begins anew."""
+        """Let go of all that waits. The page gets nothing more, and begins again."""
         self.is_over = True
         self.frames.clear()
         self.bytes, self.weight = 0, b""

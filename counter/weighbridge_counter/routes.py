@@ -361,7 +361,7 @@ class Routes:
     # ---- kept tares
 
     async def plate(self, request: web.Request) -> web.StreamResponse:
-        """What the counter knows of a plate."""
+        """Answer with a plate's last empty weight."""
         plate = request.match_info["plate"]
         return as_json({"plate": plate, "empty": self.counter.books.lists.empty_of(plate)})
 
