@@ -11,10 +11,12 @@ MOST_MILLISECONDS = 10  # of the page's thread for an entry
 FOCUS = "const it = document.activeElement; return [it.closest('ul')?.id, it.closest('li')?.querySelector('.plate').textContent, it.className]"
 DIALOG = "return document.querySelector('#entry[open]') && [...document.querySelectorAll('#entry h2, #entry #entry-sub, #entry button')].map(it => it.textContent)"
 # Gives the page a list of vehicles on site, and then 21 entries. Returns for how long an entry holds up the page's thread: the median, in milliseconds.
-LISTS = """
-  const entry = at => ({ number: 90000 + at, kind: 'first', plate: `COST-${at}`, at: new Date().toISOString(), gross: 18340, tare: null, net: null, first: null });
-  feed.hear('lists', { on_site: Array.from({ length: count }, (_, at) => entry(count - at)), today: known.today, weighed_near: known.weighedNear });
-"""
+ENTRY = "{ number: 90000 + at, kind: 'first', plate: `COST-${at}`, at: new Date().toISOString(), gross: 18340, tare: null, net: null, first: null }"
+SITE = "Array.from({ length: count }, (_, at) => entry(count - at))"
+LISTS = (
+    f"const entry = at => ({ENTRY});"
+    f"feed.hear('lists', {{ on_site: {SITE}, today: known.today, weighed_near: [] }});"
+)
 ENTRIES = """
   for (let at = 1; at <= 21; at++) {
     const text = JSON.stringify({ entry: entry(count + at), on_site: [entry(count + at), ...known.onSite], weighed_near: known.weighedNear });
