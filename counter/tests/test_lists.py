@@ -19,6 +19,7 @@ from weighbridge_counter.setup import SetupFault, languages, read_setup
 from weighbridge_counter.slips import HEADER, NoText, entry_of_text, has_key, slip_of_row
 from weighbridge_counter.tares import BadTare, Tares
 from weighbridge_counter.tares import Kept as KeptTare
+from weighbridge_counter.today import day_of
 from weighbridge_counter.zero import Zero
 
 from .played import at_once
@@ -173,7 +174,7 @@ class TheLists(unittest.TestCase):
             ),
         )
         now = datetime.datetime(2025, 3, 10, 12, tzinfo=BERLIN)
-        self.assertEqual(["B"], [it["plate"] for it in lists.today(now)])
+        self.assertEqual(["B"], [it["plate"] for it in day_of(lists, now)["today"]])
 
     def test_search_by_number_and_by_a_part_of_a_plate(self):
         lists = Lists.of_export(
@@ -195,7 +196,7 @@ class TheLists(unittest.TestCase):
             ("9", []),
             ("²", []),
         ):
-            self.assertEqual(found, [it["number"] for it in lists.search(words)], words)
+            self.assertEqual(found, [it["number"] for it in lists.search(words)[0]], words)
 
     def test_what_is_no_export_is_refused(self):
         for text in ("", "store 2 disk\n", export(ROW + ",more")):

@@ -50,7 +50,7 @@ class ManyAskers(unittest.IsolatedAsyncioTestCase):
         self.assertEqual((40, MOST_ASKING), (office.all, office.most))
 
     async def test_many_searches_hold_up_no_value(self):
-        lists = SimpleNamespace(search=lambda words: time.sleep(0.005) or [])
+        lists = SimpleNamespace(search=lambda words: time.sleep(0.005) or ([], 0))
         routes = routes_over(SlowOffice())
         routes.counter.books = SimpleNamespace(lists=lists, is_whole=lambda: True)
         searches = asyncio.gather(

@@ -11,6 +11,7 @@ import shutil
 import tempfile
 import unittest
 import zoneinfo
+from dataclasses import fields
 from pathlib import Path
 from unittest import mock
 
@@ -20,6 +21,7 @@ from weighbridge_counter.counter import Counter
 from weighbridge_counter.lists import Lists
 from weighbridge_counter.papers import SHOWN
 from weighbridge_counter.setup import SetupFault, gaps_of, languages
+from weighbridge_counter.today import Sums, direction_of
 from weighbridge_paper import catalogue, devices, words
 from weighbridge_paper.printers import read_papers
 
@@ -104,6 +106,8 @@ def composed():
         "journal_": set(journal.WORDS),
         "trouble_": set(devices.TROUBLES),
         "job_": set(SHOWN),
+        "sum_": {it.name for it in fields(Sums) if it.name.startswith("net_")},
+        "way_": of_each(r'"(in|out)" if', inspect.getsource(direction_of)),
         "from_": of_each(r'"from": "(\w+)"', routes)
         | of_each(r', "(\w+)"\n', inspect.getsource(Lists.slip_again)),
         "refused_": {
@@ -188,7 +192,7 @@ class TheLanguages(unittest.TestCase):
 
     def test_what_is_counted_has_one_and_other_in_each(self):
         counted = {key for key, it in ENGLISH.items() if not isinstance(it, str)}
-        self.assertLess({"sum", "keep_it", "days", "weighings_left", "papers_wait"}, counted)
+        self.assertLess({"tickets", "keep_it", "days", "weighings_left", "papers_wait"}, counted)
         for language, them in ALL.items():
             for key, it in them.items():
                 forms = set() if isinstance(it, str) else set(it)
@@ -285,15 +289,15 @@ class OfAnOperator(unittest.TestCase):
             ),
             self.check(),
         )
-        self.write({key: it for key, it in self.whole().items() if key != "sum"})
-        self.assertIn(": 1 key is missing (sum), so", self.check()[1])
+        self.write({key: it for key, it in self.whole().items() if key != "tickets"})
+        self.assertIn(": 1 key is missing (tickets), so", self.check()[1])
 
     def test_check_refuses_other_placeholders(self):
         for key, it in (
             ("off_zero", "Vuota: {chili}"),
             ("off_zero", "Vuota"),
             ("empty", "Vuota {kg}"),
-            ("sum", {"one": "un biglietto, netto {kg}", "other": "{number} biglietti, netto {kg}"}),
+            ("tickets", {"one": "un biglietto", "other": "{number} biglietti"}),
         ):
             self.write(self.whole(**{key: it}))
             status, said = self.check()

@@ -11,7 +11,7 @@ export const MIN_INTERVALS = 20;     // below so many intervals the bridge is em
 const RESULT_BEFORE_FAULTS = 5000;   // milliseconds that a result is shown before a fault is
 
 export const feed = new Feed();
-export const known = { hello: { interval: 20, zone: 'UTC', tare_days: 90 }, state: null, onSite: [], weighedNear: [], today: [], tares: {}, papers: { printers: [], jobs: [], refused: null } };
+export const known = { hello: { interval: 20, zone: 'UTC', tare_days: 90 }, state: null, onSite: [], weighedNear: [], today: [], sums: null, tares: {}, papers: { printers: [], jobs: [], refused: null } };
 // `ofPlate` is what the counter knows of the plate for which a tare is typed.
 export const clerk = { oneTare: null, isFirstInstead: false, waiting: null, result: null, told: null, newest: null, answered: {}, answers: [], deafness: new Deafness(), arming: new Arming(), plateOfLoad: new PlateOfLoad(), plateThatLeft: '', ofPlate: null };
 

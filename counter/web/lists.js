@@ -5,7 +5,7 @@ import { openEntry } from './papers.js';
 import { button, make, part } from './parts.js';
 import { askJson } from './request.js';
 import { acts } from './show.js';
-import { dayOf, isToday, kg, language, number, paperOf, t, whenOf } from './words.js';
+import { dayOf, isToday, kg, language, number, paperOf, t, timeOf, whenOf } from './words.js';
 
 const ROWS_AT_ONCE = 200;            // further rows are drawn as the clerk scrolls to their end
 const KINDS = { first: '→', second: '⇄', single: '◆', void: '✕' };
@@ -112,12 +112,29 @@ let rows;
 
 export function showLists() {
   rows ??= { site: new Rows('site', entry => acts.take(entry.plate)), today: new Rows('today', open), hits: new Rows('hits', closeSearch) };
-  const tickets = known.today.filter(it => it.net !== null), withdrawn = withdrawnBy();
+  const withdrawn = withdrawnBy(), older = (known.sums?.entries ?? 0) - known.today.length;
   part('site-count').textContent = known.onSite.length || '';
-  part('today-count').textContent = known.today.length || '';
-  part('today-sum').textContent = tickets.length ? t('sum', { number: tickets.length, kg: kg(tickets.reduce((sum, it) => sum + it.net, 0)) }) : '';
+  part('today-count').textContent = known.sums?.entries || '';
+  part('today-sum').textContent = sumsOf(known.sums);
   rows.site.show(known.onSite, { lookOf: isNew, says: onSiteSays, end: known.onSite.length ? '' : t('nobody_on_site') });
-  rows.today.show(known.today, { lookOf: entry => `${isNew(entry)} ${entry.kind === 'void' || withdrawn.has(entry.number) ? 'void' : ''}`, says: entrySays, end: known.today.length ? '' : t('nothing_today') });
+  rows.today.show(known.today, { lookOf: entry => `${isNew(entry)} ${entry.kind === 'void' || withdrawn.has(entry.number) ? 'void' : ''}`, says: entrySays, end: older > 0 ? t('older_today', { number: number(older) }) : known.today.length ? '' : t('nothing_today') });
+}
+
+// What was weighed today, by the counter's sums over all entries of the day. A weighing with a tare has no direction.
+export function sumsOf(sums) {
+  if (!sums?.tickets) return '';
+  const parts = ['net_in', 'net_out', 'net_with_tare'].filter(it => sums[it]).map(it => t(`sum_${it}`, { kg: kg(sums[it]) }));
+  return [t('tickets', { number: sums.tickets }), ...parts].join(' · ');
+}
+
+// The day's list on paper, by the browser.
+export function printDay({ day, entries, sums }, company) {
+  const cells = it => [it.number, timeOf(it.at), it.plate, t(`kind_${it.kind}`), it.gross === null ? '' : number(it.gross), it.tare === null ? '' : number(it.tare), it.net === null ? '' : number(it.net), it.direction ? t(`way_${it.direction}`) : ''];
+  const heads = [t('column_number'), t('column_time'), t('plate'), t('column_kind'), t('gross'), t('column_tare'), t('column_net'), t('column_way')].map(textContent => make('th', { textContent }));
+  const rows = entries.map(it => make('tr', {}, ...cells(it).map(textContent => make('td', { textContent }))));
+  part('paper').replaceChildren(make('p', { className: 'title', textContent: `${company} · ${dayOf(`${day}T12:00:00Z`)}` }), make('p', { textContent: sumsOf(sums) }), make('p', { className: 'small', textContent: t('list_only') }),
+    make('table', {}, make('thead', {}, make('tr', {}, ...heads)), make('tbody', {}, ...rows)));
+  window.print();
 }
 
 function open(entry) {
@@ -132,7 +149,8 @@ function closeSearch(entry) {
 
 export async function search() {
   const query = part('query').value.trim();
-  const hits = query ? (await askJson('GET', `/search?q=${encodeURIComponent(query)}`))?.hits ?? [] : [];
+  const answer = query ? await askJson('GET', `/search?q=${encodeURIComponent(query)}`) : null, hits = answer?.hits ?? [];
   if (part('query').value.trim() !== query) return;
-  rows.hits.show(hits, { lookOf: entry => entry.kind === 'void' ? 'void' : '', says: entrySays, end: hits.length || !query ? '' : t('nothing_found') });
+  const more = (answer?.found ?? 0) - hits.length;
+  rows.hits.show(hits, { lookOf: entry => entry.kind === 'void' ? 'void' : '', says: entrySays, end: more > 0 ? t('more_hits', { number: number(more) }) : hits.length || !query ? '' : t('nothing_found') });
 }

@@ -5,7 +5,7 @@ import { OLDEST_WEIGHT } from './feed.js';
 import { choiceOf, plateOf, roundedTare } from './guide.js';
 import { DEAF_FOR, deedOf } from './hands.js';
 import { clerk, feed, GIVEN, givenOf, known, linkNow, nowKnown, plate } from './known.js';
-import { search, showLists } from './lists.js';
+import { printDay, search, showLists } from './lists.js';
 import { keepTare, print, showJobs } from './papers.js';
 import { showTares } from './tares.js';
 import { make, part } from './parts.js';
@@ -22,7 +22,7 @@ const THEME = 'weighbridge.theme';
 feed.hear = (name, what) => {
   if (name === 'hello') takeHello(what);
   if (name === 'state') known.state = what;
-  if (name === 'lists') Object.assign(known, { onSite: what.on_site, weighedNear: what.weighed_near, today: what.today });
+  if (name === 'lists') Object.assign(known, { onSite: what.on_site, weighedNear: what.weighed_near, today: what.today, sums: what.sums });
   if (name === 'tares') takeTares(what);
   if (name === 'tare') takeTares({ ...known.tares, [what.plate]: what.tare });
   if (name === 'papers') takePapers(what);
@@ -48,8 +48,8 @@ function takeHello(hello) {
   if (wish !== language) change(wish);
 }
 
-function takeEntry({ entry, on_site: onSite, weighed_near: weighedNear }) {
-  Object.assign(known, { onSite, weighedNear });
+function takeEntry({ entry, sums, on_site: onSite, weighed_near: weighedNear }) {
+  Object.assign(known, { sums, onSite, weighedNear });
   clerk.newest = entry.number;
   if (entry.kind !== 'void') clerk.plateOfLoad.weighed(entry);
   if (!known.today.some(it => it.number === entry.number)) known.today.unshift(entry);
@@ -93,6 +93,13 @@ async function printLast() {
   const last = clerk.result?.number ?? known.today[0]?.number;
   if (last === undefined) tell('wait', 'nothing_today');
   else await printNumber(last);
+  focusPlate();
+}
+
+async function printToday() {
+  const day = await askJson('GET', '/today');
+  if (day?.status !== 200) tell('bad', 'not_printed');
+  else printDay(day, known.hello.company);
   focusPlate();
 }
 
@@ -348,6 +355,7 @@ function listenToHands() {
   part('last').addEventListener('click', printLast);
   part('find').addEventListener('click', () => { part('searching').showModal(); part('query').select(); });
   part('query').addEventListener('input', search);
+  part('print-today').addEventListener('click', printToday);
   part('tares').addEventListener('click', openKept);
   part('kept-query').addEventListener('input', showKept);
   part('language').addEventListener('change', () => change(part('language').value, true).then(focusPlate));

@@ -4,6 +4,7 @@ import asyncio
 import datetime
 import time
 from collections.abc import Callable, Coroutine
+from dataclasses import asdict
 from typing import Any
 
 from .acts import Acts
@@ -20,6 +21,7 @@ from .setup import Setup
 from .slips import Entry
 from .tares import Tares
 from .terminal import Terminal
+from .today import day_of, numbers_of, sums_of
 from .values import Value
 from .zero import Zero
 
@@ -178,6 +180,7 @@ class Counter:
             "entry",
             {
                 "entry": lists.shown(entry.number),
+                "sums": asdict(sums_of(lists, numbers_of(lists, self.now()))),
                 "on_site": lists.on_site(),
                 "weighed_near": lists.near.shown(),
             },
@@ -252,7 +255,7 @@ class Counter:
         lists = self.books.lists
         return {
             "on_site": lists.on_site(),
-            "today": lists.today(self.now()),
+            **day_of(lists, self.now()),
             "weighed_near": lists.near.shown(),
         }
 

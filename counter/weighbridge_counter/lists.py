@@ -20,7 +20,6 @@ from .slips import (
 )
 
 MOST_TEXTS = 2000  # that are kept as they passed
-MOST_TODAY = 1000
 MOST_HITS = 60
 
 
@@ -159,18 +158,18 @@ class Lists:
             return slip_of_row(self.rows[number]), "export"
         return None
 
-    def shown(self, number: int) -> dict[str, Any]:
+    def net_of(self, number: int) -> int | None:
         entry, first = self.entries[number], self.entries.get(self.partner.get(number, 0))
-        net = None
-        if entry.kind == "single" and entry.gross is not None and entry.preset is not None:
-            net = entry.gross - entry.preset
-        elif (
-            entry.kind == "second"
-            and first is not None
-            and entry.gross is not None
-            and first.gross is not None
-        ):
-            net = abs(entry.gross - first.gross)
+        if entry.gross is None:
+            return None
+        if entry.kind == "single" and entry.preset is not None:
+            return entry.gross - entry.preset
+        if entry.kind == "second" and first is not None and first.gross is not None:
+            return abs(entry.gross - first.gross)
+        return None
+
+    def shown(self, number: int) -> dict[str, Any]:
+        entry = self.entries[number]
         return {
             "number": number,
             "kind": entry.kind,
@@ -178,26 +177,15 @@ class Lists:
             "at": entry.at.strftime("%Y-%m-%dT%H:%M:%SZ"),
             "gross": entry.gross,
             "tare": entry.preset,
-            "net": net,
+            "net": self.net_of(number),
             "first": self.partner.get(number),
         }
 
     def on_site(self) -> list[dict[str, Any]]:
         return [self.shown(number) for number in sorted(self.open.values(), reverse=True)]
 
-    def today(self, now: datetime.datetime) -> list[dict[str, Any]]:
-        day = now.astimezone(self.zone).date()
-        found: list[dict[str, Any]] = []
-        for number in range(self.last, max(0, self.last - MOST_TODAY), -1):
-            if (
-                number in self.entries
-                and self.entries[number].at.astimezone(self.zone).date() == day
-            ):
-                found.append(self.shown(number))
-        return found
-
-    def search(self, words: str) -> list[dict[str, Any]]:
-        """Entries by number, or by a part of their plate; the newest first."""
+    def search(self, words: str) -> tuple[list[dict[str, Any]], int]:
+        """Return the newest entries that fit by their number or by a part of their plate, and how many fit in all."""
         words = words.upper().replace(" ", "")
         bare = words.replace("-", "")
         hits = (
@@ -212,5 +200,5 @@ class Lists:
                 if bare in plate.replace("-", "")
                 for number in all
             ]
-            hits += [it for it in sorted(numbers, reverse=True)[:MOST_HITS] if it not in hits]
-        return [self.shown(number) for number in hits[:MOST_HITS]]
+            hits += [it for it in sorted(numbers, reverse=True) if it not in hits[:1]]
+        return [self.shown(number) for number in hits[:MOST_HITS]], len(hits)

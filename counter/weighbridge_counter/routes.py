@@ -23,6 +23,7 @@ from .slips import NoText as NoRow
 from .slips import has_key
 from .tares import BadTare
 from .terminal import NotSent, Unanswered
+from .today import table_of, whole_day_of
 
 LONGEST_BODY = 2048  # bytes; the office takes 1,024
 SMALL_BUFFER = 16384  # bytes in the system on the way to a page
@@ -91,6 +92,8 @@ class Routes:
                 web.post(r"/jobs/{job:[1-9]\d{0,9}}/again", self.print_again),
                 web.delete(r"/jobs/{job:[1-9]\d{0,9}}", self.drop_job),
                 web.get("/search", self.search),
+                web.get("/today", self.today),
+                web.get("/today.csv", self.today_as_table),
                 web.get("/keys/{key:[A-Za-z0-9-]{1,32}}", self.key),
                 web.get("/plates/{plate:[A-Z0-9-]{1,12}}", self.plate),
                 web.put("/tares/{plate}", self.keep_tare),
@@ -330,12 +333,19 @@ class Routes:
 
     async def search(self, request: web.Request) -> web.StreamResponse:
         words = request.query.get("q", "")[:40]
-        return as_json(
-            {
-                "hits": await self.in_turn(lambda: self.counter.books.lists.search(words)),
-                "whole": self.counter.books.is_whole(),
-            }
-        )
+        hits, found = await self.in_turn(lambda: self.counter.books.lists.search(words))
+        return as_json({"hits": hits, "found": found, "whole": self.counter.books.is_whole()})
+
+    async def today(self, request: web.Request) -> web.StreamResponse:
+        counter = self.counter
+        return as_json(await self.in_turn(lambda: whole_day_of(counter.books.lists, counter.now())))
+
+    async def today_as_table(self, request: web.Request) -> web.StreamResponse:
+        counter = self.counter
+        table = await self.in_turn(lambda: table_of(counter.books.lists, counter.now()))
+        name = f"weighings-{counter.now().date().isoformat()}.csv"
+        fields = {"Content-Disposition": f'attachment; filename="{name}"'}
+        return as_text(table.encode(), 200, "text/csv; charset=utf-8; header=present", **fields)
 
     async def key(self, request: web.Request) -> web.StreamResponse:
         """Answer if an entry of the journal has the key. This asks for an export, and stores nothing."""

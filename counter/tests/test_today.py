@@ -1,0 +1,123 @@
+"""The local day: which entries are of it, what they sum to, and their table."""
+
+import csv
+import datetime
+import io
+import unittest
+import zoneinfo
+
+from weighbridge_counter.lists import Lists
+from weighbridge_counter.today import MOST_LISTED, day_of, midnight, table_of, whole_day_of
+
+from .test_lists import BERLIN, export, row
+
+NOON = datetime.datetime(2025, 3, 10, 12, tzinfo=BERLIN)
+DAY = (
+    row(1, "first", "OLD", 9000, at="2025-03-09 22:00:00"),
+    row(2, "first", "IN-1", 30000),
+    row(3, "first", "OUT-1", 10000),
+    row(4, "second", "IN-1", 12000),
+    row(5, "second", "OUT-1", 38000),
+    row(6, "single", "ONCE", 20000, 8000),
+    row(7, "first", "GONE", 7000),
+    row(8, "void", "GONE", ""),
+    row(9, "first", "SAME", 5000),
+    row(10, "second", "SAME", 5000),
+    row(11, "second", "OLD", 20000),
+)
+
+
+class ALocalDay(unittest.TestCase):
+    def setUp(self):
+        self.lists = Lists.of_export(BERLIN, export(*DAY))
+
+    def test_sums_are_of_all_entries_with_in_and_out_apart(self):
+        found = day_of(self.lists, NOON)
+        self.assertEqual(list(range(11, 1, -1)), [it["number"] for it in found["today"]])
+        self.assertEqual(
+            {
+                "entries": 10,
+                "tickets": 5,
+                "net_in": 18000,
+                "net_out": 28000 + 11000,
+                "net_with_tare": 12000,
+            },
+            found["sums"],
+        )
+
+    def test_more_entries_than_are_listed_are_summed_all_the_same(self):
+        count = MOST_LISTED + 500
+        rows = [row(it, "single", f"P{it}", 20000, 8000) for it in range(1, count + 1)]
+        found = day_of(Lists.of_export(BERLIN, export(*rows)), NOON)
+        self.assertEqual(
+            (MOST_LISTED, count, count, 12000 * count),
+            (
+                len(found["today"]),
+                found["sums"]["entries"],
+                found["sums"]["tickets"],
+                found["sums"]["net_with_tare"],
+            ),
+        )
+        self.assertEqual(count, found["today"][0]["number"])
+
+    def test_an_entry_of_a_text_counts_too(self):
+        self.lists.entries[12] = self.lists.entries[6].__class__(
+            12, "single", "LATE", NOON.astimezone(datetime.timezone.utc), 20000, 8000
+        )
+        self.assertEqual(24000, day_of(self.lists, NOON)["sums"]["net_with_tare"])
+
+    def test_a_day_begins_at_local_midnight_also_where_the_clock_is_put(self):
+        for zone, day, begin, hours in (
+            ("Europe/Berlin", (2025, 3, 30), "2025-03-29T23:00", 23),
+            ("Europe/Berlin", (2025, 10, 26), "2025-10-25T22:00", 25),
+            ("America/New_York", (2025, 3, 10), "2025-03-10T04:00", 24),
+            ("Asia/Kolkata", (2025, 3, 10), "2025-03-09T18:30", 24),
+        ):
+            there, it = zoneinfo.ZoneInfo(zone), datetime.date(*day)
+            first, last = midnight(it, there), midnight(it + datetime.timedelta(1), there)
+            self.assertEqual(f"{begin}:00+00:00", first.isoformat(), zone)
+            self.assertEqual(datetime.timedelta(hours=hours), last - first, zone)
+
+    def test_midnight_belongs_to_the_new_day(self):
+        lists = Lists.of_export(
+            BERLIN,
+            export(
+                row(1, "first", "A", 1000, at="2025-03-09 22:59:59"),
+                row(2, "first", "B", 1000, at="2025-03-09 23:00:00"),
+                row(3, "first", "C", 1000, at="2025-03-10 22:59:59"),
+                row(4, "first", "D", 1000, at="2025-03-10 23:00:00"),
+            ),
+        )
+        for day, wanted in ((9, "A"), (10, "CB"), (11, "D"), (12, "")):
+            now = datetime.datetime(2025, 3, day, 12, tzinfo=BERLIN)
+            self.assertEqual(wanted, "".join(it["plate"] for it in day_of(lists, now)["today"]))
+
+    def test_the_table_has_all_of_the_day_the_oldest_first(self):
+        rows = list(csv.DictReader(io.StringIO(table_of(self.lists, NOON))))
+        self.assertEqual([str(it) for it in range(2, 12)], [it["number"] for it in rows])
+        self.assertEqual(
+            {
+                "number": "4",
+                "kind": "second",
+                "plate": "IN-1",
+                "first": "2",
+                "at": "2025-03-10T10:00:00+01:00",
+                "gross_kg": "12000",
+                "tare_kg": "",
+                "net_kg": "18000",
+                "direction": "in",
+            },
+            rows[2],
+        )
+        self.assertEqual(
+            ("8000", "12000", ""), tuple(rows[4][it] for it in ("tare_kg", "net_kg", "direction"))
+        )
+        self.assertEqual(("7", ""), (rows[6]["first"], rows[6]["gross_kg"]))
+
+    def test_the_whole_day_is_the_table_for_a_page(self):
+        found = whole_day_of(self.lists, NOON)
+        self.assertEqual(("2025-03-10", 10), (found["day"], found["sums"]["entries"]))
+        self.assertEqual(
+            ["", "", "in", "out", "", "", "", "", "", "out"],
+            [it["direction"] for it in found["entries"]],
+        )
