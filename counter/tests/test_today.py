@@ -1,12 +1,20 @@
 """The local day: which entries are of it, what they sum to, and their table."""
 
+import asyncio
 import csv
 import datetime
 import io
+import re
+import tempfile
 import unittest
 import zoneinfo
+from pathlib import Path
+from unittest import mock
 
+from weighbridge_counter.counter import Counter
 from weighbridge_counter.lists import Lists
+from weighbridge_counter.pages import Page
+from weighbridge_counter.setup import Setup
 from weighbridge_counter.today import MOST_LISTED, day_of, midnight, table_of, whole_day_of
 
 from .test_lists import BERLIN, export, row
@@ -121,3 +129,25 @@ class ALocalDay(unittest.TestCase):
             ["", "", "in", "out", "", "", "", "", "", "out"],
             [it["direction"] for it in found["entries"]],
         )
+
+
+class Midnight(unittest.IsolatedAsyncioTestCase):
+    async def test_an_open_page_begins_the_new_day_once(self):
+        folder = tempfile.TemporaryDirectory()
+        self.addCleanup(folder.cleanup)
+        counter, now = Counter(Setup(Path(folder.name), zone=BERLIN)), [NOON]
+        page, counter.day = Page([], lambda: None), NOON.date()
+        counter.pages.add(page)
+        told = lambda: re.findall(r"event: (lists|tares)", b"".join(page.frames).decode())
+        with (
+            mock.patch.object(counter, "now", lambda: now[0]),
+            mock.patch("weighbridge_counter.counter.STATE_EVERY", 0.001),
+        ):
+            regularly = asyncio.ensure_future(counter._tell_regularly())
+            now[0] = NOON.replace(hour=23, minute=59, second=59)
+            await asyncio.sleep(0.05)
+            self.assertEqual([], told())
+            now[0] += datetime.timedelta(seconds=1)
+            await asyncio.sleep(0.05)
+            self.assertEqual(["lists", "tares"], told())
+        regularly.cancel()
