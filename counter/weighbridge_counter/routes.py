@@ -16,7 +16,8 @@ from weighbridge_paper.text import NoText
 
 from .counter import Counter
 from .files import NoFile
-from .health import health_of, metrics_of
+from .health import health_of
+from .metrics import TEXT_FORM, metrics_of
 from .office import Answer, NoAnswer
 from .pages import Page, frame_of
 from .slips import NoText as NoRow
@@ -381,6 +382,4 @@ class Routes:
         return as_json(health, 200 if health["can_weigh"] else 503)
 
     async def metrics(self, request: web.Request) -> web.StreamResponse:
-        return as_text(
-            metrics_of(self.counter).encode(), 200, "text/plain; version=0.0.4; charset=utf-8"
-        )
+        return as_text(metrics_of(self.counter).encode(), 200, TEXT_FORM)
