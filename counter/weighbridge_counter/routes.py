@@ -12,6 +12,7 @@ from typing import Any, TypeVar
 
 from aiohttp import web
 
+from weighbridge_paper.export import NoExport, has_key
 from weighbridge_paper.text import NoText
 
 from .counter import Counter
@@ -20,8 +21,6 @@ from .health import health_of
 from .metrics import TEXT_FORM, metrics_of
 from .office import Answer, NoAnswer
 from .pages import Page, frame_of
-from .slips import NoText as NoRow
-from .slips import has_key
 from .tares import BadTare
 from .terminal import NotSent, Unanswered
 
@@ -301,7 +300,7 @@ class Routes:
     async def text_to_print(self, number: int) -> tuple[dict[str, str], int]:
         """As it passed, if it did: so a paper needs no office."""
         passed = self.counter.books.lists.texts.get(number)
-        return ({"text": passed}, 200) if passed is not None else await self.text_of(number)
+        return ({"text": passed.letters}, 200) if passed is not None else await self.text_of(number)
 
     async def paper_for_browser(self, request: web.Request) -> web.StreamResponse:
         """What the page prints itself, noted as printed."""
@@ -342,7 +341,7 @@ class Routes:
                 return as_json({"found": None}, 503)
             look = functools.partial(has_key, answer.text, request.match_info["key"])
             return as_json({"found": await asyncio.get_running_loop().run_in_executor(None, look)})
-        except (NoAnswer, NoRow):
+        except (NoAnswer, NoExport):
             return as_json({"found": None}, 502)
 
     async def refresh(self, request: web.Request) -> web.StreamResponse:
