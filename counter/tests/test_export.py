@@ -136,6 +136,7 @@ class TheRows(unittest.TestCase):
             good[:-40],
             good + "\n",
             good.replace("\n", "\r\n"),
+            good[:-1] + "\r\n",
             good.replace(",K1,", ",K1,,"),
             good.replace(",K1,", ","),
             good.replace("K1", '"K1'),
