@@ -121,6 +121,10 @@ class Routes:
             return await handler(request)
         except NoFile:
             return as_json({"why": "no_file"}, 503)
+        except ConnectionError:
+            raise  # the client's connection is cut
+        except web.RequestPayloadError:
+            return as_text(b"fault 400 malformed\n", 400)
         except OSError:
             if not request.path.startswith(("/papers", "/jobs")):
                 raise
