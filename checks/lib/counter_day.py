@@ -205,7 +205,7 @@ def show(program):
         )
         becomes(
             "the lists have all of them",
-            lambda: f"_entries {len(rows)}\n" in bridge.ask("GET", "/metrics")[1]
+            lambda: f"_entries {len(rows)}.0\n" in bridge.ask("GET", "/metrics")[1]
             and bridge.health()["state"]["lists_whole"],
             20,
         )

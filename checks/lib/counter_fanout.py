@@ -115,8 +115,8 @@ def refused_while_held(bridge, line, seconds, by="other"):
 
 def acted_late(bridge):
     """How often the counter found a tare that acted though its sender was refused, and cleared it."""
-    found = re.search(r'what="tares_cleared"} (\d+)', bridge.ask("GET", "/metrics")[1])
-    return int(found[1]) if found else 0
+    found = re.search(r"_tares_cleared_total (\d+)\.0\n", bridge.ask("GET", "/metrics")[1])
+    return int(found[1])
 
 
 def nothing_late(bridge):

@@ -413,9 +413,7 @@ def another_journal(bridge):
 
 
 def exports_of(bridge):
-    return int(
-        (re.search(r'what="exports"\} (\d+)', bridge.ask("GET", "/metrics")[1]) or [0, "0"])[1]
-    )
+    return int(re.search(r"_exports_total (\d+)\.0\n", bridge.ask("GET", "/metrics")[1])[1])
 
 
 def copied(path, folder):

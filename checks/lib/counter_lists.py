@@ -318,7 +318,7 @@ def a_full_journal(program):
         )
         metrics = bridge.ask("GET", "/metrics")[1]
         for name in ("journal_free_places", "journal_room_days"):
-            same(f"{name} is 0", True, f"\nweighbridge_counter_{name} 0\n" in metrics)
+            same(f"{name} is 0", True, f"\nweighbridge_counter_{name} 0.0\n" in metrics)
         bridge.weigh("room-5", "second", "IN-0")
         becomes("weighing out takes no more", lambda: told()["places"] == 0)
     finally:

@@ -235,8 +235,8 @@ def hold_against_the_journal(played):
     def are_right():
         figures = bridge.ask("GET", "/metrics")[1]
         return (
-            f"_entries {len(rows)}\n" in figures
-            and f"_on_site {len(open_firsts)}\n" in figures
+            f"_entries {len(rows)}.0\n" in figures
+            and f"_on_site {len(open_firsts)}.0\n" in figures
             and bridge.health()["state"]["lists_whole"]
         )
 

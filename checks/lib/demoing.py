@@ -147,7 +147,7 @@ class Running:
     def readings(self):
         """Return the number of values that the counter has had, and the moment."""
         text = asked("GET", f"{self.clerk}metrics")[1]
-        found = re.findall(r'events_total\{what="readings_[^"]*"\} (\d+)', text)
+        found = re.findall(r'readings_total\{state="[^"]*"\} (\d+)', text)
         return sum(map(int, found)), time.monotonic()
 
     # ---- its end

@@ -16,7 +16,8 @@ from aiohttp.test_utils import make_mocked_request
 from weighbridge_counter.acts import ACT_FILE
 from weighbridge_counter.counter import Counter
 from weighbridge_counter.files import Files, NoFile, found_in, store
-from weighbridge_counter.health import faults_of, health_of, metrics_of
+from weighbridge_counter.health import faults_of, health_of
+from weighbridge_counter.metrics import metrics_of
 from weighbridge_counter.papers import Printing
 from weighbridge_counter.routes import Routes
 from weighbridge_counter.setup import Setup
@@ -363,7 +364,7 @@ class TheCounter(OnADisk):
                 list(health_of(counter)["files"].values()),
             )
             self.assertIn(
-                f"weighbridge_counter_files_written {int(fault is None)}\n", metrics_of(counter)
+                f"weighbridge_counter_files_written {float(fault is None)}\n", metrics_of(counter)
             )
 
     async def test_the_fault_stops_no_weighing_and_is_over_by_itself(self):

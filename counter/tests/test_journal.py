@@ -13,6 +13,7 @@ import unittest
 import zoneinfo
 from collections import Counter as Counts
 from pathlib import Path
+from types import SimpleNamespace
 from unittest import mock
 
 from aiohttp.test_utils import make_mocked_request
@@ -25,8 +26,8 @@ from weighbridge_counter.office import Answer
 from weighbridge_counter.papers import Printing
 from weighbridge_counter.routes import Routes
 from weighbridge_counter.setup import Setup
-from weighbridge_counter.slips import HEADER
 from weighbridge_counter.today import day_of
+from weighbridge_paper.export import HEADER
 from weighbridge_paper.layout import Template
 from weighbridge_paper.printers import Papers
 
@@ -203,6 +204,60 @@ class TheSameJournal(WithBooks):
         self.passes(journal.weigh("B-6"))
         await self.read()
         self.assertEqual((None, 6), (self.told(), len(self.on_site())))
+
+
+class WhatIsNoText(WithBooks):
+    async def test_it_leads_to_an_export_and_changes_no_list(self):
+        journal = await self.begin()
+        good = journal.weigh("B-6")
+        for text in (
+            "",
+            "refused 7 unstable\n",
+            "WEIGHING SLIP 1\n",
+            "WEIGHING SLIP 1\nPLATE A\n",
+            "WEIGHING SLIP 6\nPLATE B-6\nFIRST NO 6\nAT 2025-03-10 08:00:00\n",
+            good[:-1],
+            good + "N      10200 kg\n",
+            good.replace("FIRST", "SECOND"),
+            good.replace("18340", "18341"),
+            good.replace("NO 6", "NO 7"),
+            good.replace("12:00:00", "12:60:00"),
+            good.replace("DIGEST ", "DIGEST x"),
+        ):
+            self.books.wants_export = False
+            self.passes(text)
+            self.assertEqual(
+                (True, False, 5, []),
+                (
+                    self.books.wants_export,
+                    self.books.is_whole(),
+                    len(self.books.lists.entries),
+                    self.entries,
+                ),
+                text,
+            )
+        await self.read()
+        self.assertEqual((True, 6), (self.books.is_whole(), len(self.books.lists.entries)))
+
+    async def test_an_export_that_is_none_is_counted_and_changes_no_list(self):
+        journal = await self.begin()
+        self.books.wants_export = True
+        for export in (
+            journal.export()[:-1],
+            journal.export().replace("18340", "18340 "),
+            "store 2 disk\n",
+        ):
+            self.office.journal = SimpleNamespace(export=lambda export=export: export)
+            await self.read()
+        self.assertEqual(
+            (3, 1, True, 5),
+            (
+                self.books.counts["exports_not_understood"],
+                self.books.counts["exports"],
+                self.books.wants_export,
+                len(self.on_site()),
+            ),
+        )
 
 
 class AnotherJournal(WithBooks):

@@ -16,11 +16,13 @@ from weighbridge_counter.files import Files
 from weighbridge_counter.lists import Lists
 from weighbridge_counter.service import Service, program_of
 from weighbridge_counter.setup import SetupFault, languages, read_setup
-from weighbridge_counter.slips import HEADER, NoText, entry_of_text, has_key, slip_of_row
+from weighbridge_counter.slips import slip_of_row
 from weighbridge_counter.tares import BadTare, Tares
 from weighbridge_counter.tares import Kept as KeptTare
 from weighbridge_counter.today import day_of
 from weighbridge_counter.zero import Zero
+from weighbridge_paper.export import HEADER, NoExport, has_key, rows_of
+from weighbridge_paper.text import read_text
 
 from .played import at_once
 
@@ -40,14 +42,33 @@ def export(*rows):
     return "\n".join((HEADER, *rows, ""))
 
 
-def slip(number, kind, plate, gross="18340", more=""):
-    g = f"G {gross:>10} kg\n" if gross else ""
-    return f"WEIGHING {'TICKET' if more else 'SLIP'} {number}\nPLATE {plate}\n{more}{kind} NO {number}\nAT 2025-03-10 08:00:00\n{g}E 20 kg MAX 60000 kg SERIAL WB01\nDIGEST {ZEROS}\n"
+def block(number, kind, gross, preset=None):
+    weights = "".join(
+        f"{name} {kg:>10} kg\n" for name, kg in (("G", gross), ("PT", preset)) if kg is not None
+    )
+    return f"{kind} NO {number}\nAT 2025-03-10 08:00:00\n{weights}E 20 kg MAX 60000 kg SERIAL WB01\nDIGEST {ZEROS}\n"
+
+
+def slip(number, kind, plate, gross=18340, first=None, preset=None):
+    """Return a slip or ticket that was read. `first` is the number and the gross of a Second's First."""
+    net = gross - preset if preset else abs(gross - first[1]) if first else None
+    return read_text(
+        f"WEIGHING {'SLIP' if net is None else 'TICKET'} {number}\nPLATE {plate}\n"
+        + (block(first[0], "FIRST", first[1]) if first else "")
+        + block(number, kind, gross, preset)
+        + ("" if net is None else f"N {net:>10} kg\n")
+    )
+
+
+def row_of(text):
+    """Return the only row of an export that has it."""
+    (found,) = rows_of(export(text))
+    return found
 
 
 class Texts(unittest.TestCase):
     def test_a_slip_is_made_again_letter_for_letter(self):
-        self.assertEqual(SLIP, slip_of_row(ROW))
+        self.assertEqual(SLIP, slip_of_row(row_of(ROW)))
 
     def test_a_changed_row_gives_none(self):
         for old, new in (
@@ -60,7 +81,7 @@ class Texts(unittest.TestCase):
             (ZEROS, "1" * 64),
             ("first", "void"),
         ):
-            self.assertIsNone(slip_of_row(ROW.replace(old, new)), old)
+            self.assertIsNone(slip_of_row(row_of(ROW.replace(old, new))), old)
 
     def test_a_key_is_found_in_the_column_of_keys_only(self):
         signed = f"2,20,second,WB01,2025-03-10 09:30:00,8140,,20,60000,WB01,{DIGEST[::-1]},{DIGEST}"
@@ -95,13 +116,8 @@ class Texts(unittest.TestCase):
             export(ROW)[:-1],
             export(ROW)[:-40],
         ):
-            with self.assertRaises(NoText):
+            with self.assertRaises(NoExport):
                 has_key(text, "K1")
-
-    def test_what_is_no_slip_is_refused(self):
-        for text in ("", "refused 7 unstable\n", "WEIGHING SLIP 1\n", "WEIGHING SLIP 1\nPLATE A\n"):
-            with self.assertRaises(NoText):
-                entry_of_text(text)
 
 
 class TheLists(unittest.TestCase):
@@ -115,12 +131,11 @@ class TheLists(unittest.TestCase):
             ),
         )
         self.assertEqual(["EF-56", "AB-12"], [it["plate"] for it in lists.on_site()])
-        first = "FIRST NO 1\nAT 2025-03-10 08:00:00\nG      18340 kg\n"
-        entry, is_new = lists.passed(slip(4, "SECOND", "AB-12", "8140", first))
+        entry, is_new = lists.passed(slip(4, "SECOND", "AB-12", 8140, (1, 18340)))
         self.assertTrue(is_new and lists.is_whole)
         self.assertEqual((10200, 1), (lists.shown(4)["net"], lists.shown(4)["first"]))
         self.assertEqual(13340, lists.shown(2)["net"])
-        lists.passed(slip(5, "VOID", "EF-56", ""))
+        lists.passed(slip(5, "VOID", "EF-56", None))
         self.assertEqual([], lists.on_site())
 
     def test_plates_weighed_before_are_told_if_they_are_near_one_on_site(self):
@@ -131,9 +146,9 @@ class TheLists(unittest.TestCase):
         ]
         lists = Lists.of_export(BERLIN, export(*rows))
         self.assertEqual(["RAKM1237"], lists.near.shown())
-        lists.passed(slip(4, "SINGLE", "RA-KM-1226"))
+        lists.passed(slip(4, "SINGLE", "RA-KM-1226", preset=5000))
         self.assertEqual(["RAKM1226", "RAKM1237"], lists.near.shown())
-        lists.passed(slip(5, "VOID", "RA-KM-1236", ""))
+        lists.passed(slip(5, "VOID", "RA-KM-1236", None))
         self.assertEqual([], lists.near.shown())
 
     def test_before_an_export_was_read_no_plate_counts_as_weighed(self):
@@ -148,11 +163,14 @@ class TheLists(unittest.TestCase):
 
     def test_a_second_of_a_first_that_is_not_known_is_missed(self):
         lists = Lists.of_export(BERLIN, export(ROW))
-        lists.passed(
-            slip(
-                2, "SECOND", "ZZ-1", "8140", "FIRST NO 9\nAT 2025-03-10 08:00:00\nG      18340 kg\n"
-            )
+        lists.passed(slip(2, "SECOND", "ZZ-1", 8140, (1, 18340)))
+        self.assertFalse(lists.is_whole)
+
+    def test_the_next_second_of_another_first_than_the_open_one_is_missed(self):
+        lists = Lists.of_export(
+            BERLIN, export(*(row(it, "first", f"A-{it}", 1000) for it in (1, 2, 3)))
         )
+        lists.passed(slip(4, "SECOND", "A-3", 8140, (2, 18340)))
         self.assertFalse(lists.is_whole)
 
     def test_a_text_that_comes_again_is_not_new(self):
@@ -161,7 +179,7 @@ class TheLists(unittest.TestCase):
             [False, True, False],
             [
                 lists.passed(it)[1]
-                for it in (SLIP, slip(2, "FIRST", "EF-56"), slip(2, "FIRST", "EF-56"))
+                for it in (read_text(SLIP), slip(2, "FIRST", "EF-56"), slip(2, "FIRST", "EF-56"))
             ],
         )
 
@@ -200,7 +218,7 @@ class TheLists(unittest.TestCase):
 
     def test_what_is_no_export_is_refused(self):
         for text in ("", "store 2 disk\n", export(ROW + ",more")):
-            with self.assertRaises(NoText):
+            with self.assertRaises(NoExport):
                 Lists.of_export(BERLIN, text)
 
 

@@ -110,17 +110,18 @@ class ALocalDay(unittest.TestCase):
                 "plate": "IN-1",
                 "first": "2",
                 "at": "2025-03-10T10:00:00+01:00",
-                "gross_kg": "12000",
-                "tare_kg": "",
-                "net_kg": "18000",
+                "gross_in_kg": "12000",
+                "tare_in_kg": "",
+                "net_in_kg": "18000",
                 "direction": "in",
             },
             rows[2],
         )
         self.assertEqual(
-            ("8000", "12000", ""), tuple(rows[4][it] for it in ("tare_kg", "net_kg", "direction"))
+            ("8000", "12000", ""),
+            tuple(rows[4][it] for it in ("tare_in_kg", "net_in_kg", "direction")),
         )
-        self.assertEqual(("7", ""), (rows[6]["first"], rows[6]["gross_kg"]))
+        self.assertEqual(("7", ""), (rows[6]["first"], rows[6]["gross_in_kg"]))
 
     def test_the_whole_day_is_the_table_for_a_page(self):
         found = whole_day_of(self.lists, NOON)

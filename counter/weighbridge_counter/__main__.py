@@ -9,10 +9,9 @@ import sys
 from collections.abc import Iterator, Sequence
 from pathlib import Path
 
-from aiohttp import web
-
 from weighbridge_paper.reader import Address, SetupFault, trouble_of_folder
 
+from .connections import listen
 from .counter import Counter
 from .ports import open_port
 from .routes import Routes
@@ -66,10 +65,8 @@ def of_address(key: str, address: Address) -> Iterator[None]:
 
 async def serve(setup: Setup) -> None:
     counter = Counter(setup)
-    runner = web.AppRunner(Routes(counter, FOLDER).application(), access_log=None)
-    await runner.setup()
     with of_address("listen", setup.listen):
-        await web.TCPSite(runner, *setup.listen, shutdown_timeout=0.2).start()
+        server = await listen(Routes(counter, FOLDER).application(), setup.listen)
     ports = []
     for port in setup.ports:
         with of_address(f"port {port.name}", port.listen):

@@ -7,10 +7,13 @@ import zoneinfo
 from collections import Counter
 from collections.abc import Callable, Mapping
 
+from weighbridge_paper.export import NoExport
+from weighbridge_paper.text import NoText, Text, read_text
+
 from .journal import SHORTER, Journal, Known, changed_by, why_another
 from .lists import Lists
 from .office import Answer, NoAnswer, Office
-from .slips import Entry, NoText, serial_of_text
+from .slips import Entry
 
 LOOK_EVERY = 0.25  # seconds
 EMPTY_FOR = 3.0  # seconds that the bridge is empty before the counter asks for an export, because an export delays the office
@@ -50,17 +53,19 @@ class Books:
 
     # ---- what passes
 
-    def passed(self, text: str, asked: Mapping[str, str]) -> None:
+    def passed(self, letters: str, asked: Mapping[str, str]) -> None:
+        """Add a text that the office returned. If it isn't in the office's form, ask for an export."""
         self.places += 1
         try:
-            entry, is_new = self._take(text, self.places)
-        except (NoText, ValueError):
+            text = read_text(letters)
+        except NoText:
             self.wants_export = True
             return
+        entry, is_new = self._take(text, self.places)
         if is_new:
             self.on_entry(entry)
 
-    def _take(self, text: str, place: int) -> tuple[Entry, bool]:
+    def _take(self, text: Text, place: int) -> tuple[Entry, bool]:
         """Add a text to the lists. If it is from another journal, start the lists again, because the office answers only from its own journal."""
         is_another, known = self.lists.contradicts(text), self.lists.known(place)
         if is_another:
@@ -68,7 +73,7 @@ class Books:
         entry, is_new = self.lists.passed(text, place)
         if is_another:
             self._begin_again(
-                SHORTER if entry.number < known.last else changed_by(known, serial_of_text(text)),
+                SHORTER if entry.number < known.last else changed_by(known, text.own.serial),
                 known,
             )
             self.on_lists()
@@ -126,7 +131,7 @@ class Books:
         except NoAnswer:
             self.state = "no_answer"
             return
-        except (NoText, ValueError):
+        except NoExport:
             self.counts["exports_not_understood"] += 1
             return
         self._take_export(read, why, known, place)

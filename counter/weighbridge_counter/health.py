@@ -1,11 +1,8 @@
-"""What monitoring asks: `/health` for people and load balancers, `/metrics` in the text form of Prometheus."""
+"""The answer to `/health`, for people and load balancers."""
 
-import math
 from typing import Any
 
 from .counter import Counter
-
-PREFIX = "weighbridge_counter"
 
 
 def service_of(counter: Counter) -> dict[str, Any] | None:
@@ -65,69 +62,3 @@ def health_of(counter: Counter) -> dict[str, Any]:
             str(counter.files.path(name)): why for name, why in sorted(counter.files.faults.items())
         },
     }
-
-
-def metrics_of(counter: Counter) -> str:
-    fanout, books, room = counter.terminal.fanout, counter.books, counter.room()
-    age = fanout.age()
-    is_fresh = fanout.is_fresh() and fanout.value is not None
-    lines = [
-        f"# HELP {PREFIX}_events_total What happened since the counter's start.",
-        f"# TYPE {PREFIX}_events_total counter",
-    ]
-    lines += [
-        f'{PREFIX}_events_total{{what="{name}"}} {count}'
-        for name, count in sorted(counter.counts.items())
-    ]
-    gauges: dict[str, tuple[str, float | None]] = {
-        "value_age_seconds": ("Age of the newest value.", age),
-        "net_kg": (
-            "The weight that is indicated, net if a tare is in force.",
-            fanout.value.kg if is_fresh and fanout.value else None,
-        ),
-        "tare_kg": ("The tare in force.", fanout.tare),
-        "reading_period_seconds": ("Time between two values.", fanout.period),
-        "terminal_up": (
-            "1 if the terminal sends values.",
-            fanout.link == "up" and not fanout.is_held(),
-        ),
-        "office_up": (
-            "1 if the office answered its last request, with its journal open.",
-            books.state == "ok",
-        ),
-        "zero_known": ("1 if zero was set since the service was started.", counter.zero.is_set),
-        "lists_whole": ("1 if nothing is known to be missing on the lists.", books.is_whole()),
-        "entries": ("Entries on the lists.", len(books.lists.entries)),
-        "newest_entry": ("Number of the newest entry.", books.lists.last),
-        "on_site": ("Vehicles that were weighed in, and not out.", len(books.lists.open)),
-        "journal_free_places": (
-            "Places of the journal that are free.",
-            room.places if room else None,
-        ),
-        "journal_room_days": (
-            "Days for which the free places last, by the entries of the last two weeks.",
-            room.days if room else None,
-        ),
-        "export_seconds": ("Time that the last export and its reading took.", books.export_seconds),
-        "files_written": (
-            "1 if the disk took each file of the counter's own.",
-            not counter.files.faults,
-        ),
-        "papers_waiting": (
-            "Papers that wait for a printer, or failed.",
-            len(counter.printing.jobs),
-        ),
-        "pages": ("Event streams that are open.", len(counter.pages.open)),
-        "service_start_seconds": (
-            "Start of the service, in seconds since 1970.",
-            counter.service.started_at() if counter.service else None,
-        ),
-    }
-    for name, (help_text, value) in gauges.items():
-        number = math.nan if value is None else float(value)
-        lines += [
-            f"# HELP {PREFIX}_{name} {help_text}",
-            f"# TYPE {PREFIX}_{name} gauge",
-            f"{PREFIX}_{name} {'NaN' if math.isnan(number) else f'{number:.10g}'}",
-        ]
-    return "\n".join(lines) + "\n"

@@ -14,8 +14,10 @@ from collections.abc import Mapping
 from dataclasses import dataclass, field
 from typing import Any
 
+from weighbridge_paper.export import Row
+from weighbridge_paper.text import ZEROS
+
 from .files import Files, tell
-from .slips import ZEROS, digest_of_row, previous_of_row, serial_of_row
 
 FILE = "journal.json"
 SHORTER, EMPTY, CHANGED, SERIAL = "shorter", "empty", "changed", "serial"
@@ -31,7 +33,7 @@ WORDS = {
 class Known:
     """Facts about the journal: rows of an export, digests of texts that passed, and the first number, which only an export shows."""
 
-    rows: Mapping[int, str] = field(default_factory=dict)
+    rows: Mapping[int, Row] = field(default_factory=dict)
     digests: Mapping[int, str] = field(default_factory=dict)
     first: int | None = None
     last: int = 0
@@ -41,13 +43,13 @@ class Known:
         return (
             self.digests[number]
             if number in self.digests
-            else digest_of_row(self.rows[number])
+            else self.rows[number].digest
             if number in self.rows
             else None
         )
 
 
-def why_another(known: Known, rows: Mapping[int, str]) -> str | None:
+def why_another(known: Known, rows: Mapping[int, Row]) -> str | None:
     """Return why an export isn't of the known journal. Return None if it is, or if no journal is known."""
     if known.last == 0:
         return None
@@ -56,10 +58,10 @@ def why_another(known: Known, rows: Mapping[int, str]) -> str | None:
     first, last = min(rows), max(rows)
     has_common = False
     for number, row in rows.items():
-        if number in known.digests or (number in known.rows and known.rows[number] != row):
-            if known.digest(number) != digest_of_row(row):
-                return changed_by(known, serial_of_row(row))
-        has_common = has_common or number in known.digests or number in known.rows
+        before = known.digest(number)
+        if before is not None and before != row.digest:
+            return changed_by(known, row.serial)
+        has_common = has_common or before is not None
     if last < known.last:
         return SHORTER
     if has_common:
@@ -69,23 +71,19 @@ def why_another(known: Known, rows: Mapping[int, str]) -> str | None:
             for number in it
         )
         return CHANGED if is_gone or (known.first is not None and first < known.first) else None
-    return (
-        None
-        if follows(known, rows[first], first)
-        else changed_by(known, serial_of_row(rows[first]))
-    )
+    return None if follows(known, rows[first]) else changed_by(known, rows[first].serial)
 
 
 def changed_by(known: Known, serial: str) -> str:
     return SERIAL if known.serial not in (None, serial) else CHANGED
 
 
-def follows(known: Known, row: str, number: int) -> bool:
+def follows(known: Known, row: Row) -> bool:
     """Return True if a first entry may follow a purge of all known entries.
 
     Its number is the next one then. Its previous digest is that of the last known entry, or zeros.
     """
-    return number == known.last + 1 and previous_of_row(row) in (ZEROS, known.digest(known.last))
+    return row.number == known.last + 1 and row.previous in (ZEROS, known.digest(known.last))
 
 
 class Journal:

@@ -5,19 +5,12 @@ import datetime
 import zoneinfo
 from typing import Any
 
+from weighbridge_paper.export import Row, rows_of
+from weighbridge_paper.text import Text
+
 from .journal import Known
 from .near import Near
-from .slips import (
-    Entry,
-    digest_of_row,
-    digest_of_text,
-    entry_of_row,
-    entry_of_text,
-    rows_of,
-    serial_of_row,
-    serial_of_text,
-    slip_of_row,
-)
+from .slips import Entry, entry_of_row, entry_of_text, slip_of_row
 
 MOST_TEXTS = 2000  # that are kept as they passed
 MOST_HITS = 60
@@ -27,8 +20,8 @@ class Lists:
     def __init__(self, zone: zoneinfo.ZoneInfo) -> None:
         self.zone = zone
         self.entries: dict[int, Entry] = {}
-        self.rows: dict[int, str] = {}  # of the export, for a slip again
-        self.texts: dict[int, str] = {}  # as they passed
+        self.rows: dict[int, Row] = {}  # of the export, for a slip again
+        self.texts: dict[int, Text] = {}  # as they passed
         self.places: dict[int, int] = {}  # of each text among all that passed
         self.first: int | None = None  # the first number of the export that they are made of
         self.is_of_export = False
@@ -44,13 +37,12 @@ class Lists:
     # ---- what comes
 
     @classmethod
-    def of_export(cls, zone: zoneinfo.ZoneInfo, text: str) -> "Lists":
-        """Return the lists of an export. This may run in a thread of its own."""
+    def of_export(cls, zone: zoneinfo.ZoneInfo, export: str) -> "Lists":
+        """Return the lists of an export. This may run in a thread of its own. Raises NoExport."""
         made = cls(zone)
-        for row in rows_of(text):
-            entry = entry_of_row(row)
-            made.rows[entry.number] = row
-            made._take(entry)
+        for row in rows_of(export):
+            made.rows[row.number] = row
+            made._take(entry_of_row(row))
         made.first = min(made.rows, default=None)
         made.is_whole = made.is_of_export = True
         made.near.shown()  # in this thread, where it delays nothing
@@ -64,15 +56,11 @@ class Lists:
         # an export's rows are in the order of their numbers
         last = max(next(reversed(self.rows), 0), max(texts, default=0))
         serial = (
-            serial_of_text(texts[last])
-            if last in texts
-            else serial_of_row(self.rows[last])
-            if last
-            else None
+            texts[last].own.serial if last in texts else self.rows[last].serial if last else None
         )
         return Known(
             self.rows,
-            {number: digest_of_text(text) for number, text in texts.items()},
+            {number: text.own.digest for number, text in texts.items()},
             self.first,
             last,
             serial,
@@ -81,28 +69,29 @@ class Lists:
     def with_texts_of(self, older: "Lists") -> None:
         """Keep the texts of `older` that passed, if their entries are in these lists too."""
         for number, text in older.texts.items():
-            if number in self.rows and digest_of_row(self.rows[number]) == digest_of_text(text):
+            if number in self.rows and self.rows[number].digest == text.own.digest:
                 self.texts[number], self.places[number] = text, older.places[number]
 
-    def passed_since(self, place: int) -> list[tuple[int, str]]:
+    def passed_since(self, place: int) -> list[tuple[int, Text]]:
         """Return the texts that passed after a place, each with its own place, in the order in which they passed."""
-        return sorted(
+        found = [
             (self.places[number], text)
             for number, text in self.texts.items()
             if self.places[number] > place
-        )
+        ]
+        return sorted(found, key=lambda it: it[0])
 
-    def contradicts(self, text: str) -> bool:
+    def contradicts(self, text: Text) -> bool:
         """Return True if a text is from another journal.
 
         Then its entry is here with another digest, or the export ends at or after its number but has no such entry.
         """
-        number = entry_of_text(text).number
+        number = text.own.number
         if number not in self.entries:
             return number <= next(reversed(self.rows), 0)
-        return self.digest_of(number) != digest_of_text(text)
+        return self.digest_of(number) != text.own.digest
 
-    def passed(self, text: str, place: int = 0) -> tuple[Entry, bool]:
+    def passed(self, text: Text, place: int = 0) -> tuple[Entry, bool]:
         """Takes a text that the office answered with 201. Gives its entry, and whether it is new here."""
         entry = entry_of_text(text)
         self.texts[entry.number], self.places[entry.number] = text, place
@@ -145,15 +134,15 @@ class Lists:
     def digest_of(self, number: int) -> str | None:
         """The digest of an entry, as it passed or as the export has it."""
         if number in self.texts:
-            return digest_of_text(self.texts[number])
-        return digest_of_row(self.rows[number]) if number in self.rows else None
+            return self.texts[number].own.digest
+        return self.rows[number].digest if number in self.rows else None
 
     # ---- what is shown
 
     def slip_again(self, number: int) -> tuple[str | None, str] | None:
         """The text of an entry and where it is from: `passed`, or `export`, with None if its digest isn't that of its fields. None: it isn't here."""
         if number in self.texts:
-            return self.texts[number], "passed"
+            return self.texts[number].letters, "passed"
         if number in self.rows:
             return slip_of_row(self.rows[number]), "export"
         return None

@@ -12,15 +12,15 @@ from typing import Any, TypeVar
 
 from aiohttp import web
 
+from weighbridge_paper.export import NoExport, has_key
 from weighbridge_paper.text import NoText
 
 from .counter import Counter
 from .files import NoFile
-from .health import health_of, metrics_of
+from .health import health_of
+from .metrics import TEXT_FORM, metrics_of
 from .office import Answer, NoAnswer
 from .pages import Page, frame_of
-from .slips import NoText as NoRow
-from .slips import has_key
 from .tares import BadTare
 from .terminal import NotSent, Unanswered
 from .today import table_of, whole_day_of
@@ -125,6 +125,10 @@ class Routes:
             return await handler(request)
         except NoFile:
             return as_json({"why": "no_file"}, 503)
+        except ConnectionError:
+            raise  # the client's connection is cut
+        except web.RequestPayloadError:
+            return as_text(b"fault 400 malformed\n", 400)
         except OSError:
             if not request.path.startswith(("/papers", "/jobs")):
                 raise
@@ -307,7 +311,7 @@ class Routes:
     async def text_to_print(self, number: int) -> tuple[dict[str, str], int]:
         """As it passed, if it did: so a paper needs no office."""
         passed = self.counter.books.lists.texts.get(number)
-        return ({"text": passed}, 200) if passed is not None else await self.text_of(number)
+        return ({"text": passed.letters}, 200) if passed is not None else await self.text_of(number)
 
     async def paper_for_browser(self, request: web.Request) -> web.StreamResponse:
         """What the page prints itself, noted as printed."""
@@ -355,7 +359,7 @@ class Routes:
                 return as_json({"found": None}, 503)
             look = functools.partial(has_key, answer.text, request.match_info["key"])
             return as_json({"found": await asyncio.get_running_loop().run_in_executor(None, look)})
-        except (NoAnswer, NoRow):
+        except (NoAnswer, NoExport):
             return as_json({"found": None}, 502)
 
     async def refresh(self, request: web.Request) -> web.StreamResponse:
@@ -398,6 +402,4 @@ class Routes:
         return as_json(health, 200 if health["can_weigh"] else 503)
 
     async def metrics(self, request: web.Request) -> web.StreamResponse:
-        return as_text(
-            metrics_of(self.counter).encode(), 200, "text/plain; version=0.0.4; charset=utf-8"
-        )
+        return as_text(metrics_of(self.counter).encode(), 200, TEXT_FORM)

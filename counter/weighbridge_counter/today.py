@@ -10,7 +10,17 @@ from typing import Any
 from .lists import Lists
 
 MOST_LISTED = 1000  # that the pages get; `GET /today` has all
-COLUMNS = ("number", "kind", "plate", "first", "at", "gross_kg", "tare_kg", "net_kg", "direction")
+COLUMNS = (
+    "number",
+    "kind",
+    "plate",
+    "first",
+    "at",
+    "gross_in_kg",
+    "tare_in_kg",
+    "net_in_kg",
+    "direction",
+)
 
 
 @dataclass(frozen=True)

@@ -7,6 +7,7 @@ from collections.abc import Iterable
 from pathlib import Path
 
 from .devices import TROUBLES
+from .export import COLUMNS, NoExport, records_of, whole
 from .layout import given_of
 from .printers import Papers, Printer, read_papers
 from .printing import Worker
@@ -16,7 +17,6 @@ from .text import NoText, Text, check_digests, read_text
 from .words import FREE_LINES
 
 AGAIN_AFTER = 0.5  # seconds between two tries
-COLUMNS_OF_EXPORT = ("number", "key", "digest")
 STATES = {"waits": "waits", "begun": "is being printed", "failed": "failed", "printed": "printed"}
 ABOUT = """Prints the office's text of a slip or ticket, which comes on standard input. What isn't in the office's form is refused. The first print of a text is
 the original; each further one is marked DUPLICATE, that of a First's slip COPY."""
@@ -125,11 +125,11 @@ def known_of(asked: argparse.Namespace, text: Text) -> tuple[dict[int, str], dic
     keys, digests = {}, {}
     if asked.against is not None:
         try:
-            header, *rows = asked.against.read_text(encoding="utf-8").split("\n")
-            number, key, digest = (header.split(",").index(it) for it in COLUMNS_OF_EXPORT)
-            for row in (it.split(",") for it in rows if it):
-                keys[int(row[number])], digests[int(row[number])] = row[key], row[digest]
-        except (OSError, ValueError, IndexError):
+            for fields in records_of(asked.against.read_text(encoding="utf-8")):
+                row = dict(zip(COLUMNS, fields))
+                number = whole(row["number"])
+                keys[number], digests[number] = row["key"], row["digest"]
+        except (OSError, ValueError, NoExport):
             raise NoText(
                 f"{asked.against} is no export of the journal, so it can't be checked against it"
             ) from None

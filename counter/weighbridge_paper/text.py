@@ -27,7 +27,7 @@ class NoText(Exception):
     """It is no text of the office: why."""
 
 
-@dataclass(frozen=True)
+@dataclass(frozen=True, slots=True)
 class Weighing:
     """The block of an entry."""
 
@@ -42,7 +42,7 @@ class Weighing:
     digest: str
 
 
-@dataclass(frozen=True)
+@dataclass(frozen=True, slots=True)
 class Text:
     letters: str  # as the office wrote them
     plate: str
