@@ -14,7 +14,10 @@ LOOKS = [
     (360, 740, True, "en"),
     (1000, 640, False, "fr"),
     (360, 640, True, "es"),
+    (1280, 900, False, "es"),
+    (640, 400, False, "de"),  # 1280 by 800 px at a zoom of 200 %
 ]
+IN_SIGHT = "const it = document.getElementById('go').getBoundingClientRect(); return it.top >= 0 && it.bottom <= innerHeight"
 # Text whose colour is too near to what is behind it.
 FAINT = """
 const numbers = text => (text.match(/[\\d.]+/g) || []).map(Number);
@@ -81,6 +84,8 @@ def looks(bridge):
             look("alike")
             clerk.keys(ESCAPE + "LOOK-ALIKE-1")
             look("ready")
+            if width > 360 and not clerk.browser.run(IN_SIGHT):
+                found.append("ready: the green button is out of sight")
             clerk.keys(ESCAPE + "A B!")
             look("no plate")
             clerk.keys(ESCAPE)

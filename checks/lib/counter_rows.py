@@ -145,6 +145,27 @@ def a_press_that_lasts(bridge, clerk):
     clerk.keys(ESCAPE)
 
 
+def letters_after_a_reprint(bridge, clerk):
+    """Print again by the mouse, from a row and by the button. The letters that follow are the next plate."""
+    for what, press in (
+        (
+            "from a row",
+            "[...document.querySelectorAll('#entry-tools button')].find(it => it.textContent === 'Print again').click()",
+        ),
+        ("by the button", "document.getElementById('last').click()"),
+    ):
+        clerk.keys(ESCAPE)
+        before = len(clerk.papers())
+        if what == "from a row":
+            clerk.browser.click("#today .menu")
+            becomes("the dialog is there", lambda: clerk.browser.run(DIALOG))
+        clerk.browser.run(press)
+        becomes(f"a reprint {what}", lambda: len(clerk.papers()) > before)
+        clerk.keys("HB-KW-77")
+        same(f"after a reprint {what} letters are the next plate", "HB-KW-77", clerk.plate())
+    clerk.keys(ESCAPE)
+
+
 def a_ticket_of_each_way(bridge):
     for at, (kind, plate, load, tare) in enumerate(
         (("second", "BR-TW-22", 4000, None), ("single", "TA-RE-55", 9170, 5000))
@@ -223,6 +244,7 @@ def show(program, bridge=None):
         a_press_that_lasts(bridge, clerk)
         a_ticket_of_each_way(bridge)
         the_day(bridge, clerk)
+        letters_after_a_reprint(bridge, clerk)
         what_an_entry_costs(bridge, clerk)
     finally:
         if clerk:

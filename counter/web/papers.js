@@ -40,8 +40,10 @@ export async function openEntry(entry, printers, press, isOpenFirst, withdraw) {
   part('entry-text').textContent = text ?? why;
   part('entry-from').textContent = text === undefined ? '' : `${t(`from_${from}`)} ${t('in_utc')}`;
   const tools = [];
-  if (text !== undefined) tools.push(button(t('print_again'), () => press(entry.number), { autofocus: true }));
-  if (text !== undefined && printers.length) tools.push(button(t('print_by_browser'), () => press(entry.number, true)));
+  // the dialog is closed first: it would take the letters of the next plate
+  const prints = byBrowser => () => { part('entry').close(); press(entry.number, byBrowser); };
+  if (text !== undefined) tools.push(button(t('print_again'), prints(false), { autofocus: true }));
+  if (text !== undefined && printers.length) tools.push(button(t('print_by_browser'), prints(true)));
   if (isOpenFirst()) tools.push(voidButton(entry, isOpenFirst, withdraw));
   tools.push(button(t('close'), () => part('entry').close()));
   part('entry-tools').replaceChildren(...tools);

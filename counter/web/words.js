@@ -48,7 +48,7 @@ export const dayOf = at => written(at, { day: '2-digit', month: 'short', year: '
 export const timeOf = at => written(at, { hour: '2-digit', minute: '2-digit', hourCycle: 'h23' });
 export const isToday = at => dayOf(at) === dayOf(Date.now());
 export const whenOf = at => isToday(at) ? timeOf(at) : `${dayOf(at)} ${timeOf(at)}`;
-export const clockOf = at => written(at, { weekday: 'short', hour: '2-digit', minute: '2-digit', second: '2-digit', hourCycle: 'h23', timeZoneName: 'short' });
+export const clockOf = at => written(at, { weekday: 'short', day: '2-digit', month: 'short', year: 'numeric', hour: '2-digit', minute: '2-digit', second: '2-digit', hourCycle: 'h23', timeZoneName: 'short' });
 
 export function useZone(name) { zone = name; }
 
