@@ -110,6 +110,8 @@ class PlayedOffice:
 
 class AtTheOffice(unittest.IsolatedAsyncioTestCase):
     async def asyncSetUp(self):
+        # a busy machine's slow turns are no warnings of the client
+        asyncio.get_running_loop().slow_callback_duration = 60
         self.played = await PlayedOffice().start()
         self.addCleanup(self.played.listener.close)
         self.office = Office(("127.0.0.1", self.played.port))
@@ -159,7 +161,7 @@ class AtTheOffice(unittest.IsolatedAsyncioTestCase):
     async def test_a_whole_answer_is_taken_byte_for_byte(self):
         for what, self.played.pieces in ANSWERS.items():
             for method, target, body in ASKED:
-                answer = await self.office.ask(method, target, body, within=2.0)
+                answer = await self.office.ask(method, target, body, within=10.0)
                 self.assertEqual(
                     (201, "text/plain; charset=utf-8", b"body"),
                     (answer.status, answer.kind, answer.body),
@@ -175,8 +177,9 @@ class AtTheOffice(unittest.IsolatedAsyncioTestCase):
                 for method, target, body in ASKED:
                     self.played.came.clear()
                     self.played.connections = 0
+                    within = 0.4 if STAYS in self.played.pieces else 10.0
                     with self.assertRaises(NoAnswer, msg=f"{what}, {method}"):
-                        await self.office.ask(method, target, body, within=0.25)
+                        await self.office.ask(method, target, body, within=within)
                     await asyncio.sleep(0.01)
                     self.assertEqual((1, 1), (len(self.played.came), self.played.connections), what)
 
@@ -187,8 +190,8 @@ class AtTheOffice(unittest.IsolatedAsyncioTestCase):
     async def test_silence_ends_in_time(self):
         self.played.pieces, began = (STAYS,), time.monotonic()
         with self.assertRaises(NoAnswer):
-            await self.office.ask("GET", "/indication", within=0.2)
-        self.assertLess(time.monotonic() - began, 1.5)
+            await self.office.ask("GET", "/indication", within=0.3)
+        self.assertLess(time.monotonic() - began, 1.8)
 
     async def test_a_redirect_is_an_answer_and_is_not_followed(self):
         other = await PlayedOffice().start()
