@@ -3,6 +3,7 @@
 import asyncio
 import contextlib
 import io
+import socket
 import tempfile
 import unittest
 from collections import Counter
@@ -10,7 +11,7 @@ from pathlib import Path
 
 from weighbridge_counter.acts import ACT_FILE, Acts
 from weighbridge_counter.files import Files, found_in
-from weighbridge_counter.office import Answer, NoAnswer
+from weighbridge_counter.office import Answer, NoAnswer, Office
 from weighbridge_counter.terminal import Terminal
 
 from .played import PlayedTerminal, at_once
@@ -117,6 +118,18 @@ class Passing(WithABridge):
     async def test_no_answer_is_told_as_none_and_as_sent(self):
         told = await self.weigh(self.bridge(None), b"key=K1&kind=first&plate=AB-12")
         self.assertEqual((502, True), (told.status, told.is_sent))
+
+    async def test_an_office_that_is_not_there_is_told_as_no_answer_and_as_sent(self):
+        listener = socket.create_server(("127.0.0.1", 0))
+        address = listener.getsockname()
+        listener.close()
+        bridge = self.bridge()
+        bridge.acts.office = Office(address)
+        told = await bridge.acts.carry_out("/weighings", b"key=K1&kind=first&plate=AB-12")
+        self.assertEqual(
+            (502, b"counter no_answer\n", True), (told.status, told.body, told.is_sent)
+        )
+        self.assertEqual((1, []), (bridge.acts.counts["office_no_answer"], bridge.texts))
 
     async def test_a_refusal_is_no_text(self):
         bridge = self.bridge((409, "refused 11 not_cleared\n"))

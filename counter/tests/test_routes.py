@@ -165,7 +165,8 @@ class AtTheOffice(unittest.IsolatedAsyncioTestCase):
         routes = routes_over(self.office)
         target = "/tickets/1%20HTTP%2F1.1%0D%0A%0D%0APOST%20%2Fpurge"
         self.assertEqual(404, (await routes.hand_on(make_mocked_request("GET", target))).status)
-        self.assertEqual([f"GET {target} HTTP/1.1\r\n\r\n".encode()], self.came)
+        host = "%s:%d" % self.office.address
+        self.assertEqual([f"GET {target} HTTP/1.1\r\nHost: {host}\r\n\r\n".encode()], self.came)
 
 
 if __name__ == "__main__":
