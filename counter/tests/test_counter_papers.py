@@ -94,6 +94,28 @@ class InTheCounter(unittest.IsolatedAsyncioTestCase):
         self.printing.passed(Sample("single", number=7).text, {})
         await self.becomes(lambda: self.played.printed)
 
+    async def test_a_void_names_its_first_outside_the_legal_text(self):
+        void, first = Sample("void", number=27), Sample("first", number=28)
+        self.printing.first_of = {27: 26, 28: 3, 30: 29}.get
+        texts = lambda paper: [
+            it.get("text", "") for it in paper["blocks"] if it["is"] in ("line", "rule")
+        ]
+        said = texts(await self.printing.for_browser(void.text))
+        self.assertIn("Slip 26", said)
+        self.assertNotIn("Given by the clerk. No part of the weighing.", said)
+        legal = [
+            it["text"]
+            for it in (await self.printing.for_browser(void.text))["blocks"]
+            if it["is"] == "legal"
+        ]
+        self.assertEqual([void.text], legal)
+        self.assertNotIn("Slip 3", texts(await self.printing.for_browser(first.text)))
+        self.printing.passed(Sample("void", number=30).text, {})
+        await self.becomes(lambda: self.played.printed)
+        self.assertIn(b"Slip 29", self.played.printed[0])
+        self.printing.first_of = {}.get
+        self.assertIn("Slip 26", texts(await self.printing.for_browser(void.text)), "it is kept")
+
     async def test_a_trouble_is_a_fault_and_a_press_asks_for_nothing(self):
         self.played.state = "cover_open"
         self.printing.passed(USUAL["single"].text, {})

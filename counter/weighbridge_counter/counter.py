@@ -44,7 +44,9 @@ class Counter:
         self.acts = Acts(self.terminal, self.office, self.files, setup.interval, self.counts)
         self.books = Books(self.office, setup.zone, self.counts, Journal(self.files))
         self.printing = Printing(
-            papers_of(setup), lambda number: self.books.lists.digest_of(number)
+            papers_of(setup),
+            lambda number: self.books.lists.digest_of(number),
+            lambda number: self.books.lists.partner.get(number),
         )
         self.pages = Pages()
         self.tares = Tares(

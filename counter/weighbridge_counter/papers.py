@@ -8,7 +8,7 @@ from collections.abc import Callable, Mapping
 from concurrent.futures import ThreadPoolExecutor
 from typing import Any, TypeVar
 
-from weighbridge_paper.layout import Paper, Template, blocks_of, given_of
+from weighbridge_paper.layout import WITHDRAWS, Paper, Template, blocks_of, given_of
 from weighbridge_paper.page import page_of
 from weighbridge_paper.printers import Papers
 from weighbridge_paper.printing import Worker
@@ -38,8 +38,14 @@ def papers_of(setup: Setup) -> Papers:
 
 
 class Printing:
-    def __init__(self, papers: Papers, digest_of: Callable[[int], str | None]) -> None:
-        self.papers, self.digest_of = papers, digest_of
+    def __init__(
+        self,
+        papers: Papers,
+        digest_of: Callable[[int], str | None],
+        first_of: Callable[[int], int | None] = lambda number: None,
+    ) -> None:
+        """`digest_of` and `first_of` are what the lists know of a number: its digest, and the First that it closes."""
+        self.papers, self.digest_of, self.first_of = papers, digest_of, first_of
         # opened later, because a disk that takes nothing must not stop weighing
         self.spool = Spool(papers.spool, is_opened=False)
         # one after another, in the order in which they were asked for
@@ -183,9 +189,11 @@ class Printing:
             self.on_change()
             return
 
+        given = given_of(asked) + self._first_of_void(text)
+
         def note() -> None:
             is_new = not self.spool.is_known(text)
-            paper = self.spool.take(text, given_of(asked))
+            paper = self.spool.take(text, given)
             if is_new and self.papers.by_itself is not None:
                 self.spool.put(paper, self.papers.by_itself)
 
@@ -206,6 +214,11 @@ class Printing:
                 raise
             check_digests(text, keys, {own - 1: ZEROS})
 
+    def _first_of_void(self, text: Text) -> tuple[tuple[str, str], ...]:
+        """Return what a Void's paper says of its First, if the lists know it."""
+        first = self.first_of(text.own.number) if text.own.kind == "void" else None
+        return () if first is None else ((WITHDRAWS, str(first)),)
+
     async def _noted(self, note: Callable[[], T]) -> T:
         found = await self._beside(note)
         self._wake()
@@ -215,14 +228,16 @@ class Printing:
     async def print(self, letters: str, printer: str) -> int:
         """The number of the job. Raises NoText."""
         text = read_text(letters)
-        return await self._noted(lambda: self.spool.put(self.spool.take(text), printer))
+        first = self._first_of_void(text)
+        return await self._noted(lambda: self.spool.put(self.spool.take(text, first), printer))
 
     async def for_browser(self, letters: str) -> dict[str, Any]:
         """What the page puts on paper, once it is noted. Raises NoText."""
         text = read_text(letters)
+        first = self._first_of_void(text)
 
         def note() -> dict[str, Any]:
-            paper = self.spool.take(text)
+            paper = self.spool.take(text, first)
             is_original, given = self.spool.elsewhere(paper)
             return {
                 "is_original": is_original,

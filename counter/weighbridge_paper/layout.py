@@ -10,6 +10,7 @@ from . import words
 from .text import DEMO, Text, Weighing
 
 LONGEST_GIVEN = 60  # characters of a free line
+WITHDRAWS = "withdraws"  # the name under which a Void has the number of its First
 MOST_MARKS = 2  # accents and the like on one letter
 CONTINUES = ">"  # stands before what goes on the line above; no legal text has it
 
@@ -76,7 +77,8 @@ class Paper:
     """What is printed: a text, what the clerk gave with it, and whether it is the original."""
 
     text: Text
-    given: tuple[tuple[str, str], ...] = ()  # name and value, of words.FREE_LINES
+    # name and value, of words.FREE_LINES; with a Void also WITHDRAWS and the number of its First
+    given: tuple[tuple[str, str], ...] = ()
     is_original: bool = True
 
 
@@ -98,12 +100,13 @@ def blocks_of(paper: Paper, template: Template) -> list[Block]:
     if text.own.serial == DEMO:
         made.append(Line(words.word("demo", language), "bold", True))
     made += [Line(it, "plain" if at else "bold", True) for at, it in enumerate(template.header)]
-    made += [Rule(), *headline(text, language)]
+    made += [Rule(), *headline(text, dict(paper.given).get(WITHDRAWS), language)]
     for it in text.weighings:
         made += [Rule(), *weighing(it, template)]
-    if paper.given:
+    by_clerk = [(name, value) for name, value in paper.given if name != WITHDRAWS]
+    if by_clerk:
         made.append(Rule(words.word("given_by_clerk", language)))
-        made += [Pair(words.word(name, language), value) for name, value in paper.given]
+        made += [Pair(words.word(name, language), value) for name, value in by_clerk]
     made += [
         Rule(words.word("legal_text", language)),
         Legal(text.letters, words.word("wrapped_line", language)),
@@ -113,8 +116,8 @@ def blocks_of(paper: Paper, template: Template) -> list[Block]:
     return made + marks
 
 
-def headline(text: Text, language: str) -> list[Block]:
-    """Kind and number, plate and net."""
+def headline(text: Text, withdraws: str | None, language: str) -> list[Block]:
+    """Return the kind and number, the plate and the net. A Void's text doesn't name its First, so `withdraws` does, if the counter knows it."""
     own, kind = text.own, "ticket" if text.is_ticket else "slip"
     made: list[Block] = [
         Line(f"{words.word(kind, language)} {own.number}", "title"),
@@ -133,6 +136,8 @@ def headline(text: Text, language: str) -> list[Block]:
         ]
     else:
         made.append(Line(words.word("is_withdrawn", language), "bold"))
+        if withdraws is not None:
+            made.append(Line(f"{words.word('slip', language)} {withdraws}", "large"))
     return made
 
 
