@@ -159,6 +159,11 @@ test('zero, print and search have their keys, Escape clears, letters go into the
   assert.deepEqual([deed('KeyA', {}, 'other', { key: 'a' }), deed('KeyA', {}, 'field', { key: 'a' }), deed('Space', {}, 'other', { key: ' ' })], ['typed', 'left', 'left']);
 });
 
+test('Alt and W read the weight aloud, also in a dialog', () => {
+  const at = (more, page = {}) => deedOf({ key: 'w', code: 'KeyW', altKey: true, ...more }, 'plate', { answers: [], isDialog: false, isDeaf: false, ...page }).is;
+  assert.deepEqual([at({}), at({}, { isDialog: true }), at({ altKey: false }), at({ ctrlKey: true })], ['spoken', 'spoken', 'left', 'left']);
+});
+
 test('Enter does not react for 700 ms, and while the clerk hammers it', () => {
   assert.equal(DEAF_FOR, 700);
   const ears = new Deafness();

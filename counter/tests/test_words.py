@@ -75,7 +75,7 @@ def of_each(pattern, text=None):
 
 def asked_by_the_page():
     """Return the keys that the scripts and the page name, and the prefixes of those that they compose."""
-    keys, prefixes = of_each(r'data-(?:word|label)="(\w+)"', PAGE), set()
+    keys, prefixes = of_each(r'data-(?:word|label|region)="(\w+)"', PAGE), set()
     for text in SCRIPTS.values():
         found = [
             expressions_from(text, it.end())[0]

@@ -21,6 +21,9 @@ export class Deafness {
   isDeaf(at) { return at < this.until; }
 }
 
+// With Alt, because each other key is a letter of the plate or has its use.
+export const SPEAK_KEY = 'KeyW';
+
 export const PAGE_KEYS = { F9: 'zero', F8: 'last', F4: 'find' };
 
 // Each question has keys of its own, so that a key pressed too often answers no other question. Chromium and Firefox leave these keys to the page.
@@ -32,6 +35,7 @@ const STOP = { is: 'stopped' };      // it does nothing, here or in the browser
 
 // `key` is a keydown event, `on` where it came: plate, answer, field or other. `page` has the answers to its question, whether a dialog is open, and what doesn't react.
 export function deedOf(key, on, { answers, isDialog, isDeaf, deafKey = null }) {
+  if (key.altKey && !key.ctrlKey && !key.metaKey && !key.shiftKey && key.code === SPEAK_KEY) return { is: 'spoken' };
   const isPlain = !key.ctrlKey && !key.altKey && !key.metaKey && !key.shiftKey;
   const isOurs = isPlain && (key.code in PAGE_KEYS || ANSWERING.has(key.code)), isEnter = key.key === 'Enter';
   if (key.repeat && (isOurs || isEnter || key.key === 'Escape')) return STOP;

@@ -86,11 +86,12 @@ class Rows {
     return made;
   }
 
-  #fill({ row, entry, parts: [plate, weight, more], menu }, look, { text, isLate }) {
+  #fill({ row, entry, main, parts: [plate, weight, more], menu }, look, { text, isLate }) {
     row.className = `entry ${look} ${isLate ? 'late' : ''}`;
     plate.textContent = entry.plate;
     weight.textContent = entry.net !== null ? t('net_of', { kg: kg(entry.net) }) : entry.gross !== null ? kg(entry.gross) : '';
     more.textContent = text;
+    main.setAttribute('aria-label', [entry.plate, weight.textContent, text.replace(/^\S (?=\d)/, ''), ...(look.includes('void') && entry.kind !== 'void' ? [t('row_withdrawn')] : [])].filter(Boolean).join(', '));
     menu.title = t('row_menu');
     menu.setAttribute('aria-label', `${entry.plate}, ${paperOf(entry)} ${entry.number}: ${t('row_menu')}`);
   }

@@ -311,6 +311,13 @@ function keyed(event) {
   if (deed.is === 'closing') beDeaf();          // at once, because the event of its end comes later
   if (deed.is === 'cleared') (clerk.arming.isArmed ? disarm : clearPlate)();
   if (deed.is === 'typed') part('plate').focus();
+  if (deed.is === 'spoken') speakWeight();
+}
+
+// A screen reader reads what is new in this part. The blank makes the same weight new again.
+function speakWeight() {
+  const said = ['state', 'kind', 'weight'].map(it => part(it).textContent).filter(Boolean).join(' ');
+  part('spoken').textContent = part('spoken').textContent === said ? `${said}\u00a0` : said;
 }
 
 // A browser gives the focus back to the plate without its caret, so letters would go nowhere. So the page removes the focus first.
@@ -332,6 +339,7 @@ async function change(to, isChosen = false) {
   if (!await speak(to, isChosen)) return false;
   part('language').value = to;
   for (const it of document.querySelectorAll('[data-word]')) it.textContent = t(it.dataset.word);
+  for (const it of document.querySelectorAll('[data-region]')) it.setAttribute('aria-label', t(it.dataset.region));
   for (const it of document.querySelectorAll('[data-label]')) { it.title = t(it.dataset.label); it.setAttribute('aria-label', t(it.dataset.label)); }
   showLists();
   show();

@@ -15,8 +15,8 @@ function codeOf(block) {
 
 // The legal text twice: whole, and wrapped between characters for a narrow roll, of which the print style shows one.
 function legalOf(block) {
-  return make('div', { className: 'legal' }, make('pre', { className: 'whole', textContent: block.text }),
-    make('div', { className: 'narrow' }, make('pre', { textContent: block.narrow }), make('p', { textContent: block.wrapped })));
+  return make('div', { className: 'legal' }, make('pre', { className: 'whole', lang: 'en', textContent: block.text }),
+    make('div', { className: 'narrow' }, make('pre', { lang: 'en', textContent: block.narrow }), make('p', { textContent: block.wrapped })));
 }
 
 const MADE = {
