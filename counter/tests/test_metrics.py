@@ -40,7 +40,7 @@ class Metrics(unittest.TestCase):
     def test_each_thing_that_is_counted_has_a_metric_that_begins_at_zero(self):
         values = self.values()
         for it in COUNTED.values():
-            self.assertEqual(0, values[f"{it.name}_total",], it.name)
+            self.assertEqual(0, values[it.name,], it.name)
         for state in "SDI+-":
             self.assertEqual(0, values["readings_total", state])
         for number, name in enumerate(COUNTED, 1):
@@ -48,7 +48,7 @@ class Metrics(unittest.TestCase):
         values = self.values()
         self.assertEqual(
             list(range(1, len(COUNTED) + 1)),
-            [values[f"{it.name}_total",] for it in COUNTED.values()],
+            [values[it.name,] for it in COUNTED.values()],
         )
 
     def test_a_reading_is_counted_by_its_state_and_a_refusal_by_its_line(self):

@@ -17,7 +17,7 @@ TEXT_FORM = "text/plain; version=0.0.4; charset=utf-8"
 
 
 class Counted(NamedTuple):
-    """A metric of what is counted. Its name ends with `_total` where it is shown."""
+    """A metric of what is counted."""
 
     name: str
     help_text: str
@@ -26,54 +26,55 @@ class Counted(NamedTuple):
 # by the name under which the counter's parts count
 COUNTED = {
     "sent": Counted(
-        "commands_sent", "Commands that the counter sent to the terminal, its own ones too."
+        "commands_sent_total", "Commands that the counter sent to the terminal, its own ones too."
     ),
     "dropped": Counted(
-        "commands_dropped",
+        "commands_dropped_total",
         "Commands, and tares with their weighing, whose time was over before they could be sent.",
     ),
     "not_sent": Counted(
-        "commands_not_sent", "Commands that had their turn, and were not sent in time."
+        "commands_not_sent_total", "Commands that had their turn, and were not sent in time."
     ),
-    "unanswered": Counted("commands_unanswered", "Commands that were sent and got no reply."),
+    "unanswered": Counted("commands_unanswered_total", "Commands that were sent and got no reply."),
     "called_back": Counted(
-        "commands_called_back",
+        "commands_called_back_total",
         "Unanswered commands for which the counter reset the connection to the terminal.",
     ),
     "stray_replies": Counted(
-        "stray_replies", "Lines of the terminal that nobody asked for; the counter then resets."
+        "stray_replies_total",
+        "Lines of the terminal that nobody asked for; the counter then resets.",
     ),
     "stood_still": Counted(
-        "standstills",
+        "standstills_total",
         "Times that lines came after the counter itself stood still; the counter then resets.",
     ),
     "tares_cleared": Counted(
-        "tares_cleared",
+        "tares_cleared_total",
         "Tares that were left at the scale, and that the counter cleared when it connected.",
     ),
     "office_stored": Counted(
-        "office_texts",
+        "office_texts_total",
         "Texts of weighings and voids that the office returned with 201, repeated ones too.",
     ),
     "office_no_answer": Counted(
-        "office_unanswered", "Weighings and voids that the office did not answer."
+        "office_unanswered_total", "Weighings and voids that the office did not answer."
     ),
     "answers_not_taken": Counted(
-        "answers_not_taken",
+        "answers_not_taken_total",
         "Answers that their client got, but that the counter could not process for its lists or printers.",
     ),
-    "exports": Counted("exports", "Exports that the counter read into its lists."),
+    "exports": Counted("exports_total", "Exports that the counter read into its lists."),
     "exports_not_understood": Counted(
-        "exports_not_understood", "Exports that the counter could not read."
+        "exports_not_understood_total", "Exports that the counter could not read."
     ),
     "lists_begun_again": Counted(
-        "lists_begun_again", "Times that the lists started again because of another journal."
+        "lists_begun_again_total", "Times that the lists started again because of another journal."
     ),
 }
-READINGS = Counted("readings", "Values of the terminal, by their state.")
+READINGS = Counted("readings_total", "Values of the terminal, by their state.")
 STATES = "SDI+-"
 REFUSED = Counted(
-    "office_refusals", "Refusals and faults that the office returned, by their first line."
+    "office_refusals_total", "Refusals and faults that the office returned, by their first line."
 )
 # what the counter's parts count begins with one of these, and the rest is the label
 OF_READINGS, OF_OFFICE = "readings_", "office_"
