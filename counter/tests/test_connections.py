@@ -70,6 +70,8 @@ SILENT = {
 
 class Clients(unittest.IsolatedAsyncioTestCase):
     async def serve(self, application):
+        # a busy machine's slow turns are no lines of the counter
+        asyncio.get_running_loop().slow_callback_duration = 60
         server = await listen(application, ("127.0.0.1", 0))
         self.addAsyncCleanup(server.wait_closed)
         self.addCleanup(server.close)

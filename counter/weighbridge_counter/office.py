@@ -60,11 +60,10 @@ class Office:
         except (
             aiohttp.ClientError,
             HttpProcessingError,
-            OSError,
+            OSError,  # a time-out too
             EOFError,
             ValueError,
             AssertionError,  # by which aiohttp says that a new connection was reset
-            asyncio.TimeoutError,
         ) as fault:
             raise NoAnswer(type(fault).__name__) from None
 

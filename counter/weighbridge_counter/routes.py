@@ -11,6 +11,7 @@ from pathlib import Path
 from typing import Any, TypeVar
 
 from aiohttp import web
+from aiohttp.http_exceptions import HttpProcessingError
 
 from weighbridge_paper.export import NoExport, has_key
 from weighbridge_paper.text import NoText
@@ -127,7 +128,7 @@ class Routes:
             return as_json({"why": "no_file"}, 503)
         except ConnectionError:
             raise  # the client's connection is cut
-        except web.RequestPayloadError:
+        except (web.RequestPayloadError, HttpProcessingError):
             return as_text(b"fault 400 malformed\n", 400)
         except OSError:
             if not request.path.startswith(("/papers", "/jobs")):
