@@ -71,7 +71,7 @@ def show(program, bridge=None):
         regions = {name for role, name in found if role in REGIONS}
         same(
             "its regions have names",
-            {"Weight", "What to do now", "Weigh", "Zero, print, search", "On site 1", "Today 3"},
+            {"Weight", "Next step", "Weigh", "Zero, print, search", "On site 1", "Today 3"},
             {name.split(" ·")[0] for name in regions} - {""},
         )
         same("no region is without one", False, "" in regions)
