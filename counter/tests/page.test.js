@@ -404,6 +404,9 @@ test('a key that answered answers nothing more for a while, and other keys do', 
   deaf.pressed(DEAF_FOR - 1);
   assert.equal(at(DEAF_FOR + HAMMERED_WITHIN - 2), 'deaf', 'while it is hammered');
   assert.equal(at(DEAF_FOR + HAMMERED_WITHIN), 'answered');
+  deaf.begin(4000, 'F2');
+  deaf.typed();
+  assert.equal(at(4001), 'answered', 'letters were typed since');
   deaf.begin(5000);
   assert.equal(at(5001), 'answered', 'a plate that was taken from a list was taken by no key');
 });

@@ -14,6 +14,9 @@ export class Deafness {
     this.#key = key;
   }
 
+  // Letters were typed in between, so the key isn't hammered.
+  typed() { this.#key = null; }
+
   keyAt(at) { return this.isDeaf(at) ? this.#key : null; }
 
   pressed(at) { if (this.isDeaf(at)) this.until = Math.max(this.until, at + HAMMERED_WITHIN); }

@@ -258,6 +258,7 @@ function typed(event) {
     field.setSelectionRange(at, at);
   }
   clerk.arming.end();
+  if (event) clerk.deafness.typed();
   clerk.oneTare = null;
   clerk.isFirstInstead = false;
   clerk.answered = {};
