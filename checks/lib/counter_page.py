@@ -102,7 +102,7 @@ def a_tare_by_keyboard(bridge, clerk):
         ("NET", 15340, "Tare 3,000 kg, gross 18,340 kg"),
         (clerk.browser.text("#kind"), clerk.kg(), clerk.browser.text("#parts")),
     )
-    for _ in range(12):
+    for _ in range(24):
         if clerk.focus() == "Clear the tare":
             break
         clerk.keys(TAB)
