@@ -214,7 +214,28 @@ class TheLists(unittest.TestCase):
             ("9", []),
             ("²", []),
         ):
-            self.assertEqual(found, [it["number"] for it in lists.search(words)[0]], words)
+            hits, count = lists.search(words)
+            self.assertEqual((found, len(found)), ([it["number"] for it in hits], count), words)
+
+    def test_search_says_how_many_fit_in_all(self):
+        rows = [row(it, "single", f"HB-{it}", 20000, 8000) for it in range(1, 101)]
+        hits, count = Lists.of_export(BERLIN, export(*rows)).search("hb")
+        self.assertEqual((60, 100, 100), (len(hits), count, hits[0]["number"]))
+
+    def test_the_last_empty_weight_of_a_plate_is_the_smaller_of_its_last_pair(self):
+        rows = (
+            row(1, "first", "IN", 30000),
+            row(2, "second", "IN", 12000),
+            row(3, "first", "OUT", 9000),
+            row(4, "second", "OUT", 30000),
+            row(5, "first", "IN", 12400),
+            row(6, "single", "ONCE", 20000, 8000),
+        )
+        lists = Lists.of_export(BERLIN, export(*rows))
+        empty = [lists.empty_of(it) for it in ("IN", "OUT", "ONCE", "NEW")]
+        self.assertEqual([12000, 9000, None, None], empty)
+        lists = Lists.of_export(BERLIN, export(*rows, row(7, "second", "IN", 31000)))
+        self.assertEqual(12400, lists.empty_of("IN"))
 
     def test_what_is_no_export_is_refused(self):
         for text in ("", "store 2 disk\n", export(ROW + ",more")):
@@ -246,6 +267,8 @@ class Kept(unittest.IsolatedAsyncioTestCase):
             "empty": 4980,
         }
         self.assertEqual({"AB-12": shown}, self.tares().all_shown())
+        self.day = datetime.date(2025, 6, 8)
+        self.assertFalse(self.tares().shown("AB-12")["is_over"], "on its last day")
         self.day = datetime.date(2025, 6, 9)
         self.assertTrue(self.tares().shown("AB-12")["is_over"])
         await self.tares().drop("AB-12")
