@@ -542,7 +542,29 @@ def an_early_enter(bridge, clerk):
     )
     keys = clerk.browser.run("return window.weighed")
     same("under a new key", (2, 2), (len(keys), len(set(keys))))
+
+    # the same, but the vehicle leaves meanwhile, and another one drives on
+    bridge.put(0)
+    bridge.put(7000)
+    before = rows(bridge)
+    clerk.keys(ESCAPE + ESCAPE + "FL-HH-99")
+    clerk.sees("Ready.")
+    clerk.browser.run(
+        """window.weighed = [];
+        window.fetch = async (target, how) => {
+          if (target.endsWith('/weighings')) await new Promise(done => setTimeout(done, 4000));
+          return window.realFetch(target, how);
+        }"""
+    )
+    clerk.keys(ENTER)
+    bridge.put(0)
+    bridge.converter.load, bridge.converter.sway = 8000, 100
+    clerk.sees("It is still moving.", what="another vehicle sways there when the office answers")
+    stands(8000)
+    time.sleep(2.5)
+    same("it isn't weighed by that press", [], rows(bridge)[len(before) :])
     clerk.browser.run("window.fetch = window.realFetch")
+    clerk.keys(ESCAPE + ESCAPE)
 
 
 def letters_before_the_answer(bridge, clerk):

@@ -261,6 +261,13 @@ test('the entry of the load is known until it has left', () => {
   assert.equal(load.entry, null, 'so a later refusal names no vehicle of before');
 });
 
+test('it is known how many loads have left, so that another load is told from the same one', () => {
+  const load = new PlateOfLoad(), at = net => { load.hasLeft(now({ plate: '' }, {}, { net })); return load.loads; };
+  assert.deepEqual([at(0), at(9000), at(9020), at(380), at(0), at(5000), at(0)], [0, 0, 0, 1, 1, 1, 2]);
+  load.hasLeft({ ...now(), weight: null });
+  assert.equal(load.loads, 2);
+});
+
 test('a plate that was weighed or deleted leaves nothing behind', () => {
   assert.deepEqual(leavings([['A', 9000, 'empty'], ['', 9000, 'weighed'], ['B', 9000, 'weighed'], ['B', 0, 'empty']]), [false, false, false, false]);
 });
@@ -345,6 +352,7 @@ test('a press that is armed once more counts from the clerk\'s press', () => {
   it.begin('A first', PRESSED);
   assert.equal(it.next(READY, 'A first', PRESSED + 2000), 'waits', 'it has to stand a second again');
   assert.equal(it.next(MOVES, 'A first', PRESSED + ARMED_FOR + 1), 'over');
+  assert.equal(it.since, PRESSED, 'also once it is over');
 });
 
 // ---- kept tares

@@ -13,6 +13,9 @@ export class Arming {
 
   get isArmed() { return this.#subject !== null; }
 
+  // The moment of the clerk's press, also once it fires.
+  get since() { return this.#since; }
+
   // `since` is the moment of the press, also if the same press is armed once more.
   begin(subject, since) {
     this.#subject = subject;

@@ -78,10 +78,17 @@ export class PlateOfLoad {
   #isForThis = false;
   #isBack = false;
   #entry = null;
+  #isLoaded = false;
+  #loads = 0;
 
   // The entry by which the load on the bridge was weighed; null if it wasn't, or if the counter didn't see it.
   get entry() {
     return this.#entry;
+  }
+
+  // How many loads have left. As long as it stays the same, the load is the same.
+  get loads() {
+    return this.#loads;
   }
 
   // The load on the bridge was weighed, by this page or by another. The counter's state says so a moment later.
@@ -101,6 +108,8 @@ export class PlateOfLoad {
     const isNoLoad = gross < min, isWeighed = this.#entry !== null || waiting !== null || ['weighed', 'restarted'].includes(state.bridge);
     this.#isForThis = Boolean(plate) && !isNoLoad && (hadPlate || this.#isBack || !isWeighed);
     this.#isBack = false;
+    if (isNoLoad && this.#isLoaded) this.#loads++;
+    this.#isLoaded = !isNoLoad;
     if (isNoLoad) this.#entry = null;
     return isNoLoad && hadPlate;
   }

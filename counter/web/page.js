@@ -216,9 +216,9 @@ function plateLeft(of) {
 }
 
 // What the clerk typed for one vehicle leaves the form with its request, so that letters typed before the answer are the next vehicle's plate, whole. If
-// nothing was stored, it comes back, unless the next plate has been begun. If the load moved, the press waits for it, and true is returned.
+// nothing was stored, it comes back, unless the next plate has been begun. If the same load moved, the press waits for it, and true is returned.
 function takeForm(subject, since) {
-  const held = { plate: plate(), oneTare: clerk.oneTare, isFirstInstead: clerk.isFirstInstead, given: Object.fromEntries(GIVEN.map(it => [it, part(it).value])) };
+  const loads = clerk.plateOfLoad.loads, held = { plate: plate(), oneTare: clerk.oneTare, isFirstInstead: clerk.isFirstInstead, given: Object.fromEntries(GIVEN.map(it => [it, part(it).value])) };
   clearPlate();
   return hasMoved => {
     if (plate()) return false;
@@ -226,10 +226,9 @@ function takeForm(subject, since) {
     clerk.plateOfLoad.isBack();
     for (const it of GIVEN) part(it).value = held.given[it];
     Object.assign(clerk, { oneTare: held.oneTare, isFirstInstead: held.isFirstInstead });
-    const isArmed = hasMoved && performance.now() - since <= ARMED_FOR;
-    if (isArmed) clerk.arming.begin(subject, since);
+    if (hasMoved && clerk.plateOfLoad.loads === loads && performance.now() - since <= ARMED_FOR) clerk.arming.begin(subject, since);
     show();
-    return isArmed;
+    return clerk.arming.isArmed;
   };
 }
 
@@ -302,6 +301,12 @@ function placeOf(target) {
 }
 
 function keyed(event) {
+  if (clerk.arming.isArmed && !isAsking() && event.key === 'Escape') {
+    event.preventDefault();
+    disarm();                        // before anything else is shown, because that may fire
+    return;
+  }
+  if (event.key.length === 1 && !isAsking()) clerk.arming.end();
   show();                            // what is asked now
   const at = performance.now();
   const deed = deedOf(event, placeOf(event.target), { answers: clerk.answers, isDialog: isAsking(), isDeaf: clerk.deafness.isDeaf(at), deafKey: clerk.deafness.keyAt(at) });

@@ -41,7 +41,7 @@ function goesOn(now, told) {
   if (!clerk.arming.isArmed) return false;
   const asked = isAsking() ? { word: 'one_moment' } : told.look === 'ok' ? step({ ...now, told: null }) : told;
   const outcome = clerk.arming.next(asked, subjectOf(now.plate, choiceOf(now)), performance.now());
-  if (outcome === 'fires') acts.weigh();
+  if (outcome === 'fires') acts.weigh(clerk.arming.since);
   if (outcome === 'over') acts.armed_over();
   return outcome === 'fires' || outcome === 'over';
 }

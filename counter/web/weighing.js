@@ -17,7 +17,7 @@ function wait(look, word, values, choices) {
 export function tell(look, word, more, values, choices) {
   const told = clerk.told = { look, word, more, values, choices };
   show();
-  setTimeout(() => { if (clerk.told === told) { clerk.told = null; show(); } }, TOLD_FOR[look]);
+  setTimeout(() => { if (clerk.told === told) { clerk.told = null; show(); } }, word === 'armed_over' ? TOLD_FOR.ok : TOLD_FOR[look]);
 }
 
 const NOTHING_TAKEN = () => () => false;
@@ -41,7 +41,7 @@ async function conclude(request, giveBack = NOTHING_TAKEN()) {
   if (answer === null) { leave(request, giveBack); return; }
   clerk.waiting = null;
   if (answer.status === 201) finish(request, answer.text);
-  else if (!giveBack(refusalOf(answer) === UNSTABLE)) refuse(answer);
+  else if (!giveBack(refusalOf(answer) === UNSTABLE && !request.isUnsure)) refuse(answer);
   acts.focus();
 }
 
