@@ -75,7 +75,9 @@ class WhatWaits(unittest.IsolatedAsyncioTestCase):
         pages[7].put(b"x" * 500_000)
         for _ in range(2):
             self.pages.tell("lists", "x" * 1_000_000)
-            self.assertLessEqual(sum(it.bytes for it in pages), MOST_BYTES_OF_ALL)
+        self.assertEqual([], self.cut, "an event is counted once the pages could take it")
+        self.pages.tell("alive", 1)
+        self.assertLessEqual(sum(it.bytes for it in pages), MOST_BYTES_OF_ALL + 20 * 40)
         self.assertEqual(7, self.cut[0])
         self.assertLess(len(self.cut), 6)
         self.assertEqual(len(set(self.cut)), len(self.cut))

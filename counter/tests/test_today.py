@@ -15,6 +15,7 @@ from weighbridge_counter.counter import Counter
 from weighbridge_counter.lists import Lists
 from weighbridge_counter.pages import Page
 from weighbridge_counter.setup import Setup
+from weighbridge_counter.tares import Kept
 from weighbridge_counter.today import MOST_LISTED, day_of, midnight, table_of, whole_day_of
 
 from .test_lists import BERLIN, export, row
@@ -73,6 +74,17 @@ class ALocalDay(unittest.TestCase):
             12, "single", "LATE", NOON.astimezone(datetime.timezone.utc), 20000, 8000
         )
         self.assertEqual(24000, day_of(self.lists, NOON)["sums"]["net_with_tare"])
+
+    def test_an_old_entry_that_comes_late_hides_nothing(self):
+        self.lists.entries[1] = self.lists.entries.pop(1)
+        self.assertEqual(10, day_of(self.lists, NOON)["sums"]["entries"])
+
+    def test_a_first_is_named_only_by_lists_that_lack_nothing(self):
+        self.assertEqual(7, self.lists.first_of(8))
+        for lack in ("is_whole", "is_of_export"):
+            setattr(self.lists, lack, False)
+            self.assertIsNone(self.lists.first_of(8))
+            setattr(self.lists, lack, True)
 
     def test_a_day_begins_at_local_midnight_also_where_the_clock_is_put(self):
         for zone, day, begin, hours in (
@@ -133,6 +145,18 @@ class ALocalDay(unittest.TestCase):
 
 
 class Midnight(unittest.IsolatedAsyncioTestCase):
+    async def test_lists_that_are_read_again_bring_the_last_empty_weights(self):
+        folder = tempfile.TemporaryDirectory()
+        self.addCleanup(folder.cleanup)
+        counter, page = Counter(Setup(Path(folder.name), zone=BERLIN)), Page([], lambda: None)
+        counter.tares.kept = {"IN-1": Kept(14000, NOON.date(), "")}
+        counter.pages.add(page)
+        counter.books.lists = Lists.of_export(BERLIN, export(*DAY))
+        counter.books.on_lists()
+        told = b"".join(page.frames).decode()
+        self.assertIn("event: tares", told)
+        self.assertIn('"empty":12000', told)
+
     async def test_an_open_page_begins_the_new_day_once(self):
         folder = tempfile.TemporaryDirectory()
         self.addCleanup(folder.cleanup)

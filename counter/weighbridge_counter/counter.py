@@ -46,7 +46,7 @@ class Counter:
         self.printing = Printing(
             papers_of(setup),
             lambda number: self.books.lists.digest_of(number),
-            lambda number: self.books.lists.partner.get(number),
+            lambda number: self.books.lists.first_of(number),
         )
         self.pages = Pages()
         self.tares = Tares(
@@ -87,7 +87,7 @@ class Counter:
         self.printing.on_unlinked = self._miss_entries
         self.files.on_change = self.tell_state
         self.acts.on_answer = self.books.answered
-        self.books.on_lists = lambda: self.pages.tell("lists", self.lists())
+        self.books.on_lists = self._tell_lists
         self.books.on_entry = self._take_entry
         self.books.is_empty = self._is_empty
 
@@ -292,10 +292,14 @@ class Counter:
         """Inform the pages of one kept tare, because all of them together are long."""
         self.pages.tell("tare", {"plate": plate, "tare": self.tares.shown(plate)})
 
-    def _tell_of_a_new_day(self) -> None:
-        self.day = self.now().date()
+    def _tell_lists(self) -> None:
+        """Inform the pages of the lists, and of the kept tares, which have the last empty weights of the lists."""
         self.pages.tell("lists", self.lists())
         self.pages.tell("tares", self.tares.all_shown())
+
+    def _tell_of_a_new_day(self) -> None:
+        self.day = self.now().date()
+        self._tell_lists()
 
     async def _look_for_another(self) -> None:
         """A service that answers at its office, and gives no value for so long, serves another one's terminal."""

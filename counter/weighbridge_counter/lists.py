@@ -123,6 +123,10 @@ class Lists:
             if entry.kind == "second" and first in self.entries:
                 self.empty[entry.plate] = self._lighter(first, entry.number)
 
+    def first_of(self, number: int) -> int | None:
+        """Return the First that an entry closes, or None if the lists may lack an entry, because they find a Void's First only by its plate."""
+        return self.partner.get(number) if self.is_whole and self.is_of_export else None
+
     def _lighter(self, first: int, second: int) -> int:
         gross, other = self.entries[first].gross or 0, self.entries[second].gross or 0
         return first if gross < other else second

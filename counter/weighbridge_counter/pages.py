@@ -33,6 +33,8 @@ class Page:
         self.has_some.set()
 
     def put(self, frame: bytes) -> None:
+        if self.is_over:
+            return
         self.frames.append(frame)
         self.bytes += len(frame)
         if self.bytes > self.most:
@@ -53,7 +55,8 @@ class Page:
 
     async def take(self) -> bytes:
         """Return all that waits, once something does, or nothing if the page is over."""
-        await self.has_some.wait()
+        if not self.is_over:
+            await self.has_some.wait()
         self.has_some.clear()
         if self.is_over:
             return b""
@@ -68,10 +71,10 @@ class Pages:
         self.open: set[Page] = set()
 
     def tell(self, name: str, what: Any) -> None:
+        self._bound()  # before the event, which each page is about to take
         frame = frame_of(name, what)
         for page in self.open:
             page.put(frame)
-        self._bound()
 
     def tell_weight(self, what: Any) -> None:
         frame = frame_of("weight", what)

@@ -52,12 +52,13 @@ def numbers_of(lists: Lists, now: datetime.datetime) -> list[int]:
     """Return the numbers of the entries of the local day of a moment, the newest first. Moments in a journal never go back."""
     day, found = now.astimezone(lists.zone).date(), []
     begin, end = midnight(day, lists.zone), midnight(day + datetime.timedelta(1), lists.zone)
-    for number, entry in reversed(lists.entries.items()):
+    for number in sorted(lists.entries, reverse=True):
+        entry = lists.entries[number]
         if entry.at < begin:
             break
         if entry.at < end:
             found.append(number)
-    return sorted(found, reverse=True)
+    return found
 
 
 def sums_of(lists: Lists, numbers: Iterable[int]) -> Sums:
