@@ -543,7 +543,7 @@ def an_early_enter(bridge, clerk):
     keys = clerk.browser.run("return window.weighed")
     same("under a new key", (2, 2), (len(keys), len(set(keys))))
 
-    # the same, but the vehicle leaves meanwhile, and another one drives on
+    # once more, but the vehicle leaves meanwhile, and another one drives on
     bridge.put(0)
     bridge.put(7000)
     before = rows(bridge)
