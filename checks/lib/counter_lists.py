@@ -460,7 +460,7 @@ def forms_of(words):
 
 
 def the_languages():
-    """Every word of a language is in each, with the same values in each form, and the page asks for no other."""
+    """Show that each language has every word, with the same values in each form, and that the page asks for no other."""
     folder = os.path.join(TOP, "counter", "web")
     words = {}
     for name in sorted(os.listdir(f"{folder}/lang")):
