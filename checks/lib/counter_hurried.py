@@ -506,6 +506,14 @@ def an_early_enter(bridge, clerk):
     clerk.sees("TR-EE-55 was not weighed.", what="a search ends it, and the page says so")
     nothing_comes("after a search", "TR-EE-55")
 
+    arms("TR-EE-55")
+    clerk.keys(F4 + ESCAPE)
+    clerk.sees("TR-EE-55 was not weighed.")
+    time.sleep(0.8)
+    clerk.keys(ENTER)
+    clerk.sees(f"TR-EE-55 {armed}", what="while the page says so, a new press counts")
+    clerk.keys(ESCAPE)
+
     arms("SW-AA-11", 7010)
     bridge.converter.sway = 0
     clerk.sees("The net would be only 20 kg.", what="a question ends it")
@@ -516,32 +524,36 @@ def an_early_enter(bridge, clerk):
     nothing_comes("after 20 s", "LB-FF-66")
 
     # the load begins to sway between the press and its arrival at the office
-    bridge.put(0)
-    bridge.put(7000)
-    before = rows(bridge)
-    clerk.keys(ESCAPE + ESCAPE + "WO-GG-88")
-    clerk.sees("Ready.")
-    clerk.browser.run(
-        """const real = window.realFetch ??= window.fetch;
-        window.weighed = [];
-        window.fetch = async (target, how) => {
-          if (target.endsWith('/weighings')) {
-            window.weighed.push(how.body.get('key'));
-            if (window.weighed.length === 1) await new Promise(done => setTimeout(done, 1500));
-          }
-          return real(target, how);
-        }"""
-    )
-    clerk.keys(ENTER)
-    bridge.converter.sway = 100
-    clerk.sees(f"WO-GG-88 {armed}", what="an office that finds it moving: it is armed again")
-    bridge.converter.sway = 0
-    becomes(
-        "and weighed once it stands",
-        lambda: rows(bridge)[len(before) :] == [("first", "WO-GG-88")],
-    )
-    keys = clerk.browser.run("return window.weighed")
-    same("under a new key", (2, 2), (len(keys), len(set(keys))))
+    bridge.ask("PUT", "/tares/WO-SI-88", body='{"kg": 5000}')
+    for plate, kind in (("WO-GG-88", "first"), ("WO-SI-88", "single")):
+        bridge.put(0)
+        bridge.put(7000)
+        before = rows(bridge)
+        clerk.keys(ESCAPE + ESCAPE + plate)
+        clerk.sees("Ready.")
+        clerk.browser.run(
+            """const real = window.realFetch ??= window.fetch;
+            window.weighed = [];
+            window.fetch = async (target, how) => {
+              if (target.endsWith('/weighings')) {
+                window.weighed.push(how.body.get('key'));
+                if (window.weighed.length === 1) await new Promise(done => setTimeout(done, 1500));
+              }
+              return real(target, how);
+            }"""
+        )
+        clerk.keys(ENTER)
+        bridge.converter.sway = 100
+        clerk.sees(
+            f"{plate} {armed}", what=f"an office that finds a {kind} moving: it is armed again"
+        )
+        bridge.converter.sway = 0
+        becomes(
+            f"and a {kind} is weighed once it stands",
+            lambda: rows(bridge)[len(before) :] == [(kind, plate)],
+        )
+        keys = clerk.browser.run("return window.weighed")
+        same("under a new key", (2, 2), (len(keys), len(set(keys))))
 
     # once more, but the vehicle leaves meanwhile, and another one drives on
     bridge.put(0)
@@ -630,6 +642,41 @@ def a_plate_leaves_with_its_load(bridge, clerk):
     same("it stays on the empty bridge", "MOVED-1", clerk.plate())
     bridge.put(7000)
     clerk.sees("Ready.", what="and is there for its load")
+
+
+def a_swap_that_the_page_did_not_see(bridge, clerk):
+    """While the page has no weight, one vehicle may leave and another may come."""
+    bridge.next_vehicle(7000)
+    clerk.keys(ESCAPE + "UNSEEN-1")
+    clerk.sees("Ready.")
+    clerk.browser.run("document.getElementById('goods').value = 'Gravel'")
+    bridge.converter.is_silent = True
+    clerk.sees("The scale gives no weight.")
+    time.sleep(9)
+    bridge.converter.load = 8000
+    bridge.converter.is_silent = False
+    clerk.sees(
+        "The page had no weight for a while, so another vehicle may be there. UNSEEN-1 was removed",
+        what="a vehicle that the page didn't see for a while takes its plate with it",
+    )
+    nothing_comes_of(
+        bridge,
+        clerk,
+        "the vehicle that is there then: Enter hammered",
+        lambda: clerk.browser.hammer(TEN, 0.1),
+        "",
+    )
+    goods = "return document.getElementById('goods').value"
+    clerk.browser.run("document.querySelector('#choices button').click()")
+    same(
+        "one press puts back what was typed, for the vehicle that is still there",
+        ("UNSEEN-1", "Gravel"),
+        (clerk.plate(), clerk.browser.run(goods)),
+    )
+    clerk.sees("Ready.", what="and it is ready again")
+    clerk.browser.run("document.querySelector('#site button').click()")
+    same("another vehicle from the list has no goods of this one", "", clerk.browser.run(goods))
+    clerk.keys(ESCAPE)
 
 
 def a_colleague_weighs_it(bridge, clerk):
@@ -729,6 +776,7 @@ def show(program):
         an_early_enter(bridge, clerk)
         letters_before_the_answer(bridge, clerk)
         a_plate_leaves_with_its_load(bridge, clerk)
+        a_swap_that_the_page_did_not_see(bridge, clerk)
         a_colleague_weighs_it(bridge, clerk)
         withdraws_only_what_it_shows(bridge, clerk)
     finally:

@@ -160,6 +160,20 @@ def search_and_withdraw_by_keyboard(bridge, clerk):
     becomes("the focus returns", lambda: clerk.focus() == "plate")
     clerk.keys(F4 + ESCAPE)
     same("and from a dialog that is closed", "plate", clerk.focus())
+    hits = "return document.getElementById('hits').textContent"
+    clerk.browser.run(
+        """const real = window.realFetch ??= window.fetch;
+        window.fetch = (target, how) => target.includes('/search') ? Promise.reject(new TypeError('cut')) : real(target, how)"""
+    )
+    clerk.keys(F4 + "wrong")
+    becomes(
+        "a search without an answer says so",
+        lambda: "The search got no answer." in clerk.browser.run(hits),
+    )
+    clerk.browser.run("window.fetch = window.realFetch")
+    clerk.keys(ESCAPE + F4)
+    becomes("opened again, it searches again", lambda: "WRONG-1" in clerk.browser.run(hits))
+    clerk.keys(ESCAPE)
 
 
 def which_program_weighs(bridge, clerk):

@@ -135,6 +135,39 @@ def a_key_answers_one_question(bridge, clerk):
     clerk.keys(ESCAPE)
 
 
+def a_tare_kept_under_the_finger(bridge, clerk):
+    """A colleague keeps a tare for the plate at the moment at which the clerk presses."""
+    bridge.next_vehicle(9170)
+    clerk.keys(ESCAPE + "FI-NG-5")
+    clerk.sees("Ready.")
+    same("it is weighed in", "Weigh in · FI-NG-5", clerk.browser.text("#go-words"))
+    clerk.browser.run(
+        """const words = document.getElementById('go-words'), go = document.getElementById('go');
+        window.wasPressed = null;
+        new MutationObserver((_, it) => {
+          if (!words.textContent.startsWith('Weigh with tare')) return;
+          it.disconnect();
+          window.wasPressed = !go.disabled;
+          go.click();
+        }).observe(words, { childList: true, characterData: true, subtree: true });"""
+    )
+    before = rows(bridge)
+    keep(bridge, "FI-NG-5", 5000)
+    becomes(
+        "the button changes",
+        lambda: clerk.browser.run("return window.wasPressed") is not None,
+    )
+    time.sleep(0.5)
+    same(
+        "and a press that was meant for the other weighing does nothing",
+        (False, []),
+        (clerk.browser.run("return window.wasPressed"), rows(bridge)[len(before) :]),
+    )
+    clerk.sees("Ready.", what="it is ready once the clerk could see that")
+    bridge.ask("DELETE", "/tares/FI-NG-5")
+    clerk.keys(ESCAPE)
+
+
 def the_list(bridge, clerk):
     clerk.browser.click("#tares")
     found = becomes("the kept tares are listed", lambda: clerk.browser.run(KEPT))
@@ -160,11 +193,35 @@ def the_list(bridge, clerk):
         "Press again: delete the tare of TY-PO-1",
         clerk.browser.text("#kept button"),
     )
+    clerk.keys(ESCAPE)
+    time.sleep(0.8)
+    clerk.browser.click("#tares")
+    clerk.keys("po1")
+    becomes("it is found again", lambda: len(clerk.browser.run(KEPT)) == 1)
+    clerk.browser.click("#kept button")
+    same(
+        "a list that was closed asks once more again",
+        "Press again: delete the tare of TY-PO-1",
+        clerk.browser.text("#kept button"),
+    )
     clerk.browser.run("document.querySelector('#kept button').click()")
     time.sleep(0.3)
     same("a double click deletes nothing", 1, len(clerk.browser.run(KEPT)))
     time.sleep(0.8)
-    clerk.browser.run("document.querySelector('#kept button').click()")
+    press = "document.querySelector('#kept button').click()"
+    clerk.browser.run(
+        """const real = window.realFetch ??= window.fetch;
+        window.fetch = async (target, how) => how.method === 'DELETE' ? new Response('', { status: 503 }) : real(target, how);"""
+    )
+    clerk.browser.run(press)
+    becomes(
+        "a tare that can't be deleted is told",
+        lambda: "The tare was not deleted." in clerk.browser.text("#kept"),
+    )
+    clerk.browser.run("window.fetch = window.realFetch")
+    clerk.browser.run(press)
+    time.sleep(0.8)
+    clerk.browser.run(press)
     becomes("a second press deletes it", lambda: clerk.browser.text("#kept") == "No tare is kept.")
     clerk.keys(ESCAPE)
     bridge.next_vehicle(9170)
@@ -204,6 +261,7 @@ def show(program, bridge=None):
         an_unlike_tare(bridge, clerk)
         other_hyphens(bridge, clerk)
         a_key_answers_one_question(bridge, clerk)
+        a_tare_kept_under_the_finger(bridge, clerk)
         the_list(bridge, clerk)
         as_the_scale_rounds(bridge, clerk)
     finally:

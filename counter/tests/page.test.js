@@ -54,7 +54,7 @@ test('the likeliest comes first, each as newest first', () => {
 
 const CALM = { kg: null, is_refused: false, before: 0, is_doubtful: false };
 const now = (more = {}, offZero = {}, weight = {}) => ({
-  link: 'up', weight: { state: 'S', net: 9000, tare: 0, ...weight }, state: { bridge: 'empty', busy: false, off_zero: { ...CALM, ...offZero } }, plate: 'HB-X-1', onSite: [],
+  link: 'up', weight: { state: 'S', net: 9000, tare: 0, ...weight }, state: { bridge: 'empty', busy: false, tare: weight.tare ?? 0, off_zero: { ...CALM, ...offZero } }, plate: 'HB-X-1', onSite: [],
   weighedNear: [], tares: {}, interval: 20, empty: null, min: 400, oneTare: null, isFirstInstead: false, waiting: null, result: null, told: null, newest: null, isResultNew: false, answered: {}, isDeaf: false, ...more,
 });
 const keysOf = told => told.answers.map(it => it.key);
@@ -93,6 +93,24 @@ test('the page asks about a small net, even one of zero', () => {
     assert.deepEqual([told.word, keysOf(told), told.values.net], ['small_net', ['F7'], Math.abs(gross - 9000)]);
   }
   assert.equal(step(now({ plate: 'RA-KM-1236', onSite: [first('RA-KM-1236', 9400)] })).word, 'ready');
+});
+
+test('an answer about a small net holds for this weighing alone', () => {
+  const onSite = number => [{ ...first('HB-X-1', 9020), number }], one = step(now({ onSite: onSite(1) })).answers[0];
+  assert.ok(step(now({ onSite: onSite(1), answered: { small_net: one.subject } })).isReady);
+  for (const more of [{ onSite: onSite(2) }, { oneTare: 8900 }]) assert.equal(step(now({ ...more, answered: { small_net: one.subject, odd_tare: 'x' } })).word, 'small_net');
+});
+
+test('a tare is another one\'s only if the counter says so and has no weighing under way', () => {
+  const at = state => step(now({ state: { ...now().state, ...state } }, {}, { tare: 20 })).word;
+  assert.deepEqual([at({ tare: 20 }), at({ tare: 20, busy: true }), at({ tare: 0 })], ['foreign_tare', 'ready', 'ready']);
+});
+
+test('that a press is over keeps the next one from nothing', () => {
+  const at = (word, more, weight) => step(now({ told: { look: 'wait', word }, ...more }, {}, weight));
+  assert.deepEqual([at('armed_over').word, at('armed_over').isReady, at('armed_over', {}, { state: 'D' }).isArmable], ['armed_over', true, true]);
+  for (const more of [{ isDeaf: true }, { onSite: [first('HB-X-12')] }, { plate: '' }]) assert.ok(!at('armed_over', more).isReady && !at('armed_over', more).answers);
+  assert.ok(!at('refused_11').isReady);
 });
 
 test('a weighing that was withdrawn is not called weighed while its vehicle is on the bridge', () => {
@@ -268,6 +286,32 @@ test('it is known how many loads have left, so that another load is told from th
   assert.equal(load.loads, 2);
 });
 
+// Each row is a time in milliseconds, the plate and the net weight.
+const seen = (...rows) => {
+  const load = new PlateOfLoad();
+  return [load, rows.map(([at, plate, net]) => [load.hasLeft(now({ at, plate }, {}, { net })), load.wasUnseen, load.loads])];
+};
+
+test('a plate leaves if the page had no weight for more than eight seconds, because another load may be there', () => {
+  assert.deepEqual(seen([0, 'A', 9000], [8000, 'A', 9000], [16001, 'A', 9000], [16101, 'A', 9000])[1], [[false, false, 0], [false, false, 0], [true, true, 1], [false, false, 1]]);
+  assert.deepEqual(seen([0, 'A', 9000], [9000, 'A', 0])[1].at(-1), [true, true, 1], 'the bridge is empty');
+  assert.deepEqual(seen([12000, 'A', 9000], [3000, 'A', 9000])[1].at(-1), [true, true, 1], 'the clock was set back');
+});
+
+test('what was typed without a weight, or on an empty bridge, stays', () => {
+  assert.deepEqual(seen([0, 'A', 9000], [9000, 'B', 9000])[1].at(-1), [false, true, 1]);
+  assert.deepEqual(seen([0, '', 9000], [9000, 'B', 9000])[1].at(-1), [false, true, 1]);
+  assert.deepEqual(seen([0, 'A', 0], [9000, 'A', 9000], [9100, 'A', 0])[1].map(([left]) => left), [false, false, true], 'until its load leaves');
+});
+
+test('a load that was weighed isn\'t the one that the page finds after a while', () => {
+  const [load] = seen([0, '', 9000]);
+  load.weighed({ kind: 'first', plate: 'A', number: 7 });
+  load.hasLeft(now({ at: 9000, plate: 'B' }));
+  assert.equal(load.entry, null);
+  assert.equal(load.hasLeft(now({ at: 9100, plate: 'B' }, {}, { net: 0 })), true, 'B was for the load that was there');
+});
+
 test('a plate that was weighed or deleted leaves nothing behind', () => {
   assert.deepEqual(leavings([['A', 9000, 'empty'], ['', 9000, 'weighed'], ['B', 9000, 'weighed'], ['B', 0, 'empty']]), [false, false, false, false]);
 });
@@ -337,12 +381,12 @@ test('a press is over if the weighing would be another one', () => {
 });
 
 test('any question and any warning ends a press, and nothing fires after it', () => {
-  for (const told of [{ word: 'is_it', answers: [] }, { word: 'small_net' }, { word: 'link_held' }, { word: 'empty' }, { word: 'no_weight' }, { word: 'drive_off' }, { word: 'refused_11' }, { word: 'foreign_tare' }]) {
+  for (const told of [{ word: 'is_it', answers: [] }, { word: 'small_net' }, { word: 'empty' }, { word: 'no_weight' }, { word: 'drive_off' }, { word: 'refused_11' }, { word: 'foreign_tare' }]) {
     const it = armed();
     assert.equal(it.next(told, 'A first', PRESSED), 'asked', told.word);
     assert.equal(it.isArmed, false, told.word);
   }
-  assert.equal(armed().next({ word: 'one_moment' }, 'A first', PRESSED), 'over', 'what shows nothing of it is told');
+  for (const word of ['one_moment', 'link_held', 'link_off']) assert.equal(armed().next({ word }, 'A first', PRESSED), 'over', `${word} shows nothing of it, so it is told`);
 });
 
 test('a press that is armed once more counts from the clerk\'s press', () => {
@@ -474,6 +518,15 @@ test('a language without a place, or with one that is none, writes numbers as th
   for (const language of ['it', 'de']) {
     assert.ok(await speak(language));
     assert.equal(kg(9000), '9.000 kg');
+  }
+});
+
+test('a date alone is the same day in each zone', async () => {
+  const { dateOf, speak, useZone } = await wordsOf({ en: ENGLISH }, 'date');
+  assert.ok(await speak('en'));
+  for (const zone of ['America/Los_Angeles', 'Pacific/Auckland', 'UTC']) {
+    useZone(zone);
+    assert.equal(dateOf('2026-06-08'), '08 Jun 2026', zone);
   }
 });
 

@@ -124,6 +124,11 @@ class TheRows(unittest.TestCase):
                 with self.assertRaises(NoExport, msg=f"{column}: {field[:30]}"):
                     list(rows_of(export(line(**{column: field}))))
 
+    def test_a_damaged_digest_may_have_any_letters(self):
+        for damaged in ("\r\n", "\n", '"",', "Ä\r\nx"):
+            rows = list(rows_of(export(line(digest=f'"{damaged}"'), line(number="2"))))
+            self.assertEqual([damaged.replace('""', '"'), DIGEST], [it.digest for it in rows])
+
     def test_what_is_no_export_is_refused(self):
         good = export(line())
         for text in (

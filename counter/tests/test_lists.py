@@ -281,6 +281,8 @@ class Kept(unittest.IsolatedAsyncioTestCase):
         for asked in (
             {"plate": "AB-12", "kind": "first"},
             {"plate": "CD-34", "tare": "5000"},
+            {"plate": "AB-12", "kind": "single", "tare": "4980"},
+            {"plate": "AB-12", "kind": "single", "tare": ""},
             {"tare": "5000"},
             {},
         ):

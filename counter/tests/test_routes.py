@@ -89,6 +89,8 @@ class ManyAskers(unittest.IsolatedAsyncioTestCase):
 
 
 class AKey(unittest.IsolatedAsyncioTestCase):
+    under_way: frozenset = frozenset()
+
     async def asked(self, key, *answers):
         async def ask(method, target, body=None, within=15.0):
             if (answer := answers[0]) is None:
@@ -97,6 +99,7 @@ class AKey(unittest.IsolatedAsyncioTestCase):
 
         routes = routes_over(SimpleNamespace(ask=ask))
         routes.counter.books = Books(routes.counter.office, zoneinfo.ZoneInfo("UTC"), Counter())
+        routes.counter.acts = SimpleNamespace(tasks=self.under_way)
         answer = await routes.key(
             make_mocked_request("GET", f"/keys/{key}", match_info={"key": key})
         )
@@ -113,6 +116,23 @@ class AKey(unittest.IsolatedAsyncioTestCase):
         self.assertEqual((503, {"found": None}), await self.asked("K1", (503, "store 2 disk\n")))
         for text in ("", "number,key\n1,K1\n", export(ROW)[:-40]):
             self.assertEqual((502, {"found": None}), await self.asked("K1", (200, text)), text)
+
+    async def test_a_request_on_its_way_comes_to_its_end_before(self):
+        rows = [200, export()]
+
+        async def store():
+            await asyncio.sleep(0.05)
+            rows[1] = export(ROW)
+
+        self.under_way = {asyncio.ensure_future(store())}
+        self.assertEqual((200, {"found": True}), await self.asked("K1", rows))
+
+    async def test_if_it_does_not_come_to_its_end_the_answer_says_that_it_is_not_known(self):
+        self.under_way = {asyncio.ensure_future(asyncio.sleep(60))}
+        with mock.patch("weighbridge_counter.routes.UNDER_WAY_FOR", 0.05):
+            self.assertEqual((503, {"found": None}), await self.asked("K1", (200, export())))
+        for it in self.under_way:
+            it.cancel()
 
 
 class AtTheOffice(unittest.IsolatedAsyncioTestCase):

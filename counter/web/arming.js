@@ -1,10 +1,12 @@
 // Keeps a press of the clerk while the load still moves. It needs no browser, and has no clock of its own.
 
+import { weighingOf } from './guide.js';
+
 export const ARMED_FOR = 20000;      // milliseconds after the press
 export const READY_FOR = 1000;       // milliseconds that the page is ready before the weighing is sent, so that the clerk sees the weight
 
 // What a press is for. If any of it changes, the clerk has to press again.
-export const subjectOf = (plate, choice) => [plate, choice.kind, choice.tare ?? '', choice.first?.number ?? ''].join(' ');
+export const subjectOf = (plate, choice) => `${plate} ${weighingOf(choice)}`;
 
 export class Arming {
   #subject = null;
@@ -35,7 +37,7 @@ export class Arming {
   }
 
   #outcome(told, subject, at) {
-    if (!told.isReady && !told.isArmable) return told.word === 'one_moment' ? 'over' : 'asked';
+    if (!told.isReady && !told.isArmable) return told.word === 'one_moment' || told.word.startsWith('link_') ? 'over' : 'asked';
     if (subject !== this.#subject || at - this.#since > ARMED_FOR) return 'over';
     return told.isReady && at - this.#readySince >= READY_FOR ? 'fires' : 'waits';
   }

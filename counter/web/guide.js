@@ -50,6 +50,9 @@ export function choiceOf(now) {
   return { kind: 'first' };
 }
 
+// By what a weighing differs from another one of the same plate.
+export const weighingOf = ({ kind, tare, first }) => [kind, tare ?? '', first?.number ?? ''].join(' ');
+
 // Returns the plates with a kept tare that are the typed one without hyphens. They may be other vehicles, so none is taken without an answer.
 function spellings({ plate, tares }, choice) {
   if (choice.kind !== 'first' || tares[plate]) return [];
@@ -72,23 +75,33 @@ export function doubtOf(tare, gross, empty) {
 
 export const grossOf = weight => weight && weight.net !== null ? weight.net + (weight.tare ?? 0) : null;
 
+const UNSEEN_FOR = 8000;             // milliseconds without a weight, after which another load may be on the bridge
+
 // Which load the plate in the form is for. A plate that was typed on an empty bridge, or while a weighed vehicle drives off, is for the next load. A plate leaves
-// the form with its load, whoever weighed that, so that the next vehicle is never ready under it.
+// the form with its load, whoever weighed that, so that the next vehicle is never ready under it. It leaves too if the page didn't see the load for a while.
 export class PlateOfLoad {
   #isForThis = false;
   #isBack = false;
   #entry = null;
   #isLoaded = false;
   #loads = 0;
+  #seenAt = null;
+  #seenPlate = '';
+  #wasUnseen = false;
 
   // The entry by which the load on the bridge was weighed; null if it wasn't, or if the counter didn't see it.
   get entry() {
     return this.#entry;
   }
 
-  // How many loads have left. As long as it stays the same, the load is the same.
+  // How many loads have left, or may have. As long as it stays the same, the load is the same.
   get loads() {
     return this.#loads;
+  }
+
+  // Whether the page had no weight for a while before the newest one.
+  get wasUnseen() {
+    return this.#wasUnseen;
   }
 
   // The load on the bridge was weighed, by this page or by another. The counter's state says so a moment later.
@@ -101,17 +114,22 @@ export class PlateOfLoad {
     this.#isBack = true;
   }
 
-  // Takes what is known now. Returns true once the load has left for which the plate was typed.
-  hasLeft({ plate, weight, state, min, waiting }) {
-    const gross = grossOf(weight), hadPlate = this.#isForThis && Boolean(plate);
+  // Takes what is known now, at a time of the day in milliseconds. Returns true once the load has left for which the plate was typed, or may have.
+  hasLeft({ plate, weight, state, min, waiting, at }) {
+    const gross = grossOf(weight);
+    this.#wasUnseen = gross !== null && this.#seenAt !== null && Math.abs(at - this.#seenAt) > UNSEEN_FOR;
     if (gross === null) return false;
-    const isNoLoad = gross < min, isWeighed = this.#entry !== null || waiting !== null || ['weighed', 'restarted'].includes(state.bridge);
-    this.#isForThis = Boolean(plate) && !isNoLoad && (hadPlate || this.#isBack || !isWeighed);
+    if (this.#wasUnseen) this.#entry = null;
+    const hadPlate = this.#isForThis && Boolean(plate), isNoLoad = gross < min, isWeighed = this.#entry !== null || waiting !== null || ['weighed', 'restarted'].includes(state.bridge);
+    const leaves = hadPlate && (this.#wasUnseen ? plate === this.#seenPlate : isNoLoad);
+    this.#isForThis = Boolean(plate) && !leaves && !isNoLoad && (hadPlate || this.#isBack || !isWeighed);
     this.#isBack = false;
-    if (isNoLoad && this.#isLoaded) this.#loads++;
+    this.#seenAt = at;
+    this.#seenPlate = plate;
+    if ((isNoLoad || this.#wasUnseen) && this.#isLoaded) this.#loads++;
     this.#isLoaded = !isNoLoad;
     if (isNoLoad) this.#entry = null;
-    return isNoLoad && hadPlate;
+    return leaves;
   }
 }
 
@@ -160,16 +178,20 @@ function driveOff(newest) {
   return { word: newest.isWithdrawn ? 'drive_off_withdrawn' : 'drive_off', values: { plate: newest.plate, paper: newest.paper, number: newest.number } };
 }
 
+// A message about something that is over keeps no press from its effect.
+const isPast = ({ word }) => word === 'armed_over';
+const mayPress = ({ isReady, isArmable }) => ({ isReady, isArmable });
+
 export function step(now) {
   const { link, weight, state, plate, result, told } = now;
   if (now.waiting) return now.waiting;
   if (result && !plate && link !== 'up' && now.isResultNew) return result;     // what came of the press comes before a fault
   if (link !== 'up') return { look: 'bad', word: `link_${link}` };
-  if (told) return told;
+  if (told) return isPast(told) ? { ...told, ...mayPress(step({ ...now, told: null })) } : told;
   if (['I', '+', '-'].includes(weight.state)) return { look: 'bad', word: { I: 'no_weight', '+': 'overload', '-': 'below_zero' }[weight.state] };
   const gross = grossOf(weight), isLight = gross < now.min;
   if (result && !plate) return result;
-  if (weight.tare && !state.busy) return { look: 'wait', word: 'foreign_tare', values: { tare: weight.tare }, choices: ['clear_tare'] };
+  if (weight.tare && state.tare && !state.busy) return { look: 'wait', word: 'foreign_tare', values: { tare: weight.tare }, choices: ['clear_tare'] };
   if (isLight) return isEmpty(state.off_zero);
   if (state.bridge === 'weighed') return { look: 'wait', ...driveOff(now.newest) };
   if (state.bridge === 'restarted') return { look: 'wait', word: 'drive_off_restarted' };
@@ -187,8 +209,8 @@ export function step(now) {
     return { look: 'wait', ...doubt, answers: [answerTo('odd_tare', `${doubt.word} ${choice.tare}`, ANSWER_KEYS.odd_tare, 'right_tare')] };
   }
   if (choice.tare && state.off_zero.is_doubtful && !isAnswered(now, 'off_zero', `${state.off_zero.before}`)) return wasOffZero(state.off_zero);
-  if (net !== null && net < now.min && !isAnswered(now, 'small_net', choice.kind)) {
-    return { look: 'wait', word: 'small_net', values: { net }, answers: [answerTo('small_net', choice.kind, ANSWER_KEYS.small_net, 'right_vehicle')] };
+  if (net !== null && net < now.min && !isAnswered(now, 'small_net', weighingOf(choice))) {
+    return { look: 'wait', word: 'small_net', values: { net }, answers: [answerTo('small_net', weighingOf(choice), ANSWER_KEYS.small_net, 'right_vehicle')] };
   }
   if (now.isDeaf) return { look: 'wait', word: 'one_moment', values: { plate } };
   return moves ? { look: 'wait', word: 'moving_typed', isArmable: true } : { look: 'do', word: 'ready', isReady: true };

@@ -5,7 +5,7 @@ import { openEntry } from './papers.js';
 import { button, make, part } from './parts.js';
 import { askJson } from './request.js';
 import { acts } from './show.js';
-import { dayOf, isToday, kg, language, number, paperOf, t, timeOf, whenOf } from './words.js';
+import { dateOf, dayOf, isToday, kg, language, number, paperOf, t, timeOf, whenOf } from './words.js';
 
 const ROWS_AT_ONCE = 200;            // further rows are drawn as the clerk scrolls to their end
 const KINDS = { first: '→', second: '⇄', single: '◆', void: '✕' };
@@ -41,7 +41,7 @@ class Rows {
     let next = this.#list.firstChild;
     for (const entry of wanted) {
       const look = lookOf(entry), made = this.#made.get(entry.number) ?? this.#make(entry.number);
-      const told = [language, day, look, entry.plate, entry.at, entry.gross, entry.net].join(' ');
+      const told = [language, day, look, entry.plate, entry.at, entry.gross, entry.net, entry.first].join(' ');
       if (made.told !== told) this.#fill(Object.assign(made, { told, entry }), look, says(entry));
       if (made.row === next) next = next.nextSibling;
       else this.#list.insertBefore(made.row, next);
@@ -133,7 +133,7 @@ export function printDay({ day, entries, sums }, company) {
   const cells = it => [it.number, timeOf(it.at), it.plate, t(`kind_${it.kind}`), it.gross === null ? '' : number(it.gross), it.tare === null ? '' : number(it.tare), it.net === null ? '' : number(it.net), it.direction ? t(`way_${it.direction}`) : ''];
   const heads = [t('column_number'), t('column_time'), t('plate'), t('column_kind'), t('gross'), t('column_tare'), t('column_net'), t('column_way')].map(textContent => make('th', { textContent }));
   const rows = entries.map(it => make('tr', {}, ...cells(it).map(textContent => make('td', { textContent }))));
-  part('paper').replaceChildren(make('p', { className: 'title', textContent: `${company} · ${dayOf(`${day}T12:00:00Z`)}` }), make('p', { textContent: sumsOf(sums) }), make('p', { className: 'small', textContent: t('list_only') }),
+  part('paper').replaceChildren(make('p', { className: 'title', textContent: `${company} · ${dateOf(day)}` }), make('p', { textContent: sumsOf(sums) }), make('p', { className: 'small', textContent: t('list_only') }),
     make('table', {}, make('thead', {}, make('tr', {}, ...heads)), make('tbody', {}, ...rows)));
   window.print();
 }
@@ -148,10 +148,17 @@ function closeSearch(entry) {
   open(entry);
 }
 
+// What stands below the hits: how many more there are, or why there may be.
+function endOf(answer, hits) {
+  if (answer?.status !== 200) return t('search_failed');
+  const more = answer.found - hits.length;
+  const says = more > 0 ? t('more_hits', { number: number(more) }) : hits.length ? '' : t('nothing_found');
+  return [says, ...(answer.whole ? [] : [t('lists_lack')])].filter(Boolean).join(' ');
+}
+
 export async function search() {
   const query = part('query').value.trim();
   const answer = query ? await askJson('GET', `/search?q=${encodeURIComponent(query)}`) : null, hits = answer?.hits ?? [];
   if (part('query').value.trim() !== query) return;
-  const more = (answer?.found ?? 0) - hits.length;
-  rows.hits.show(hits, { lookOf: entry => entry.kind === 'void' ? 'void' : '', says: entrySays, end: more > 0 ? t('more_hits', { number: number(more) }) : hits.length || !query ? '' : t('nothing_found') });
+  rows.hits.show(hits, { lookOf: entry => entry.kind === 'void' ? 'void' : '', says: entrySays, end: query ? endOf(answer, hits) : '' });
 }

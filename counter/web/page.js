@@ -7,7 +7,7 @@ import { DEAF_FOR, deedOf } from './hands.js';
 import { clerk, feed, GIVEN, givenOf, known, linkNow, nowKnown, plate } from './known.js';
 import { printDay, search, showLists } from './lists.js';
 import { keepTare, print, showJobs } from './papers.js';
-import { showTares } from './tares.js';
+import { forgetPress, showTares } from './tares.js';
 import { make, part } from './parts.js';
 import { ask, askJson } from './request.js';
 import { showRuns } from './runs.js';
@@ -116,9 +116,9 @@ function openPapers() {
 }
 
 async function keepTareOf({ plate: of, kg: value }) {
-  const answer = await keepTare(of, value);
-  if (clerk.result) clerk.result.tare = null;
-  tell(answer?.status === 200 ? 'ok' : 'bad', answer?.status === 200 ? 'tare_kept' : 'tare_not_kept', `${of}: ${kg(value)}`);
+  const isKept = (await keepTare(of, value))?.status === 200;
+  if (isKept && clerk.result?.tare?.plate === of) clerk.result.tare = null;
+  tell(isKept ? 'ok' : 'bad', isKept ? 'tare_kept' : 'tare_not_kept', `${of}: ${kg(value)}`);
   focusPlate();
 }
 
@@ -154,12 +154,20 @@ function useTare() {
   beDeaf();
 }
 
-const showKept = () => showTares(known.tares, of => ask('DELETE', `/tares/${of}`));
+const showKept = () => showTares(known.tares, async of => (await ask('DELETE', `/tares/${of}`))?.status === 200);
 
 function openKept() {
   part('kept-query').value = '';
+  forgetPress();
   showKept();
   part('keeping').showModal();
+}
+
+// What was found before may have changed since.
+function openSearch() {
+  part('searching').showModal();
+  part('query').select();
+  search();
 }
 
 function weighFirstInstead() {
@@ -194,6 +202,15 @@ function clearGiven() {
   for (const it of GIVEN) part(it).value = '';
 }
 
+// What the clerk typed for one vehicle.
+const formNow = () => ({ plate: plate(), oneTare: clerk.oneTare, isFirstInstead: clerk.isFirstInstead, given: Object.fromEntries(GIVEN.map(it => [it, part(it).value])) });
+
+function fillForm({ plate: of, given, ...choice }) {
+  part('plate').value = of;
+  for (const it of GIVEN) part(it).value = given[it];
+  Object.assign(clerk, choice);
+}
+
 function emptyForm() {
   clerk.arming.end();
   part('plate').value = '';
@@ -208,28 +225,40 @@ function clearPlate() {
   focusPlate();
 }
 
-// The load has left for which the plate was typed. A clerk whose vehicle only moves gets the plate back by one press.
-function plateLeft(of) {
+// The load has left for which the plate was typed, or may have. A clerk whose vehicle is still there gets the plate back by one press.
+function plateLeft(of, wasUnseen) {
+  clerk.formThatLeft = formNow();
   emptyForm();
-  clerk.plateThatLeft = of;
-  tell('wait', 'plate_left', undefined, { plate: of }, ['plate_again']);
+  tell('wait', wasUnseen ? 'plate_unseen' : 'plate_left', undefined, { plate: of }, ['plate_again']);
+}
+
+function plateAgain() {
+  fillForm(clerk.formThatLeft);
+  clerk.answered = {};
+  clerk.result = clerk.told = null;
+  beDeaf();
+  focusPlate();
 }
 
 // What the clerk typed for one vehicle leaves the form with its request, so that letters typed before the answer are the next vehicle's plate, whole. If
 // nothing was stored, it comes back, unless the next plate has been begun. If the same load moved, the press waits for it, and true is returned.
 function takeForm(subject, since) {
-  const loads = clerk.plateOfLoad.loads, held = { plate: plate(), oneTare: clerk.oneTare, isFirstInstead: clerk.isFirstInstead, given: Object.fromEntries(GIVEN.map(it => [it, part(it).value])) };
+  const loads = clerk.plateOfLoad.loads, held = formNow();
   clearPlate();
   return hasMoved => {
     if (plate()) return false;
-    part('plate').value = held.plate;
+    fillForm(held);
     clerk.plateOfLoad.isBack();
-    for (const it of GIVEN) part(it).value = held.given[it];
-    Object.assign(clerk, { oneTare: held.oneTare, isFirstInstead: held.isFirstInstead });
     if (hasMoved && clerk.plateOfLoad.loads === loads && performance.now() - since <= ARMED_FOR) clerk.arming.begin(subject, since);
     show();
     return clerk.arming.isArmed;
   };
+}
+
+// Another vehicle: what was typed for the paper of the one before isn't for its paper.
+function takeVehicle(of) {
+  if (of !== plate()) clearGiven();
+  take(of);
 }
 
 function take(of, key) {
@@ -268,8 +297,8 @@ function typed(event) {
 
 Object.assign(acts, {
   set_zero: setZero, clear_tare: clearTare, journal_seen: closeJournalBar, print: printResult, print_number: printNumber, show_papers: openPapers, keep_tare: keepTareOf, tare_from_papers: askTare, given_lines: askGiven, first_instead: weighFirstInstead,
-  plate_left: plateLeft, plate_again: () => take(clerk.plateThatLeft), weigh, disarm, armed_over: () => tell('wait', 'armed_over', undefined, { plate: plate() }),
-  withdraw: ({ plate: of, number: first }) => begin('/voids', { plate: of }, undefined, { first }), take, answer, clear: clearPlate, focus: focusPlate,
+  plate_left: plateLeft, plate_again: plateAgain, weigh, disarm, armed_over: armedOver, choice_changed: () => beDeaf(),
+  withdraw: ({ plate: of, number: first }) => begin('/voids', { plate: of }, undefined, { first }), take: takeVehicle, answer, clear: clearPlate, focus: focusPlate,
 });
 
 function press(event) {
@@ -287,6 +316,12 @@ function weigh(since = performance.now()) {
   const choice = choiceOf(nowKnown()), subject = subjectOf(plate(), choice);
   const given = Object.fromEntries(GIVEN.map(it => [it, givenOf(it)]).filter(([, value]) => value));
   begin('/weighings', { kind: choice.kind, plate: plate(), ...(choice.tare ? { tare: String(choice.tare) } : {}), ...given }, () => takeForm(subject, since));
+}
+
+// An Enter at this very moment is meant for the press that is over.
+function armedOver() {
+  tell('wait', 'armed_over', undefined, { plate: plate() });
+  beDeaf();
 }
 
 function disarm() {
@@ -367,7 +402,7 @@ function listenToHands() {
   part('tare-form').addEventListener('submit', useTare);
   part('zero').addEventListener('click', setZero);
   part('last').addEventListener('click', printLast);
-  part('find').addEventListener('click', () => { part('searching').showModal(); part('query').select(); });
+  part('find').addEventListener('click', openSearch);
   part('query').addEventListener('input', search);
   part('print-today').addEventListener('click', printToday);
   part('tares').addEventListener('click', openKept);

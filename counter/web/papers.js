@@ -32,9 +32,12 @@ export async function textAgain(number) {
   return { why: t(refusal && has(`refused_${refusal}`) ? `refused_${refusal}` : 'office_silent') };
 }
 
-// Opens the text of an entry. `press` prints its paper, `isOpenFirst` says whether it is an open first weighing now, `withdraw` begins its void.
+let opened = 0;
+
+// Opens the text of an entry; of two presses only the newer one's. `press` prints its paper, `isOpenFirst` says whether it is an open first weighing now, `withdraw` begins its void.
 export async function openEntry(entry, printers, press, isOpenFirst, withdraw) {
-  const { text, from, why } = await textAgain(entry.number);
+  const mine = ++opened, { text, from, why } = await textAgain(entry.number);
+  if (mine !== opened) return;
   part('entry-title').textContent = `${paperOf(entry)} ${entry.number} · ${entry.plate}`;
   part('entry-sub').textContent = [t(`kind_${entry.kind}`), `${dayOf(entry.at)} ${timeOf(entry.at)}`, ...moreOf(entry)].join(' · ');
   part('entry-text').textContent = text ?? why;

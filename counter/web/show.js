@@ -1,11 +1,11 @@
 // What is shown: the weight, the one sentence, the form and the bars at the top, each only where it changed.
 
 import { subjectOf } from './arming.js';
-import { choiceOf, demoOf, grossOf, isFalseDemo, isPlate, netOf, step } from './guide.js';
+import { choiceOf, demoOf, grossOf, isFalseDemo, isPlate, netOf, step, weighingOf } from './guide.js';
 import { PAGE_KEYS } from './hands.js';
 import { clerk, known, nowKnown } from './known.js';
 import { button, make, onlyChanged, part } from './parts.js';
-import { dayOf, has, kg, language, number, t, whenOf } from './words.js';
+import { dateOf, has, kg, language, number, t, whenOf } from './words.js';
 
 const RESULT_AFTER_LEAVING = 2500;   // milliseconds that a result stays once the vehicle has left
 const SIGNS = { ok: '✔', wait: '◔', bad: '⚠', calm: '▷', do: '➜' };
@@ -18,8 +18,14 @@ export const isAsking = () => document.querySelector('dialog[open]') !== null;
 export function show() {
   if (!has('plate')) return;
   const now = nowKnown();
-  if (clerk.plateOfLoad.hasLeft(now)) {
-    acts.plate_left(now.plate);
+  const hasLeft = clerk.plateOfLoad.hasLeft(now), { wasUnseen } = clerk.plateOfLoad;
+  if (wasUnseen) forgetLoad(now);
+  if (hasLeft) {
+    acts.plate_left(now.plate, wasUnseen);
+    return;
+  }
+  if (isOtherChoice(now)) {
+    acts.choice_changed();
     return;
   }
   forgetResult(now);
@@ -54,6 +60,19 @@ function forgetResult(now) {
   if (!result || gross === null) return;
   if (gross < now.min) result.leftAt ??= performance.now();
   if (result.leftAt !== undefined && (gross >= now.min || performance.now() - result.leftAt > RESULT_AFTER_LEAVING)) clerk.result = null;
+}
+
+// Another load may be on the bridge: neither answers nor what came of an older press are of it.
+function forgetLoad(now) {
+  clerk.answered = {};
+  if (!now.isResultNew) clerk.result = null;
+}
+
+// Whether the plate in the form now means another weighing than the clerk saw last, by what a colleague did or by the time.
+function isOtherChoice(now) {
+  const shown = clerk.choice;
+  clerk.choice = { plate: now.plate, weighing: weighingOf(choiceOf(now)) };
+  return now.plate !== '' && shown.plate === now.plate && shown.weighing !== clerk.choice.weighing;
 }
 
 // An answer is for one vehicle. Once the bridge is empty, the page asks again for the next one.
@@ -119,7 +138,7 @@ function hintsOf(form) {
 
 function aboutPlate({ plate, choice, kept }) {
   if (choice.first) return [make('b', { textContent: t('on_site_since', { time: whenOf(choice.first.at), kg: kg(choice.first.gross) }) })];
-  if (kept) return [make('b', { textContent: t(kept.is_over ? 'tare_is_over' : kept.by ? 'tare_is_kept_by' : 'tare_is_kept', { kg: kg(kept.kg), day: dayOf(kept.until), by: kept.by }) })];
+  if (kept) return [make('b', { textContent: t(kept.is_over ? 'tare_is_over' : kept.by ? 'tare_is_kept_by' : 'tare_is_kept', { kg: kg(kept.kg), day: dateOf(kept.until), by: kept.by }) })];
   return plate ? [make('span', { textContent: t('not_on_site') })] : [];
 }
 

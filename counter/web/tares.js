@@ -4,12 +4,19 @@ import { DEAF_FOR } from './hands.js';
 import { known } from './known.js';
 import { roundedTare } from './guide.js';
 import { button, make, part } from './parts.js';
-import { dayOf, kg, number, t } from './words.js';
+import { dateOf, kg, number, t } from './words.js';
 
 const MOST_ROWS = 200;
-let asked = { plate: null, at: 0 };  // which one the clerk was asked about, and when
+const NOBODY = { plate: null, at: 0 };
+let asked = NOBODY;                  // which one the clerk was asked about, and when
+let failed = null;                   // the plate whose tare couldn't be dropped
 
-// `drop` drops the tare of a plate. The counter then tells the page, which shows the others.
+export function forgetPress() {
+  asked = NOBODY;
+  failed = null;
+}
+
+// `drop` drops the tare of a plate, and returns whether that was done. The counter then tells the page, which shows the others.
 export function showTares(tares, drop) {
   const query = part('kept-query').value.toUpperCase().replace(/[^A-Z0-9]/g, '');
   const plates = Object.keys(tares).filter(it => it.replaceAll('-', '').includes(query)).sort();
@@ -20,8 +27,9 @@ export function showTares(tares, drop) {
 }
 
 function rowOf(plate, { kg: value, until, by, used, is_over: isOver }, act) {
-  const says = [t(isOver ? 'kept_over' : 'kept_until', { day: dayOf(until) }), ...(by ? [t('kept_by', { by })] : []), used ? t('kept_used', { day: dayOf(used) }) : t('kept_unused')];
+  const says = [t(isOver ? 'kept_over' : 'kept_until', { day: dateOf(until) }), ...(by ? [t('kept_by', { by })] : []), used ? t('kept_used', { day: dateOf(used) }) : t('kept_unused')];
   const row = make('div', {}, make('b', { textContent: `${plate} · ${kg(roundedTare(value, known.hello.interval))}` }), make('p', { textContent: says.join(' · ') }));
+  if (failed === plate) row.append(make('p', { className: 'bad', role: 'alert', textContent: t('tare_not_dropped') }));
   const isAsked = asked.plate === plate;
   return make('li', { className: isOver ? 'late' : '' }, row, button(t(isAsked ? 'drop_sure' : 'drop_tare', { plate }), act, { className: 'danger', ariaLabel: t(isAsked ? 'drop_sure' : 'drop_tare', { plate }) }));
 }
@@ -31,8 +39,12 @@ function press(plate, tares, drop) {
   const now = performance.now();
   if (asked.plate !== plate) asked = { plate, at: now };
   else if (now - asked.at >= DEAF_FOR) {
-    asked = { plate: null, at: 0 };
-    drop(plate);
+    forgetPress();
+    drop(plate).then(isDropped => {
+      if (isDropped) return;
+      failed = plate;
+      showTares(tares, drop);
+    });
   }
   showTares(tares, drop);
   const at = [...part('kept').querySelectorAll('button')].find(it => it.textContent === t('drop_sure', { plate }));

@@ -29,7 +29,7 @@ export function begin(target, form, takeForm = NOTHING_TAKEN, about = {}) {
   if (keptRequest()) { resume(); return; }
   const request = newRequest(target, form, about);
   if (request === null) tell('bad', 'keeps_nothing');
-  else conclude(request, takeForm());
+  else conclude({ ...request, loads: clerk.plateOfLoad.loads }, takeForm());
 }
 
 const whatOf = request => ({ what: `${t(request.form.kind ? `kind_${request.form.kind}` : 'kind_void')}, ${request.form.plate}` });
@@ -73,7 +73,8 @@ function finish(request, text) {
   const at = Number(/ (\d+)\n/.exec(text)[1]), net = /^N +(\d+) kg$/m.exec(text)?.[1], grosses = [...text.matchAll(/^G +(\d+) kg$/mg)].map(it => Number(it[1]));
   const kind = request.form.kind ?? 'void', first = request.about?.first, values = { paper: paperOf({ kind }), number: at, plate: request.form.plate, first };
   const word = kind === 'void' ? first ? 'done_void' : 'done_void_any' : net === undefined ? 'done_first' : 'done_net';
-  if (kind !== 'void') clerk.plateOfLoad.weighed({ kind, plate: request.form.plate, number: at });
+  const isOfThisLoad = clerk.plateOfLoad.loads === request.loads && !known.today.some(it => it.number === at);
+  if (kind !== 'void' && isOfThisLoad) clerk.plateOfLoad.weighed({ kind, plate: request.form.plate, number: at });
   const isPair = grosses.length === 2 && Number(net) >= MIN_INTERVALS * known.hello.interval;
   clerk.result = {
     look: 'ok', word, values: { ...values, kg: Number(net ?? grosses[0] ?? 0) }, choices: ['print'], number: at, text, madeAt: performance.now(),
@@ -85,6 +86,6 @@ function finish(request, text) {
 // What this browser kept, of a page before this one or of another window, is sent again by itself, unless it is old.
 export function resume() {
   const kept = keptRequest();
-  if (kept && isOld(kept)) leave(kept);
-  else if (kept) conclude({ ...kept, isUnsure: true });
+  if (kept && isOld(kept)) leave({ ...kept, loads: null });
+  else if (kept) conclude({ ...kept, loads: null, isUnsure: true });
 }

@@ -44,7 +44,10 @@ export const kg = value => `${number(value)} kg`;
 export const paperOf = entry => t(entry.kind === 'second' || entry.kind === 'single' ? 'ticket' : 'slip');
 
 const written = (at, options) => writer(Intl.DateTimeFormat, own.place, { timeZone: zone, ...options }).format(new Date(at));
-export const dayOf = at => written(at, { day: '2-digit', month: 'short', year: 'numeric' });
+const DAY = { day: '2-digit', month: 'short', year: 'numeric' };
+export const dayOf = at => written(at, DAY);
+// Of a date alone, as YYYY-MM-DD, in no zone.
+export const dateOf = date => writer(Intl.DateTimeFormat, own.place, { timeZone: 'UTC', ...DAY }).format(new Date(date));
 export const timeOf = at => written(at, { hour: '2-digit', minute: '2-digit', hourCycle: 'h23' });
 export const isToday = at => dayOf(at) === dayOf(Date.now());
 export const whenOf = at => isToday(at) ? timeOf(at) : `${dayOf(at)} ${timeOf(at)}`;

@@ -133,6 +133,7 @@ class Books:
             return
         except NoExport:
             self.counts["exports_not_understood"] += 1
+            self.read_at = time.monotonic()  # the next one waits until the bridge is empty
             return
         self._take_export(read, why, known, place)
         self.read_at = time.monotonic()

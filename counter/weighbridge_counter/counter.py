@@ -123,11 +123,11 @@ class Counter:
     def _take_value(self, value: Value) -> None:
         if self._is_light():
             self.bridge = "empty"
-        before = self.off_zero.shown()
+        before, tare = self.off_zero.shown(), self.terminal.fanout.tare
         self.off_zero.saw(value.at, value.state, self.gross())
-        if self.off_zero.shown() != before:
-            self.tell_state()  # before the weight, so that no page has a vehicle's weight without what the bridge showed before
-        looks = (value.state, value.kg, self.terminal.fanout.tare)
+        if self.off_zero.shown() != before or self.told_state.get("tare") != tare:
+            self.tell_state()  # before the weight, so that no page has a weight without what the bridge showed before, or a tare without whose it is
+        looks = (value.state, value.kg, tare)
         since = value.at - self.told_weight_at
         if (looks != self.told_weight and since >= FASTEST) or since >= SLOWEST:
             self.told_weight, self.told_weight_at = looks, value.at

@@ -31,6 +31,7 @@ SMALL_BUFFER = 16384  # bytes in the system on the way to a page
 LOOK_AT_SLOW_PAGE_EVERY = 0.05  # seconds
 READS_NOTHING = 5.0  # seconds: a page that takes nothing for so long is closed, and begins anew
 MOST_ASKING = 4  # of the office's sixteen places
+UNDER_WAY_FOR = 30.0  # seconds: longer than the office is waited for
 POLICY = (
     "default-src 'none'; script-src 'self'; style-src 'self'; img-src 'self'; connect-src 'self'; "
     "base-uri 'none'; form-action 'none'; frame-ancestors 'none'; require-trusted-types-for 'script'"
@@ -353,7 +354,13 @@ class Routes:
         return as_text(table.encode(), 200, "text/csv; charset=utf-8; header=present", **fields)
 
     async def key(self, request: web.Request) -> web.StreamResponse:
-        """Answer if an entry of the journal has the key. This asks for an export, and stores nothing."""
+        """Answer if an entry of the journal has the key. This asks for an export, and stores nothing.
+
+        The request with this key may still be on its way to the office, although its client is gone. So the acts that were begun come to their end before.
+        """
+        under_way = set(self.counter.acts.tasks)
+        if under_way and (await asyncio.wait(under_way, timeout=UNDER_WAY_FOR))[1]:
+            return as_json({"found": None}, 503)
         try:
             answer, _ = await self.counter.books.export_of_now()
             if answer.status != 200:

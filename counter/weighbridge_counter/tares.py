@@ -90,17 +90,19 @@ class Tares:
         self.on_change(plate)
 
     async def use(self, asked: Mapping[str, str]) -> None:
-        """Note the day on which a request weighed with a tare. This doesn't wait for the disk, because only the list of kept tares shows the day."""
-        plate = asked.get("plate", "")
-        if "tare" not in asked or plate not in self.kept:
-            return
+        """Note the day on which a request weighed with a kept tare. This doesn't wait for the disk, because only the list of kept tares shows the day."""
+        plate, tare = asked.get("plate", ""), asked.get("tare", "")
         async with self.one_at_a_time:
             kept, today = self.kept.get(plate), self.today()
-            if kept is None or kept.used == today:
+            if kept is None or kept.used == today or not self._is_of(kept, tare):
                 return
             self.kept = {**self.kept, plate: replace(kept, used=today)}
             self.files.keep(FILE, self._noted(self.kept))
         self.on_change(plate)
+
+    def _is_of(self, kept: Kept, tare: str) -> bool:
+        """Return whether a request's tare is the kept one as the scale rounds it, and no other one that a clerk typed."""
+        return tare.isdecimal() and abs(int(tare) - kept.kg) <= self.least
 
     def shown(self, plate: str) -> dict[str, Any] | None:
         """Return what the pages show of a plate's kept tare, or None if none is kept."""

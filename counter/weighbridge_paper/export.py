@@ -68,8 +68,8 @@ def records_of(export: str) -> Iterator[list[str]]:
     """Return the fields of each row. Raises NoExport if the text is no export, or was cut."""
     if not export.startswith(f"{HEADER}\n"):
         raise NoExport(f"it begins with {export[:40]!r}, not with the columns of the journal")
-    if not export.endswith("\n") or "\r\n" in export:
-        raise NoExport("its last line was cut, or its lines end with CR LF")
+    if not export.endswith("\n") or export.endswith("\r\n"):
+        raise NoExport("its last line was cut, or ends with CR LF")
     try:
         for fields in csv.reader(lines_of(export, len(HEADER) + 1), strict=True):
             if len(fields) != len(COLUMNS):
