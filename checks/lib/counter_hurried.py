@@ -513,6 +513,7 @@ def an_early_enter(bridge, clerk):
     clerk.keys(ENTER)
     clerk.sees(f"TR-EE-55 {armed}", what="while the page says so, a new press counts")
     clerk.keys(ESCAPE)
+    bridge.converter.sway = 0
 
     arms("SW-AA-11", 7010)
     bridge.converter.sway = 0
@@ -574,7 +575,11 @@ def an_early_enter(bridge, clerk):
     clerk.sees("It is still moving.", what="another vehicle sways there when the office answers")
     stands(8000)
     time.sleep(2.5)
-    same("it isn't weighed by that press", [], rows(bridge)[len(before) :])
+    same(
+        "it isn't weighed by that press, and the plate isn't in the form",
+        ([], ""),
+        (rows(bridge)[len(before) :], clerk.plate()),
+    )
     clerk.browser.run("window.fetch = window.realFetch")
     clerk.keys(ESCAPE + ESCAPE)
 
@@ -679,6 +684,33 @@ def a_swap_that_the_page_did_not_see(bridge, clerk):
     clerk.keys(ESCAPE)
 
 
+def a_request_whose_load_left(bridge, clerk):
+    """Show that the page sends a request again until it has an answer, but never for another vehicle."""
+    bridge.next_vehicle(7000)
+    clerk.keys(ESCAPE + "GO-NE-1")
+    clerk.sees("Ready.")
+    clerk.browser.run(
+        """window.realFetch ??= window.fetch;
+        window.fetch = (target, how) => target.endsWith('/weighings') ? Promise.reject(new TypeError('cut')) : window.realFetch(target, how)"""
+    )
+    before = rows(bridge)
+    clerk.keys(ENTER)
+    clerk.sees("No answer yet.")
+    bridge.next_vehicle(8000)
+    clerk.browser.run("window.fetch = window.realFetch")
+    clerk.sees(
+        "No answer came to: First weighing, GO-NE-1",
+        what="a press without an answer isn't sent again once another vehicle is there",
+    )
+    same("and nothing is stored", [], rows(bridge)[len(before) :])
+    clerk.browser.click("#choices button:last-child")
+    clerk.sees("It was not stored.")
+    same("its plate isn't in the form for the other vehicle", "", clerk.plate())
+    clerk.browser.run("document.querySelector('#choices button').click()")
+    same("one press puts it back", "GO-NE-1", clerk.plate())
+    clerk.keys(ESCAPE)
+
+
 def a_colleague_weighs_it(bridge, clerk):
     bridge.next_vehicle(7000)
     clerk.keys(ESCAPE + "MINE-1")
@@ -777,6 +809,7 @@ def show(program):
         letters_before_the_answer(bridge, clerk)
         a_plate_leaves_with_its_load(bridge, clerk)
         a_swap_that_the_page_did_not_see(bridge, clerk)
+        a_request_whose_load_left(bridge, clerk)
         a_colleague_weighs_it(bridge, clerk)
         withdraws_only_what_it_shows(bridge, clerk)
     finally:

@@ -136,7 +136,7 @@ def a_key_answers_one_question(bridge, clerk):
 
 
 def a_tare_kept_under_the_finger(bridge, clerk):
-    """A colleague keeps a tare for the plate at the moment at which the clerk presses."""
+    """Keep a tare for the plate, as a colleague, at the moment at which the clerk presses."""
     bridge.next_vehicle(9170)
     clerk.keys(ESCAPE + "FI-NG-5")
     clerk.sees("Ready.")
@@ -215,7 +215,7 @@ def the_list(bridge, clerk):
     )
     clerk.browser.run(press)
     becomes(
-        "a tare that can't be deleted is told",
+        "if the tare can't be deleted, the list says so",
         lambda: "The tare was not deleted." in clerk.browser.text("#kept"),
     )
     clerk.browser.run("window.fetch = window.realFetch")

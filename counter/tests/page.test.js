@@ -5,7 +5,8 @@ import { readFileSync } from 'node:fs';
 import { test } from 'node:test';
 import { ARMED_FOR, Arming, READY_FOR, subjectOf } from './web/arming.js';
 import { alike, choiceOf, demoOf, doubtOf, isFalseDemo, plateOf, PlateOfLoad, roundedTare, step } from './web/guide.js';
-import { ANSWER_KEYS, DEAF_FOR, Deafness, HAMMERED_WITHIN, PAGE_KEYS, deedOf } from './web/hands.js';
+import { ALL_KEYS, ANSWER_KEYS, DEAF_FOR, Deafness, HAMMERED_WITHIN, PAGE_KEYS, deedOf } from './web/hands.js';
+import { send } from './web/request.js';
 
 const first = (plate, gross = 18340) => ({ plate, gross, at: '2026-03-10T08:00:00Z', number: 1 });
 const plates = (typed, onSite, weighedNear = []) => alike(typed, onSite.map(it => first(it)), weighedNear).map(it => it.plate);
@@ -286,22 +287,30 @@ test('it is known how many loads have left, so that another load is told from th
   assert.equal(load.loads, 2);
 });
 
-// Each row is a time in milliseconds, the plate and the net weight.
+// Each row is a time in milliseconds, the plate and the net weight, or null without a weight.
 const seen = (...rows) => {
-  const load = new PlateOfLoad();
-  return [load, rows.map(([at, plate, net]) => [load.hasLeft(now({ at, plate }, {}, { net })), load.wasUnseen, load.loads])];
+  const load = new PlateOfLoad(), known = (at, plate, net) => ({ ...now({ at, plate }, {}, { net }), ...(net === null ? { weight: null } : {}) });
+  return [load, rows.map(row => [load.hasLeft(known(...row)), load.wasUnseen, load.loads])];
 };
+const lastOf = (...rows) => seen(...rows)[1].at(-1);
 
 test('a plate leaves if the page had no weight for more than eight seconds, because another load may be there', () => {
   assert.deepEqual(seen([0, 'A', 9000], [8000, 'A', 9000], [16001, 'A', 9000], [16101, 'A', 9000])[1], [[false, false, 0], [false, false, 0], [true, true, 1], [false, false, 1]]);
-  assert.deepEqual(seen([0, 'A', 9000], [9000, 'A', 0])[1].at(-1), [true, true, 1], 'the bridge is empty');
-  assert.deepEqual(seen([12000, 'A', 9000], [3000, 'A', 9000])[1].at(-1), [true, true, 1], 'the clock was set back');
+  assert.deepEqual(lastOf([0, 'A', 9000], [9000, 'A', 0]), [true, true, 1], 'the bridge is empty');
+  assert.deepEqual(lastOf([0, 'A', 0], [9000, 'A', 9000]), [true, true, 0], 'it was typed on an empty bridge');
+  assert.deepEqual(lastOf([12000, 'A', 9000], [3000, 'A', 9000]), [true, true, 1], 'the clock was set back');
 });
 
-test('what was typed without a weight, or on an empty bridge, stays', () => {
-  assert.deepEqual(seen([0, 'A', 9000], [9000, 'B', 9000])[1].at(-1), [false, true, 1]);
-  assert.deepEqual(seen([0, '', 9000], [9000, 'B', 9000])[1].at(-1), [false, true, 1]);
-  assert.deepEqual(seen([0, 'A', 0], [9000, 'A', 9000], [9100, 'A', 0])[1].map(([left]) => left), [false, false, true], 'until its load leaves');
+test('a plate that was typed without a weight stays for eight seconds, and no longer', () => {
+  assert.deepEqual(lastOf([0, '', 9000], [6000, 'B', null], [14000, 'B', 9000]), [false, true, 1]);
+  assert.deepEqual(lastOf([0, 'A', 9000], [2000, 'AB', null], [60000, 'AB', 9000]), [true, true, 1], 'edited when the weight had just gone');
+  assert.deepEqual(seen([0, '', 9000], [6000, 'B', null], [9000, 'B', 9000], [9100, 'B', 0])[1].map(([left]) => left), [false, false, false, true], 'and is for the load that is there then');
+});
+
+test('a plate that comes back while there is no weight leaves once there is one, if that takes a while', () => {
+  const [load] = seen([0, 'A', 9000], [100, '', null], [2000, 'A', null]);
+  load.isBack();
+  assert.equal(load.hasLeft(now({ at: 60000, plate: 'A' })), true);
 });
 
 test('a load that was weighed isn\'t the one that the page finds after a while', () => {
@@ -310,6 +319,14 @@ test('a load that was weighed isn\'t the one that the page finds after a while',
   load.hasLeft(now({ at: 9000, plate: 'B' }));
   assert.equal(load.entry, null);
   assert.equal(load.hasLeft(now({ at: 9100, plate: 'B' }, {}, { net: 0 })), true, 'B was for the load that was there');
+});
+
+test('a load counts as unseen once the page has had no weight for a while', () => {
+  const load = new PlateOfLoad();
+  assert.equal(load.isUnseen(9000), false, 'it never had one');
+  load.hasLeft(now({ at: 9000 }));
+  load.hasLeft({ ...now({ at: 16000 }), weight: null });
+  assert.deepEqual([17000, 17001, 0].map(it => load.isUnseen(it)), [false, true, true]);
 });
 
 test('a plate that was weighed or deleted leaves nothing behind', () => {
@@ -399,6 +416,32 @@ test('a press that is armed once more counts from the clerk\'s press', () => {
   assert.equal(it.since, PRESSED, 'also once it is over');
 });
 
+// ---- a request without an answer
+
+// Sends a request of which each sending is cut. Returns how often it was sent, and what came of it. `act` is called while it waits to send again.
+async function cut(act, isForAnother) {
+  let count = 0;
+  const real = Date.now;
+  globalThis.location = { origin: '' };
+  globalThis.localStorage = { getItem: () => null, setItem: () => {}, removeItem: () => {} };
+  globalThis.fetch = async () => { count++; throw new TypeError('cut'); };
+  try {
+    return [await send({ target: '/weighings', form: { key: 'k', kind: 'first' }, made: Date.now(), isUnsure: false }, () => act(count), isForAnother), count];
+  } finally {
+    Date.now = real;
+  }
+}
+
+test('a request isn\'t sent again once another vehicle may be there', async () => {
+  let isOther = false;
+  assert.deepEqual(await cut(count => { isOther = count === 2; }, () => isOther), [null, 2]);
+});
+
+test('a request isn\'t sent again after 30 seconds, even if the machine slept in between', async () => {
+  const real = Date.now;
+  assert.deepEqual(await cut(() => { Date.now = () => real() + 600000; }), [null, 1]);
+});
+
 // ---- kept tares
 
 const kept = (kg, more = {}) => ({ kg, until: '2026-06-08', by: 'anna', used: null, is_over: false, empty: null, ...more });
@@ -461,6 +504,8 @@ test('a key that answered answers nothing more for a while, and other keys do', 
   assert.equal(at(4001), 'answered', 'letters were typed since');
   deaf.begin(5000);
   assert.equal(at(5001), 'answered', 'a plate that was taken from a list was taken by no key');
+  deaf.begin(6000, ALL_KEYS);
+  assert.deepEqual([at(6001), at(6000 + DEAF_FOR)], ['deaf', 'answered'], 'a key means another plate than before');
 });
 
 // ---- the words

@@ -11,7 +11,7 @@ export function plateOf(text) {
     .normalize('NFD').replace(/[\u0300-\u036f]/g, '').replace(/[\s_./·]+/g, '-');
 }
 
-const bare = plate => plate.replaceAll('-', '');
+export const bare = plate => plate.replaceAll('-', '');
 
 // A preset tare as the scale rounds it: to the interval, and upwards from half of one. `checks/counter` compares it with the terminal's reply to `TA`.
 export const roundedTare = (kg, interval) => Math.floor((2 * kg + interval) / (2 * interval)) * interval;
@@ -76,9 +76,10 @@ export function doubtOf(tare, gross, empty) {
 export const grossOf = weight => weight && weight.net !== null ? weight.net + (weight.tare ?? 0) : null;
 
 const UNSEEN_FOR = 8000;             // milliseconds without a weight, after which another load may be on the bridge
+const isWhile = (since, at) => Math.abs(at - since) > UNSEEN_FOR;
 
 // Which load the plate in the form is for. A plate that was typed on an empty bridge, or while a weighed vehicle drives off, is for the next load. A plate leaves
-// the form with its load, whoever weighed that, so that the next vehicle is never ready under it. It leaves too if the page didn't see the load for a while.
+// the form with its load, whoever weighed that, so that the next vehicle is never ready under it. It leaves too if the page had no weight for a while since it was typed.
 export class PlateOfLoad {
   #isForThis = false;
   #isBack = false;
@@ -86,7 +87,8 @@ export class PlateOfLoad {
   #isLoaded = false;
   #loads = 0;
   #seenAt = null;
-  #seenPlate = '';
+  #plate = '';
+  #plateAt = null;
   #wasUnseen = false;
 
   // The entry by which the load on the bridge was weighed; null if it wasn't, or if the counter didn't see it.
@@ -104,6 +106,11 @@ export class PlateOfLoad {
     return this.#wasUnseen;
   }
 
+  // Whether the page has had no weight for a while.
+  isUnseen(at) {
+    return this.#seenAt !== null && isWhile(this.#seenAt, at);
+  }
+
   // The load on the bridge was weighed, by this page or by another. The counter's state says so a moment later.
   weighed(entry) {
     this.#entry = entry;
@@ -117,15 +124,18 @@ export class PlateOfLoad {
   // Takes what is known now, at a time of the day in milliseconds. Returns true once the load has left for which the plate was typed, or may have.
   hasLeft({ plate, weight, state, min, waiting, at }) {
     const gross = grossOf(weight);
-    this.#wasUnseen = gross !== null && this.#seenAt !== null && Math.abs(at - this.#seenAt) > UNSEEN_FOR;
+    if (plate !== this.#plate) {
+      this.#plate = plate;
+      this.#plateAt = at;
+    }
+    this.#wasUnseen = gross !== null && this.isUnseen(at);
     if (gross === null) return false;
     if (this.#wasUnseen) this.#entry = null;
     const hadPlate = this.#isForThis && Boolean(plate), isNoLoad = gross < min, isWeighed = this.#entry !== null || waiting !== null || ['weighed', 'restarted'].includes(state.bridge);
-    const leaves = hadPlate && (this.#wasUnseen ? plate === this.#seenPlate : isNoLoad);
+    const leaves = this.#wasUnseen ? Boolean(plate) && isWhile(this.#plateAt, at) : hadPlate && isNoLoad;
     this.#isForThis = Boolean(plate) && !leaves && !isNoLoad && (hadPlate || this.#isBack || !isWeighed);
     this.#isBack = false;
     this.#seenAt = at;
-    this.#seenPlate = plate;
     if ((isNoLoad || this.#wasUnseen) && this.#isLoaded) this.#loads++;
     this.#isLoaded = !isNoLoad;
     if (isNoLoad) this.#entry = null;
@@ -179,7 +189,7 @@ function driveOff(newest) {
 }
 
 // A message about something that is over keeps no press from its effect.
-const isPast = ({ word }) => word === 'armed_over';
+export const isPast = ({ word }) => word === 'armed_over';
 const mayPress = ({ isReady, isArmable }) => ({ isReady, isArmable });
 
 export function step(now) {

@@ -1,10 +1,11 @@
 // Decides what a key does, and how long Enter doesn't react. It needs no browser, and has no clock of its own.
 
 export const DEAF_FOR = 700;         // milliseconds after the clerk took a plate from a list or answered a question
+export const ALL_KEYS = 'all';       // that answer
 export const HAMMERED_WITHIN = 250;  // milliseconds at most between two presses by a clerk who hammers
 
 // Enter and the weigh button don't react for a while, and while the clerk hammers Enter. So hammering weighs nothing that the clerk hasn't seen.
-// Nor does the key that answered a question, so a key that is pressed too often doesn't answer the next one.
+// Nor does the key that answered a question, so a key that is pressed too often doesn't answer the next one. Nor does any such key if one of them changed its plate.
 export class Deafness {
   until = -Infinity;
   #key = null;
@@ -44,7 +45,7 @@ export function deedOf(key, on, { answers, isDialog, isDeaf, deafKey = null }) {
   if (key.repeat && (isOurs || isEnter || key.key === 'Escape')) return STOP;
   if (isDialog) return isOurs ? STOP : key.key === 'Escape' ? { is: 'closing' } : LEAVE;
   const answer = isOurs && answers.find(it => it.key === key.code);
-  if (answer) return key.code === deafKey ? { is: 'deaf' } : { is: 'answered', answer };
+  if (answer) return key.code === deafKey || deafKey === ALL_KEYS ? { is: 'deaf' } : { is: 'answered', answer };
   if (isOurs) return key.code in PAGE_KEYS ? { is: 'clicked', part: PAGE_KEYS[key.code] } : STOP;
   if (isEnter && isDeaf) return { is: 'deaf' };
   if (isEnter) return answers.length && (on === 'plate' || on === 'answer') ? STOP : LEAVE;

@@ -2,8 +2,8 @@
 
 import { ARMED_FOR, subjectOf } from './arming.js';
 import { OLDEST_WEIGHT } from './feed.js';
-import { choiceOf, plateOf, roundedTare } from './guide.js';
-import { DEAF_FOR, deedOf } from './hands.js';
+import { bare, choiceOf, plateOf, roundedTare } from './guide.js';
+import { ALL_KEYS, DEAF_FOR, deedOf } from './hands.js';
 import { clerk, feed, GIVEN, givenOf, known, linkNow, nowKnown, plate } from './known.js';
 import { printDay, search, showLists } from './lists.js';
 import { keepTare, print, showJobs } from './papers.js';
@@ -228,6 +228,7 @@ function clearPlate() {
 // The load has left for which the plate was typed, or may have. A clerk whose vehicle is still there gets the plate back by one press.
 function plateLeft(of, wasUnseen) {
   clerk.formThatLeft = formNow();
+  for (const it of ['taring', 'giving']) part(it).close();     // what is typed there is for this plate
   emptyForm();
   tell('wait', wasUnseen ? 'plate_unseen' : 'plate_left', undefined, { plate: of }, ['plate_again']);
 }
@@ -241,23 +242,27 @@ function plateAgain() {
 }
 
 // What the clerk typed for one vehicle leaves the form with its request, so that letters typed before the answer are the next vehicle's plate, whole. If
-// nothing was stored, it comes back, unless the next plate has been begun. If the same load moved, the press waits for it, and true is returned.
+// nothing was stored, it comes back, unless the next plate has been begun or the load has left. If the same load moved, the press waits for it.
 function takeForm(subject, since) {
   const loads = clerk.plateOfLoad.loads, held = formNow();
   clearPlate();
   return hasMoved => {
-    if (plate()) return false;
+    if (plate()) return 'back';
+    if (clerk.plateOfLoad.loads !== loads) {
+      clerk.formThatLeft = held;
+      return 'left';
+    }
     fillForm(held);
     clerk.plateOfLoad.isBack();
-    if (hasMoved && clerk.plateOfLoad.loads === loads && performance.now() - since <= ARMED_FOR) clerk.arming.begin(subject, since);
+    if (hasMoved && performance.now() - since <= ARMED_FOR) clerk.arming.begin(subject, since);
     show();
-    return clerk.arming.isArmed;
+    return clerk.arming.isArmed ? 'waits' : 'back';
   };
 }
 
-// Another vehicle: what was typed for the paper of the one before isn't for its paper.
+// Another vehicle: what was typed for the paper of the one before isn't for its paper. A part of a plate is no other vehicle.
 function takeVehicle(of) {
-  if (of !== plate()) clearGiven();
+  if (!bare(of).includes(bare(plate()))) clearGiven();
   take(of);
 }
 
@@ -297,7 +302,7 @@ function typed(event) {
 
 Object.assign(acts, {
   set_zero: setZero, clear_tare: clearTare, journal_seen: closeJournalBar, print: printResult, print_number: printNumber, show_papers: openPapers, keep_tare: keepTareOf, tare_from_papers: askTare, given_lines: askGiven, first_instead: weighFirstInstead,
-  plate_left: plateLeft, plate_again: plateAgain, weigh, disarm, armed_over: armedOver, choice_changed: () => beDeaf(),
+  plate_left: plateLeft, plate_again: plateAgain, weigh, disarm, armed_over: armedOver, choice_changed: () => beDeaf(ALL_KEYS),
   withdraw: ({ plate: of, number: first }) => begin('/voids', { plate: of }, undefined, { first }), take: takeVehicle, answer, clear: clearPlate, focus: focusPlate,
 });
 
@@ -307,8 +312,13 @@ function press(event) {
   if (part('go').disabled) return;
   const now = nowKnown();
   if (part('go').dataset.look === 'weighs') weigh();
-  else clerk.arming.begin(subjectOf(now.plate, choiceOf(now)), performance.now());
+  else arm(now);
   show();
+}
+
+function arm(now) {
+  clerk.told = null;                 // that an earlier press is over
+  clerk.arming.begin(subjectOf(now.plate, choiceOf(now)), performance.now());
 }
 
 // `since` is the moment of the clerk's press.

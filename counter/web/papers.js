@@ -1,7 +1,7 @@
 // The texts of entries: a slip or ticket again, and its paper, by a printer of the counter or by the browser. On paper the text stands letter for letter.
 
 import { DEAF_FOR } from './hands.js';
-import { withdrawnBy } from './known.js';
+import { clerk, linkNow, withdrawnBy } from './known.js';
 import { fillPaper } from './paper.js';
 import { button, make, part } from './parts.js';
 import { ask, askJson } from './request.js';
@@ -62,10 +62,15 @@ function moreOf(entry) {
 }
 
 // The clerk must press it twice. A double click isn't enough. A void names the plate, not the entry. So if the plate has another open first weighing by now, or
-// none, the button refuses.
+// none, the button refuses. It does so too while the page can't know that, or has a request under way.
 function voidButton(entry, isOpenFirst, withdraw) {
   let askedAt = null;
   const made = button(t('withdraw'), () => {
+    if (linkNow() === 'off' || clerk.waiting) {
+      askedAt = null;
+      made.textContent = t(linkNow() === 'off' ? 'link_off' : 'counter_busy');
+      return;
+    }
     if (!isOpenFirst()) {
       made.disabled = true;
       made.textContent = t('not_open_any_more', { number: entry.number });

@@ -69,8 +69,9 @@ export function renewed(request) {
 
 export const isOld = request => Math.abs(Date.now() - request.made) > AGAIN_FOR;
 
-// Sends until an answer is final. Null: there was none for so long that it isn't sent by itself any more.
-export async function send(request, unanswered) {
+// Sends until an answer is final. Null: it isn't sent by itself any more, because there was none for so long, or because `isForAnother` says that another vehicle
+// may be there. Both are asked before each sending but the first.
+export async function send(request, unanswered, isForAnother = () => false) {
   for (;;) {
     const answer = await ask('POST', request.target, new URLSearchParams(request.form));
     if (isFinal(answer, request)) {
@@ -82,6 +83,7 @@ export async function send(request, unanswered) {
     if (isOld(request)) return null;
     unanswered();
     await pause(AGAIN_AFTER);
+    if (isOld(request) || isForAnother()) return null;
   }
 }
 

@@ -1,7 +1,7 @@
 // What is shown: the weight, the one sentence, the form and the bars at the top, each only where it changed.
 
 import { subjectOf } from './arming.js';
-import { choiceOf, demoOf, grossOf, isFalseDemo, isPlate, netOf, step, weighingOf } from './guide.js';
+import { choiceOf, demoOf, grossOf, isFalseDemo, isPast, isPlate, netOf, step, weighingOf } from './guide.js';
 import { PAGE_KEYS } from './hands.js';
 import { clerk, known, nowKnown } from './known.js';
 import { button, make, onlyChanged, part } from './parts.js';
@@ -24,14 +24,14 @@ export function show() {
     acts.plate_left(now.plate, wasUnseen);
     return;
   }
-  if (isOtherChoice(now)) {
-    acts.choice_changed();
-    return;
-  }
   forgetResult(now);
   forgetAnswers(now);
   Object.assign(now, { result: clerk.result, answered: clerk.answered });
   const told = step(now);
+  if (isOtherChoice(now, told)) {
+    acts.choice_changed();
+    return;
+  }
   if (goesOn(now, told)) return;
   clerk.answers = told.answers ?? [];
   showScale(now);
@@ -45,7 +45,7 @@ export function show() {
 // While a press waits for the load to stand still, good news waits too. Returns true if the press is over, and what follows from that is shown.
 function goesOn(now, told) {
   if (!clerk.arming.isArmed) return false;
-  const asked = isAsking() ? { word: 'one_moment' } : told.look === 'ok' ? step({ ...now, told: null }) : told;
+  const asked = isAsking() ? { word: 'one_moment' } : told.look === 'ok' || isPast(told) ? step({ ...now, told: null }) : told;
   const outcome = clerk.arming.next(asked, subjectOf(now.plate, choiceOf(now)), performance.now());
   if (outcome === 'fires') acts.weigh(clerk.arming.since);
   if (outcome === 'over') acts.armed_over();
@@ -62,17 +62,19 @@ function forgetResult(now) {
   if (result.leftAt !== undefined && (gross >= now.min || performance.now() - result.leftAt > RESULT_AFTER_LEAVING)) clerk.result = null;
 }
 
-// Another load may be on the bridge: neither answers nor what came of an older press are of it.
+// Another load may be on the bridge: neither answers nor what came of an older press are of it, unless the counter saw that it is the load that was weighed.
 function forgetLoad(now) {
   clerk.answered = {};
-  if (!now.isResultNew) clerk.result = null;
+  const isItsLoad = now.state.bridge === 'weighed' && now.newest?.number === clerk.result?.number;
+  if (!now.isResultNew && !isItsLoad) clerk.result = null;
 }
 
-// Whether the plate in the form now means another weighing than the clerk saw last, by what a colleague did or by the time.
-function isOtherChoice(now) {
-  const shown = clerk.choice;
-  clerk.choice = { plate: now.plate, weighing: weighingOf(choiceOf(now)) };
-  return now.plate !== '' && shown.plate === now.plate && shown.weighing !== clerk.choice.weighing;
+// Whether the plate in the form, or a key, now means another weighing or vehicle than the clerk saw last, by what a colleague did or by the time.
+function isOtherChoice(now, told) {
+  const shown = clerk.choice, plates = Object.fromEntries((told.answers ?? []).filter(it => it.plate).map(it => [it.key, it.plate]));
+  const choice = clerk.choice = { plate: now.plate, weighing: weighingOf(choiceOf(now)), plates };
+  if (choice.plate === '' || choice.plate !== shown.plate) return false;
+  return choice.weighing !== shown.weighing || Object.keys(plates).some(it => it in shown.plates && shown.plates[it] !== plates[it]);
 }
 
 // An answer is for one vehicle. Once the bridge is empty, the page asks again for the next one.

@@ -41,9 +41,8 @@ function press(plate, tares, drop) {
   else if (now - asked.at >= DEAF_FOR) {
     forgetPress();
     drop(plate).then(isDropped => {
-      if (isDropped) return;
-      failed = plate;
-      showTares(tares, drop);
+      failed = !isDropped && known.tares[plate] ? plate : null;
+      showTares(known.tares, drop);
     });
   }
   showTares(tares, drop);

@@ -1,6 +1,7 @@
 // A weighing from the press to its end: sent until it is answered, and then told.
 
-import { clerk, known, MIN_INTERVALS, withdrawnBy } from './known.js';
+import { isPast } from './guide.js';
+import { clerk, known, linkNow, MIN_INTERVALS, withdrawnBy } from './known.js';
 import { counterWordOf, forget, isOld, isStored, keptRequest, newRequest, refusalOf, renewed, send } from './request.js';
 import { acts, show } from './show.js';
 import { has, paperOf, t } from './words.js';
@@ -17,13 +18,25 @@ function wait(look, word, values, choices) {
 export function tell(look, word, more, values, choices) {
   const told = clerk.told = { look, word, more, values, choices };
   show();
-  setTimeout(() => { if (clerk.told === told) { clerk.told = null; show(); } }, word === 'armed_over' ? TOLD_FOR.ok : TOLD_FOR[look]);
+  setTimeout(() => endTold(told), isPast(told) ? TOLD_FOR.ok : TOLD_FOR[look]);
 }
 
-const NOTHING_TAKEN = () => () => false;
+// A message of what the clerk has to do is there for a while without a fault before it.
+function endTold(told) {
+  if (clerk.told !== told) return;
+  if (told.look === 'wait' && linkNow() !== 'up') {
+    setTimeout(() => endTold(told), TOLD_FOR.ok);
+    return;
+  }
+  clerk.told = null;
+  show();
+}
+
+const NOTHING_TAKEN = () => () => 'back';
 
 // One request at a time in a browser: one that another window keeps is ended first. `takeForm` takes what was typed for it, once it is kept, and returns
-// what gives that back if nothing is stored. That is told if the load moved, and returns true if the press waits for it.
+// what gives that back if nothing is stored. That is told if the load moved, and returns 'waits' if the press waits for it, 'left' if the load isn't there any
+// more, so that the clerk has to put it back, and 'back' otherwise.
 export function begin(target, form, takeForm = NOTHING_TAKEN, about = {}) {
   if (clerk.waiting) return;
   if (keptRequest()) { resume(); return; }
@@ -37,17 +50,27 @@ const whatOf = request => ({ what: `${t(request.form.kind ? `kind_${request.form
 async function conclude(request, giveBack = NOTHING_TAKEN()) {
   clerk.result = clerk.told = null;
   wait('wait', 'sent', whatOf(request));
-  const answer = await send(request, () => wait('wait', 'no_answer_yet', whatOf(request)));
+  const answer = await send(request, () => wait('wait', 'no_answer_yet', whatOf(request)), () => isForAnother(request));
   if (answer === null) { leave(request, giveBack); return; }
   clerk.waiting = null;
   if (answer.status === 201) finish(request, answer.text);
-  else if (!giveBack(refusalOf(answer) === UNSTABLE && !request.isUnsure)) refuse(answer);
+  else notStored(giveBack(refusalOf(answer) === UNSTABLE && !request.isUnsure), choices => refuse(answer, choices));
   acts.focus();
+}
+
+// A void is for no vehicle on the bridge. Of what an earlier page pressed, this one doesn't know the load.
+function isForAnother({ form, loads }) {
+  const { plateOfLoad } = clerk;
+  return form.kind !== undefined && loads !== null && (plateOfLoad.loads !== loads || plateOfLoad.isUnseen(Date.now()));
+}
+
+function notStored(came, says) {
+  if (came !== 'waits') says(came === 'left' ? ['plate_again'] : []);
 }
 
 // There was no answer for so long that another vehicle may be there: the clerk decides.
 function leave(request, giveBack = NOTHING_TAKEN()) {
-  acts.send_again = () => conclude(renewed(request), giveBack);
+  acts.send_again = () => conclude(renewed({ ...request, loads: clerk.plateOfLoad.loads }), giveBack);     // for the vehicle that is there now
   acts.look_up = async () => {
     wait('wait', 'looking');
     const stored = await isStored(request);
@@ -55,18 +78,17 @@ function leave(request, giveBack = NOTHING_TAKEN()) {
     if (stored === null) { leave(request, giveBack); return; }
     forget(request);
     clerk.waiting = null;
-    giveBack(false);
-    tell('bad', 'was_not_stored');
+    notStored(giveBack(false), choices => tell('bad', 'was_not_stored', undefined, undefined, choices));
   };
   wait('bad', 'lost', whatOf(request), ['send_again', 'look_up']);
 }
 
-function refuse(answer) {
+function refuse(answer, choices) {
   const refusal = refusalOf(answer), weighed = refusal === NOT_CLEARED ? clerk.plateOfLoad.entry : null;
   const entry = weighed && !withdrawnBy().has(weighed.number) ? weighed : null;
   const word = entry ? 'already_weighed' : refusal ? `refused_${refusal}` : `counter_${counterWordOf(answer)}`;
   const values = entry && { plate: entry.plate, paper: paperOf(entry), number: entry.number };
-  tell('bad', has(word) ? word : 'refused', `${t('nothing_stored')} (${answer.text.trim().slice(0, 60)})`, values);
+  tell('bad', has(word) ? word : 'refused', `${t('nothing_stored')} (${answer.text.trim().slice(0, 60)})`, values, choices);
 }
 
 function finish(request, text) {
