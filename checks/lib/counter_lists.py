@@ -422,6 +422,9 @@ def the_description(bridge):
     answered("/web/{name}", "GET", bridge.http, "/web/none.js")
     for number in ("1", "999999"):
         answered("/entries/{number}", "GET", bridge.http, f"/entries/{number}")
+        for body in ('{"goods": "Kies"}', '{"order": ""}', "[]"):
+            target = f"/entries/{number}/given"
+            answered("/entries/{number}/given", "PUT", bridge.http, target, body=body)
     answered("/plates/{plate}", "GET", bridge.http, "/plates/AB-12")
     answered("/tares/{plate}", "PUT", bridge.http, "/tares/AB-12", body='{"kg": 5000}')
     answered("/tares/{plate}", "PUT", bridge.http, "/tares/AB-12", body="{}")

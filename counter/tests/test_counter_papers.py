@@ -19,6 +19,12 @@ from .played_printer import PlayedPrinter
 TEMPLATE = Template(("Kieswerk",), (), "en", zoneinfo.ZoneInfo("UTC"))
 
 
+def first_of(pair):
+    """Return the slip of a ticket's first weighing."""
+    block = pair.text.split("SECOND NO")[0].split("\n", 2)[2]
+    return f"WEIGHING SLIP {pair.number - 1}\nPLATE {pair.plate}\n{block}"
+
+
 class InTheCounter(unittest.IsolatedAsyncioTestCase):
     async def asyncSetUp(self):
         folder = tempfile.TemporaryDirectory()
@@ -36,10 +42,8 @@ class InTheCounter(unittest.IsolatedAsyncioTestCase):
             (("cp858", 19),),
             True,
         )
-        self.printing = Printing(
-            Papers(Path(folder.name), TEMPLATE, (printer,), "yard"),
-            {1: USUAL["second"].digests[1]}.get,
-        )
+        self.papers = Papers(Path(folder.name), TEMPLATE, (printer,), "yard")
+        self.printing = Printing(self.papers, {1: USUAL["second"].digests[1]}.get)
         self.running = asyncio.ensure_future(self.printing.run())
 
     async def asyncTearDown(self):
@@ -115,6 +119,55 @@ class InTheCounter(unittest.IsolatedAsyncioTestCase):
         self.assertIn(b"Slip 29", self.played.printed[0])
         self.printing.first_of = {}.get
         self.assertIn("Slip 26", texts(await self.printing.for_browser(void.text)), "it is kept")
+
+    async def test_what_was_given_at_the_first_weighing_is_on_the_ticket(self):
+        pair = Sample("second", number=8)
+        first = first_of(pair)
+        self.printing.passed(first, {"key": "K1", "goods": "Kies 0/32", "driver": "Ada"})
+        await self.becomes(lambda: len(self.played.printed) == 1)
+        again = Printing(self.papers, {}.get)  # as after a restart
+        self.addCleanup(again.notes.shutdown)
+        again.passed(pair.text, {"key": "K2", "driver": "", "order": "7"})
+        await self.becomes(lambda: not again.tasks and again.spool.text_of(8))
+        self.printing._wake()
+        await self.becomes(lambda: len(self.played.printed) == 2)
+        ticket = self.played.printed[1]
+        self.assertEqual(
+            [True, True, False], [it in ticket for it in (b"Kies 0/32", b"Order", b"Ada")]
+        )
+        self.assertEqual({"goods": "Kies 0/32", "order": "7"}, again.given.of(pair.digest))
+
+    async def test_lines_can_be_changed_until_the_original_is_printed(self):
+        self.played.state = "cover_open"
+        ticket = USUAL["single"]
+        self.printing.passed(ticket.text, {"goods": "Sand"})
+        await self.becomes(lambda: [it["why"] for it in self.printing.jobs] == ["cover_open"])
+        self.assertEqual(
+            {"goods": "Kies"}, await self.printing.give(ticket.text, {"goods": "Kies"}, False)
+        )
+        self.played.state = ""
+        await self.becomes(lambda: self.played.printed)
+        self.assertEqual([False, True], [it in self.played.printed[0] for it in (b"Sand", b"Kies")])
+        self.assertIsNone(await self.printing.give(ticket.text, {"goods": "Erde"}, False))
+        self.assertEqual({"goods": "Kies"}, self.printing.given.of(ticket.digest))
+        self.assertEqual(
+            {"goods": "Erde"},
+            await self.printing.give(ticket.text, {"goods": "Erde"}, True),
+            "of a vehicle on site, because its ticket will have it",
+        )
+
+    async def test_lines_that_change_while_the_paper_is_rendered_are_on_it(self):
+        job = self.printing.spool.job(
+            self.printing.spool.put(
+                self.printing.spool.take(read_text(USUAL["single"].text)), "other"
+            )
+        )
+        self.assertTrue(self.printing.spool.give(job.paper, (("goods", "Kies"),)))
+        self.assertFalse(self.printing.spool.begin(job, True))
+        now = self.printing.spool.job(job.id)
+        self.assertEqual((("goods", "Kies"),), now.given)
+        self.assertTrue(self.printing.spool.begin(now, True))
+        self.assertFalse(self.printing.spool.give(job.paper, (("goods", "Erde"),)))
 
     async def test_a_trouble_is_a_fault_and_a_press_asks_for_nothing(self):
         self.played.state = "cover_open"

@@ -237,7 +237,7 @@ class AtAPrinter(unittest.TestCase):
 
     def test_a_program_that_died_in_the_middle_makes_a_duplicate(self):
         (job,) = self.put(USUAL["second"])
-        self.assertTrue(self.spool.begin(job, True))
+        self.assertTrue(self.spool.begin(self.spool.job(job), True))
         self.assertTrue(self.turn())
         self.assertEqual([2], [marks(it) for it in self.played.printed])
 
@@ -303,7 +303,7 @@ class AtAPrinter(unittest.TestCase):
 
     def test_of_many_at_once_one_is_the_original(self):
         paper = self.spool.take(read_text(USUAL["second"].text))
-        jobs = [self.spool.put(paper, f"printer_{it}") for it in range(12)]
+        jobs = [self.spool.job(self.spool.put(paper, f"printer_{it}")) for it in range(12)]
         found = []
         threads = [
             threading.Thread(target=lambda job=job: found.append(self.spool.begin(job, True)))
@@ -648,7 +648,8 @@ class TheCommand(unittest.TestCase):
 
     def test_what_a_killed_command_left_is_printed_by_the_next_call(self):
         spool = Spool(self.folder / "spool")
-        spool.begin(spool.put(spool.take(read_text(USUAL["second"].text)), "box"), True)
+        job = spool.job(spool.put(spool.take(read_text(USUAL["second"].text)), "box"))
+        spool.begin(job, True)
         self.assertEqual(0, self.run_with("", "--printer", "box")[0])
         self.assertEqual([2], [marks(it.read_bytes()) for it in (self.folder / "out").iterdir()])
         self.assertEqual(3, self.run_with("", "--printer", "box")[0])
@@ -657,9 +658,9 @@ class TheCommand(unittest.TestCase):
         spool = Spool(self.folder / "spool")
         job = spool.put(spool.take(read_text(USUAL["second"].text)), "box")
         for _ in range(2):
-            spool.begin(job, False)
+            spool.begin(spool.job(job), False)
             spool.was_cut(job, "cut")
-        spool.begin(job, False)
+        spool.begin(spool.job(job), False)
         status, _, err = self.run_with("", "--printer", "box")
         self.assertEqual(
             (1, True), (status, "failed at box: the program ended in the middle" in err)

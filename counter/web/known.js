@@ -12,13 +12,17 @@ const RESULT_BEFORE_FAULTS = 5000;   // milliseconds that a result is shown befo
 
 export const feed = new Feed();
 export const known = { hello: { interval: 20, zone: 'UTC', tare_days: 90 }, state: null, onSite: [], weighedNear: [], today: [], sums: null, tares: {}, papers: { printers: [], jobs: [], refused: null } };
-// `ofPlate` is what the counter knows of the plate for which a tare is typed, `choice` the weighing that was shown last, and the plates of the answers by their keys.
-export const clerk = { oneTare: null, isFirstInstead: false, waiting: null, result: null, told: null, newest: null, answered: {}, answers: [], deafness: new Deafness(), arming: new Arming(), plateOfLoad: new PlateOfLoad(), formThatLeft: null, ofPlate: null, choice: { plate: '', weighing: '', plates: {} } };
+// `ofPlate` is what the counter knows of the plate in the form, `choice` the weighing that was shown last, and the plates of the answers by their keys.
+export const clerk = { oneTare: null, isFirstInstead: false, isGivenTyped: false, waiting: null, result: null, told: null, newest: null, answered: {}, answers: [], deafness: new Deafness(), arming: new Arming(), plateOfLoad: new PlateOfLoad(), formThatLeft: null, ofPlate: null, choice: { plate: '', weighing: '', plates: {} } };
 
 export const GIVEN = ['goods', 'order', 'driver'];     // free lines for the paper, which the office doesn't get
+export const linesOf = given => GIVEN.map(it => given[it]).filter(Boolean).join(', ');
 
 export const plate = () => part('plate').value;
-export const givenOf = name => part(name).value.trim();
+export const givenTyped = () => Object.fromEntries(GIVEN.map(it => [it, part(it).value.trim()]));
+
+// What the paper of a weighing will have: what the clerk typed for it, or what its first weighing has.
+export const givenOf = ({ first }) => clerk.isGivenTyped ? givenTyped() : first?.given ?? {};
 
 export function linkNow() {
   if (feed.isGone() || known.state === null) return 'off';
@@ -40,7 +44,7 @@ export const emptyOf = of => known.tares[of]?.empty ?? (clerk.ofPlate?.plate ===
 export function nowKnown() {
   const link = linkNow();
   return {
-    at: Date.now(), link, weight: link === 'up' ? feed.weight : null, state: known.state, papers: known.papers, given: GIVEN.map(givenOf).filter(Boolean).join(', '), plate: plate(), onSite: known.onSite, weighedNear: known.weighedNear, tares: known.tares,
+    at: Date.now(), link, weight: link === 'up' ? feed.weight : null, state: known.state, papers: known.papers, plate: plate(), onSite: known.onSite, weighedNear: known.weighedNear, tares: known.tares,
     interval: known.hello.interval, min: MIN_INTERVALS * known.hello.interval, empty: emptyOf(plate()), oneTare: clerk.oneTare, isFirstInstead: clerk.isFirstInstead,
     waiting: clerk.waiting, result: clerk.result, told: clerk.told, newest: newestWeighing(), answered: clerk.answered, isDeaf: clerk.deafness.isDeaf(performance.now()),
     isResultNew: clerk.result !== null && performance.now() - clerk.result.madeAt < RESULT_BEFORE_FAULTS,

@@ -1,6 +1,6 @@
 // The lists: vehicles on site, the papers of today, and what a search finds.
 
-import { clerk, known, withdrawnBy } from './known.js';
+import { clerk, known, linesOf, withdrawnBy } from './known.js';
 import { openEntry } from './papers.js';
 import { button, make, part } from './parts.js';
 import { askJson } from './request.js';
@@ -41,7 +41,7 @@ class Rows {
     let next = this.#list.firstChild;
     for (const entry of wanted) {
       const look = lookOf(entry), made = this.#made.get(entry.number) ?? this.#make(entry.number);
-      const told = [language, day, look, entry.plate, entry.at, entry.gross, entry.net, entry.first].join(' ');
+      const told = [language, day, look, entry.plate, entry.at, entry.gross, entry.net, entry.first, linesOf(entry.given)].join(' ');
       if (made.told !== told) this.#fill(Object.assign(made, { told, entry }), look, says(entry));
       if (made.row === next) next = next.nextSibling;
       else this.#list.insertBefore(made.row, next);
@@ -97,14 +97,16 @@ class Rows {
   }
 }
 
+const givenIn = ({ given }) => linesOf(given) && ` · ${linesOf(given)}`;
+
 function onSiteSays(entry) {
   const isLate = !isToday(entry.at);
-  return { text: `${whenOf(entry.at)} · ${t('slip')} ${entry.number}${isLate ? ` · ${t('since_before')}` : ''}`, isLate };
+  return { text: `${whenOf(entry.at)} · ${t('slip')} ${entry.number}${isLate ? ` · ${t('since_before')}` : ''}${givenIn(entry)}`, isLate };
 }
 
 function entrySays(entry) {
   const first = entry.kind === 'void' && entry.first ? ` · ${t('of_first', { number: entry.first })}` : '';
-  return { text: `${KINDS[entry.kind]} ${whenOf(entry.at)} · ${t(`kind_${entry.kind}`)} ${entry.number}${first}`, isLate: false };
+  return { text: `${KINDS[entry.kind]} ${whenOf(entry.at)} · ${t(`kind_${entry.kind}`)} ${entry.number}${first}${givenIn(entry)}`, isLate: false };
 }
 
 const isNew = entry => entry.number === clerk.newest ? 'new' : '';
@@ -140,7 +142,7 @@ export function printDay({ day, entries, sums }, company) {
 
 function open(entry) {
   const isOpenFirst = () => entry.kind === 'first' && known.onSite.some(it => it.number === entry.number);
-  openEntry(entry, known.papers.printers, acts.print_number, isOpenFirst, acts.withdraw);
+  openEntry(entry, known.papers.printers, acts.print_number, isOpenFirst, acts.withdraw, acts.give_later);
 }
 
 function closeSearch(entry) {

@@ -2,9 +2,9 @@
 
 import { ARMED_FOR, subjectOf } from './arming.js';
 import { OLDEST_WEIGHT } from './feed.js';
-import { bare, choiceOf, plateOf, roundedTare } from './guide.js';
+import { bare, choiceOf, isPlate, plateOf, roundedTare } from './guide.js';
 import { ALL_KEYS, DEAF_FOR, deedOf } from './hands.js';
-import { clerk, feed, GIVEN, givenOf, known, linkNow, nowKnown, plate } from './known.js';
+import { clerk, feed, GIVEN, givenOf, givenTyped, known, linkNow, nowKnown, plate } from './known.js';
 import { printDay, search, showLists } from './lists.js';
 import { keepTare, print, showJobs } from './papers.js';
 import { forgetPress, showTares } from './tares.js';
@@ -16,6 +16,7 @@ import { begin, resume, tell } from './weighing.js';
 import { clockOf, kg, language, number, speak, t, useZone, wantedLanguage } from './words.js';
 
 const THEME = 'weighbridge.theme';
+const TYPED_FOR = 300;               // milliseconds after the last letter of a plate, until the counter is asked about it
 
 // ---- what the counter tells
 
@@ -27,7 +28,8 @@ feed.hear = (name, what) => {
   if (name === 'tare') takeTares({ ...known.tares, [what.plate]: what.tare });
   if (name === 'papers') takePapers(what);
   if (name === 'entry') takeEntry(what);
-  if (name === 'lists' || name === 'entry') showLists();
+  if (name === 'given') takeGiven(what);
+  if (['lists', 'entry', 'given'].includes(name)) showLists();
   show();
   if (name === 'weight') scheduleExpiry();
 };
@@ -53,6 +55,10 @@ function takeEntry({ entry, sums, on_site: onSite, weighed_near: weighedNear }) 
   clerk.newest = entry.number;
   if (entry.kind !== 'void') clerk.plateOfLoad.weighed(entry);
   if (!known.today.some(it => it.number === entry.number)) known.today.unshift(entry);
+}
+
+function takeGiven({ number: of, given }) {
+  for (const it of [...known.onSite, ...known.today]) if (it.number === of) it.given = given;
 }
 
 function takeTares(tares) {
@@ -128,8 +134,24 @@ async function keepTyped(of, value) {
   if (answer?.status !== 200) tell('bad', 'tare_not_kept', `${of}: ${kg(value)}`);
 }
 
-async function askTare() {
+// Once the clerk has typed a plate, the counter tells what it knows of it.
+let asking;
+function askPlate() {
+  clearTimeout(asking);
   const of = plate();
+  if (clerk.ofPlate?.plate !== of) clerk.ofPlate = null;
+  if (isPlate(of) && clerk.ofPlate === null) asking = setTimeout(() => lookUp(of), TYPED_FOR);
+}
+
+async function lookUp(of) {
+  const answer = await askJson('GET', `/plates/${of}`);
+  if (plate() !== of || answer?.status !== 200) return;
+  clerk.ofPlate = answer;
+  if (answer.empty) part('tare-empty').textContent = t('last_empty', { kg: kg(answer.empty) });
+  show();
+}
+
+function askTare() {
   clerk.ofPlate = null;
   part('tare-empty').textContent = '';
   part('tare-label').textContent = t('tare_of', { plate: plate() });
@@ -137,10 +159,7 @@ async function askTare() {
   part('tare-kg').value = '';
   part('tare-keep').checked = false;
   part('taring').showModal();
-  const answer = await askJson('GET', `/plates/${of}`);
-  if (plate() !== of || answer?.status !== 200) return;
-  clerk.ofPlate = answer;
-  if (answer.empty) part('tare-empty').textContent = t('last_empty', { kg: kg(answer.empty) });
+  lookUp(plate());
 }
 
 function useTare() {
@@ -195,20 +214,38 @@ function showDeafness() {
 
 // Free lines for the paper of this vehicle.
 function askGiven() {
+  if (!clerk.isGivenTyped) fillGiven(givenOf(choiceOf(nowKnown())), false);
   part('giving').showModal();
 }
 
-function clearGiven() {
-  for (const it of GIVEN) part(it).value = '';
+function fillGiven(given, isTyped) {
+  for (const it of GIVEN) part(it).value = given[it] ?? '';
+  clerk.isGivenTyped = isTyped;
+}
+
+const clearGiven = () => fillGiven({}, false);
+
+function giveAsBefore() {
+  fillGiven(clerk.ofPlate.given, true);
+  show();
+  focusPlate();
+}
+
+// Free lines of a weighing that is stored already.
+async function giveLater(entry, given) {
+  const answer = await ask('PUT', `/entries/${entry.number}/given`, JSON.stringify(given));
+  if (answer?.status === 200) tell('ok', 'lines_saved');
+  return answer?.status ?? 0;
 }
 
 // What the clerk typed for one vehicle.
-const formNow = () => ({ plate: plate(), oneTare: clerk.oneTare, isFirstInstead: clerk.isFirstInstead, given: Object.fromEntries(GIVEN.map(it => [it, part(it).value])) });
+const formNow = () => ({ plate: plate(), oneTare: clerk.oneTare, isFirstInstead: clerk.isFirstInstead, isGivenTyped: clerk.isGivenTyped, given: givenTyped() });
 
-function fillForm({ plate: of, given, ...choice }) {
+function fillForm({ plate: of, given, isGivenTyped, ...choice }) {
   part('plate').value = of;
-  for (const it of GIVEN) part(it).value = given[it];
+  fillGiven(given, isGivenTyped);
   Object.assign(clerk, choice);
+  askPlate();
 }
 
 function emptyForm() {
@@ -296,12 +333,13 @@ function typed(event) {
   clerk.isFirstInstead = false;
   clerk.answered = {};
   if (text) clerk.result = clerk.told = null;
-  else clearGiven();
+  if (!text || !clerk.isGivenTyped) clearGiven();
+  askPlate();
   show();
 }
 
 Object.assign(acts, {
-  set_zero: setZero, clear_tare: clearTare, journal_seen: closeJournalBar, print: printResult, print_number: printNumber, show_papers: openPapers, keep_tare: keepTareOf, tare_from_papers: askTare, given_lines: askGiven, first_instead: weighFirstInstead,
+  set_zero: setZero, clear_tare: clearTare, journal_seen: closeJournalBar, print: printResult, print_number: printNumber, show_papers: openPapers, keep_tare: keepTareOf, tare_from_papers: askTare, given_lines: askGiven, given_as_before: giveAsBefore, give_later: giveLater, first_instead: weighFirstInstead,
   plate_left: plateLeft, plate_again: plateAgain, weigh, disarm, armed_over: armedOver, choice_changed: () => beDeaf(ALL_KEYS),
   withdraw: ({ plate: of, number: first }) => begin('/voids', { plate: of }, undefined, { first }), take: takeVehicle, answer, clear: clearPlate, focus: focusPlate,
 });
@@ -324,7 +362,7 @@ function arm(now) {
 // `since` is the moment of the clerk's press.
 function weigh(since = performance.now()) {
   const choice = choiceOf(nowKnown()), subject = subjectOf(plate(), choice);
-  const given = Object.fromEntries(GIVEN.map(it => [it, givenOf(it)]).filter(([, value]) => value));
+  const given = clerk.isGivenTyped ? givenTyped() : {};     // an empty line removes what the first weighing has
   begin('/weighings', { kind: choice.kind, plate: plate(), ...(choice.tare ? { tare: String(choice.tare) } : {}), ...given }, () => takeForm(subject, since));
 }
 
@@ -410,6 +448,7 @@ function listenToHands() {
   part('clear').addEventListener('click', clearPlate);
   part('weigh').addEventListener('submit', press);
   part('tare-form').addEventListener('submit', useTare);
+  for (const it of GIVEN) part(it).addEventListener('input', () => { clerk.isGivenTyped = true; });
   part('zero').addEventListener('click', setZero);
   part('last').addEventListener('click', printLast);
   part('find').addEventListener('click', openSearch);

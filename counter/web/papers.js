@@ -1,7 +1,7 @@
 // The texts of entries: a slip or ticket again, and its paper, by a printer of the counter or by the browser. On paper the text stands letter for letter.
 
 import { DEAF_FOR } from './hands.js';
-import { clerk, linkNow, withdrawnBy } from './known.js';
+import { clerk, GIVEN, linkNow, withdrawnBy } from './known.js';
 import { fillPaper } from './paper.js';
 import { button, make, part } from './parts.js';
 import { ask, askJson } from './request.js';
@@ -34,8 +34,9 @@ export async function textAgain(number) {
 
 let opened = 0;
 
-// Opens the text of an entry; of two presses only the newer one's. `press` prints its paper, `isOpenFirst` says whether it is an open first weighing now, `withdraw` begins its void.
-export async function openEntry(entry, printers, press, isOpenFirst, withdraw) {
+// Opens the text of an entry; of two presses only the newer one's. `press` prints its paper, `isOpenFirst` says whether it is an open first weighing now, `withdraw` begins its void,
+// `give` changes its free lines.
+export async function openEntry(entry, printers, press, isOpenFirst, withdraw, give) {
   const mine = ++opened, { text, from, why } = await textAgain(entry.number);
   if (mine !== opened) return;
   part('entry-title').textContent = `${paperOf(entry)} ${entry.number} · ${entry.plate}`;
@@ -47,10 +48,26 @@ export async function openEntry(entry, printers, press, isOpenFirst, withdraw) {
   const prints = byBrowser => () => { part('entry').close(); press(entry.number, byBrowser); };
   if (text !== undefined) tools.push(button(t('print_again'), prints(false), { autofocus: true }));
   if (text !== undefined && printers.length) tools.push(button(t('print_by_browser'), prints(true)));
+  if (text !== undefined && entry.kind !== 'void') tools.push(button(t('give_lines'), () => openGiven(entry, give)));
   if (isOpenFirst()) tools.push(voidButton(entry, isOpenFirst, withdraw));
   tools.push(button(t('close'), () => part('entry').close()));
   part('entry-tools').replaceChildren(...tools);
   part('entry').showModal();
+}
+
+// Free lines of a weighing that is stored. `give` returns the status of the answer.
+function openGiven(entry, give) {
+  const fields = GIVEN.map(name => [name, make('input', { className: 'free', maxLength: 60, value: entry.given[name] ?? '' })]);
+  const why = make('p', { role: 'alert' });
+  const save = button(t('save_lines'), async () => {
+    const given = Object.fromEntries(fields.map(([name, field]) => [name, field.value.trim()])), status = await give(entry, given);
+    if (status === 200) part('changing').close();
+    else why.textContent = t(status === 409 ? 'lines_printed' : 'lines_not_saved');
+  });
+  part('changing-title').textContent = `${t('given_lines')}: ${paperOf(entry)} ${entry.number} · ${entry.plate}`;
+  part('changing-lines').replaceChildren(...fields.map(([name, field]) => make('label', {}, t(name), ' ', field)), why, make('div', { className: 'row' }, save, button(t('close'), () => part('changing').close())));
+  part('entry').close();
+  part('changing').showModal();
 }
 
 function moreOf(entry) {

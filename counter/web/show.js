@@ -3,7 +3,7 @@
 import { subjectOf } from './arming.js';
 import { choiceOf, demoOf, grossOf, isFalseDemo, isPast, isPlate, netOf, step, weighingOf } from './guide.js';
 import { PAGE_KEYS } from './hands.js';
-import { clerk, known, nowKnown } from './known.js';
+import { clerk, givenOf, known, linesOf, nowKnown } from './known.js';
 import { button, make, onlyChanged, part } from './parts.js';
 import { dateOf, has, kg, language, number, t, whenOf } from './words.js';
 
@@ -120,7 +120,13 @@ function inWords(values) {
 function formOf(now, told) {
   const choice = choiceOf(now), isReady = Boolean(told.isReady) && !clerk.waiting, net = netOf(choice, grossOf(now.weight));
   const isArmable = Boolean(told.isArmable) && !clerk.waiting;
-  return { plate: now.plate, choice, isReady, isArmable, isArmed: clerk.arming.isArmed, net: isReady && net > 0 ? net : null, kept: now.tares[now.plate], answers: clerk.answers, tareOf: clerk.result?.tare, given: now.given, language };
+  return { plate: now.plate, choice, isReady, isArmable, isArmed: clerk.arming.isArmed, net: isReady && net > 0 ? net : null, kept: now.tares[now.plate], answers: clerk.answers, tareOf: clerk.result?.tare, given: linesOf(givenOf(choice)), before: givenBefore(now.plate, choice), language };
+}
+
+// What was given for the plate's last paper, if the clerk has given nothing for this one.
+function givenBefore(plate, choice) {
+  const { ofPlate } = clerk;
+  return ofPlate?.plate === plate && !linesOf(givenOf(choice)) && !clerk.isGivenTyped ? linesOf(ofPlate.given) : '';
 }
 
 const showForm = onlyChanged(form => {
@@ -144,10 +150,11 @@ function aboutPlate({ plate, choice, kept }) {
   return plate ? [make('span', { textContent: t('not_on_site') })] : [];
 }
 
-function othersOf({ plate, choice, tareOf, given }) {
+function othersOf({ plate, choice, tareOf, given, before }) {
   const others = [];
   if (choice.kind === 'single') others.push(button(t('first_instead'), acts.first_instead));
   if (!choice.first && isPlate(plate)) others.push(button(t('tare_from_papers'), acts.tare_from_papers));
+  if (isPlate(plate) && before) others.push(button(t('given_as_before', { given: before }), acts.given_as_before));
   if (isPlate(plate)) others.push(button(given ? `${t('given_lines')}: ${given}` : t('give_lines'), acts.given_lines));
   if (!plate && tareOf) others.push(button(t('keep_tare_of', { kg: kg(tareOf.kg), plate: tareOf.plate }), () => acts.keep_tare(tareOf)));
   return others;

@@ -99,7 +99,7 @@ class Acts:
 
     async def _act(self, target: str, body: bytes, told: "asyncio.Future[Told]") -> None:
         try:
-            asked = dict(urllib.parse.parse_qsl(body.decode("latin-1")))
+            asked = dict(urllib.parse.parse_qsl(body.decode("latin-1"), keep_blank_values=True))
             parts = body.split(b"&")
             if any(it.startswith(NOT_FOR_THE_OFFICE) for it in parts):
                 parts = [it for it in parts if not it.startswith(NOT_FOR_THE_OFFICE)]

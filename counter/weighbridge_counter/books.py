@@ -10,6 +10,7 @@ from collections.abc import Callable, Mapping
 from weighbridge_paper.export import NoExport
 from weighbridge_paper.text import NoText, Text, read_text
 
+from .given import Given
 from .journal import SHORTER, Journal, Known, changed_by, why_another
 from .lists import Lists
 from .office import Answer, NoAnswer, Office
@@ -32,9 +33,10 @@ class Books:
         zone: zoneinfo.ZoneInfo,
         counts: Counter[str],
         journal: Journal | None = None,
+        given: Given | None = None,
     ) -> None:
-        self.office, self.zone, self.counts = office, zone, counts
-        self.lists, self.journal = Lists(zone), journal or Journal()
+        self.office, self.zone, self.counts, self.given = office, zone, counts, given or Given()
+        self.lists, self.journal = Lists(zone, self.given), journal or Journal()
         self.places = 0  # texts that passed
         self.state = (
             "ok"  # of the office: ok, store (its journal can't be read or written), no_answer
@@ -69,7 +71,7 @@ class Books:
         """Add a text to the lists. If it is from another journal, start the lists again, because the office answers only from its own journal."""
         is_another, known = self.lists.contradicts(text), self.lists.known(place)
         if is_another:
-            self.lists = Lists(self.zone)
+            self.lists = Lists(self.zone, self.given)
         entry, is_new = self.lists.passed(text, place)
         if is_another:
             self._begin_again(
@@ -142,7 +144,7 @@ class Books:
 
     def _read(self, export: str, known: Known) -> tuple[Lists, str | None]:
         """Make lists of an export, and compare them with `known`. This runs in a thread of its own."""
-        read = Lists.of_export(self.zone, export)
+        read = Lists.of_export(self.zone, export, self.given)
         return read, why_another(known, read.rows)
 
     def _take_export(self, read: Lists, why: str | None, known: Known, place: int) -> None:

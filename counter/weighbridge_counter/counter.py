@@ -3,13 +3,14 @@
 import asyncio
 import datetime
 import time
-from collections.abc import Callable, Coroutine
+from collections.abc import Callable, Coroutine, Mapping
 from dataclasses import asdict
 from typing import Any
 
 from .acts import Acts
 from .books import Books
 from .files import Files
+from .given import Given, Lines
 from .journal import Journal
 from .off_zero import MIN_INTERVALS, OffZero
 from .office import NoAnswer, Office
@@ -42,11 +43,13 @@ class Counter:
         self.office = Office(setup.office)
         self.files = Files(setup.state)
         self.acts = Acts(self.terminal, self.office, self.files, setup.interval, self.counts)
-        self.books = Books(self.office, setup.zone, self.counts, Journal(self.files))
+        self.given = Given()
+        self.books = Books(self.office, setup.zone, self.counts, Journal(self.files), self.given)
         self.printing = Printing(
             papers_of(setup),
             lambda number: self.books.lists.digest_of(number),
             lambda number: self.books.lists.first_of(number),
+            self.given,
         )
         self.pages = Pages()
         self.tares = Tares(
@@ -207,6 +210,17 @@ class Counter:
             return said
         finally:
             self.tell_state()
+
+    async def give(self, number: int, letters: str, fields: Mapping[str, str]) -> Lines | None:
+        """Change what stands on the paper of an entry besides its text, and inform the pages. Return None if its original is printed.
+
+        Of a vehicle on site it can still be changed then, because its ticket will have it. Raises NoText and OSError.
+        """
+        is_on_site = number in self.books.lists.open.values()
+        lines = await self.printing.give(letters, fields, is_on_site)
+        if lines is not None:
+            self.pages.tell("given", {"number": number, "given": dict(lines)})
+        return lines
 
     async def clear_tare(self) -> str:
         try:

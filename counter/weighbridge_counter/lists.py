@@ -8,6 +8,7 @@ from typing import Any
 from weighbridge_paper.export import Row, rows_of
 from weighbridge_paper.text import Text
 
+from .given import Given, Lines
 from .journal import Known
 from .near import Near
 from .slips import Entry, entry_of_row, entry_of_text, slip_of_row
@@ -17,8 +18,9 @@ MOST_HITS = 60
 
 
 class Lists:
-    def __init__(self, zone: zoneinfo.ZoneInfo) -> None:
-        self.zone = zone
+    def __init__(self, zone: zoneinfo.ZoneInfo, given: Given | None = None) -> None:
+        """`given` has what clerks gave for the papers of entries."""
+        self.zone, self.given = zone, given or Given()
         self.entries: dict[int, Entry] = {}
         self.rows: dict[int, Row] = {}  # of the export, for a slip again
         self.texts: dict[int, Text] = {}  # as they passed
@@ -37,9 +39,9 @@ class Lists:
     # ---- what comes
 
     @classmethod
-    def of_export(cls, zone: zoneinfo.ZoneInfo, export: str) -> "Lists":
+    def of_export(cls, zone: zoneinfo.ZoneInfo, export: str, given: Given | None = None) -> "Lists":
         """Return the lists of an export. This may run in a thread of its own. Raises NoExport."""
-        made = cls(zone)
+        made = cls(zone, given)
         for row in rows_of(export):
             made.rows[row.number] = row
             made._take(entry_of_row(row))
@@ -172,13 +174,22 @@ class Lists:
             "tare": entry.preset,
             "net": self.net_of(number),
             "first": self.partner.get(number),
+            "given": dict(self.given.of(self.digest_of(number))),
         }
 
     def on_site(self) -> list[dict[str, Any]]:
         return [self.shown(number) for number in sorted(self.open.values(), reverse=True)]
 
+    def last_given(self, plate: str) -> Lines:
+        """Return what was given for the newest entry of a plate for which something was."""
+        entries = (
+            self.given.of(self.digest_of(it)) for it in reversed(self.by_plate.get(plate, []))
+        )
+        return next((it for it in entries if it), {})
+
     def search(self, words: str) -> tuple[list[dict[str, Any]], int]:
-        """Return the newest entries that fit by their number or by a part of their plate, and how many fit in all."""
+        """Return the newest entries that fit, and how many fit in all. They fit by their number, or by a part of their plate or of what was given for them."""
+        given = self._with_given(words.strip())
         words = words.upper().replace(" ", "")
         bare = words.replace("-", "")
         hits = (
@@ -186,12 +197,20 @@ class Lists:
             if words.isdecimal() and len(words) < 11 and int(words) in self.entries
             else []
         )
-        if bare:
-            numbers = [
-                number
-                for plate, all in self.by_plate.items()
-                if bare in plate.replace("-", "")
-                for number in all
-            ]
-            hits += [it for it in sorted(numbers, reverse=True) if it not in hits[:1]]
+        numbers = {
+            number
+            for plate, all in self.by_plate.items()
+            if bare and bare in plate.replace("-", "")
+            for number in all
+        }
+        hits += [it for it in sorted(numbers | given, reverse=True) if it not in hits[:1]]
         return [self.shown(number) for number in hits[:MOST_HITS]], len(hits)
+
+    def _with_given(self, words: str) -> set[int]:
+        if not words:
+            return set()
+        return {
+            number
+            for number, digest in self.given.with_words(words)
+            if self.digest_of(number) == digest
+        }

@@ -8,7 +8,7 @@ from collections.abc import Callable, Mapping
 from concurrent.futures import ThreadPoolExecutor
 from typing import Any, TypeVar
 
-from weighbridge_paper.layout import WITHDRAWS, Paper, Template, blocks_of, given_of
+from weighbridge_paper.layout import WITHDRAWS, Paper, Template, blocks_of
 from weighbridge_paper.page import page_of
 from weighbridge_paper.printers import Papers
 from weighbridge_paper.printing import Worker
@@ -17,12 +17,14 @@ from weighbridge_paper.text import ZEROS, NoText, Text, check_digests, read_text
 from weighbridge_paper.words import LANGUAGES
 
 from .files import tell
+from .given import Given, Lines, changed, lines_in
 from .setup import Setup
 
 TRY_EVERY = 1.0  # seconds
 SLOW_AFTER = 5.0  # seconds: a disk that takes longer is a fault
 END_WITHIN = 3.0  # seconds for a paper that is being printed at the end
 MOST_SHOWN = 100
+MOST_GIVEN = 100_000  # entries, of which what was given is known; a journal has as many places
 SHOWN = ("waits", "begun", "failed")
 T = TypeVar("T")
 
@@ -43,8 +45,9 @@ class Printing:
         papers: Papers,
         digest_of: Callable[[int], str | None],
         first_of: Callable[[int], int | None] = lambda number: None,
+        given: Given | None = None,
     ) -> None:
-        """`digest_of` and `first_of` are what the lists know of a number: its digest, and the First that it closes."""
+        """`digest_of` and `first_of` are what the lists know of a number: its digest, and the First that it closes. `given` is filled here."""
         self.papers, self.digest_of, self.first_of = papers, digest_of, first_of
         # opened later, because a disk that takes nothing must not stop weighing
         self.spool = Spool(papers.spool, is_opened=False)
@@ -58,12 +61,25 @@ class Printing:
         self.refused: int | None = None  # the number of the last text that wasn't the office's
         self.jobs: list[dict[str, Any]] = []
         self.fault = ""  # why nothing can be noted
+        self.given, self.is_given_known = given or Given(), False
         self.on_change: Callable[[], None] = lambda: None
         self.on_unlinked: Callable[[], None] = lambda: None
         try:
             self.spool.open()
+            self._know_given(self._read_given())
         except OSError as fault:
             self._fails(str(fault))
+
+    def _read_given(self) -> list[tuple[int, str, tuple[tuple[str, str], ...]]]:
+        return self.spool.given(MOST_GIVEN)
+
+    def _know_given(self, read: list[tuple[int, str, tuple[tuple[str, str], ...]]]) -> None:
+        """Take what was given before this start. What was given since is newer."""
+        since, self.given.by_digest = self.given.by_digest, {}
+        for number, digest, pairs in read:
+            self.given.keep(number, digest, lines_in(pairs))
+        self.given.by_digest.update(since)
+        self.is_given_known = True
 
     # ---- what runs
 
@@ -100,6 +116,8 @@ class Printing:
             if self.fault:
                 with contextlib.suppress(OSError):
                     await self._beside(self.spool.probe)
+                    if not self.is_given_known:
+                        self._know_given(await self._beside(self._read_given, is_note=False))
 
     def _work(self, worker: Worker, something: threading.Event) -> None:
         said = ""
@@ -170,12 +188,7 @@ class Printing:
     # ---- what is asked
 
     def passed(self, letters: str, asked: Mapping[str, str]) -> None:
-        """A weighing's text, as the office answered it. One that comes again isn't printed again."""
-        task = asyncio.ensure_future(self._take(letters, asked))
-        self.tasks.add(task)
-        task.add_done_callback(self.tasks.discard)
-
-    async def _take(self, letters: str, asked: Mapping[str, str]) -> None:
+        """A weighing's text, as the office answered it, and the request's fields. One that comes again isn't printed again."""
         try:
             text = read_text(letters)
             own = text.own.number
@@ -188,8 +201,13 @@ class Printing:
             self.refused = numbers[0] if numbers else 0
             self.on_change()
             return
+        # at once, so that the lists, which get the text next, show it
+        task = asyncio.ensure_future(self._take(text, self.given.take(text, asked)))
+        self.tasks.add(task)
+        task.add_done_callback(self.tasks.discard)
 
-        given = given_of(asked) + self._first_of_void(text)
+    async def _take(self, text: Text, lines: Lines) -> None:
+        given = (*lines.items(), *self._first_of_void(text))
 
         def note() -> None:
             is_new = not self.spool.is_known(text)
@@ -245,6 +263,22 @@ class Printing:
             }
 
         return await self._noted(note)
+
+    async def give(
+        self, letters: str, fields: Mapping[str, str], is_printed_too: bool
+    ) -> Lines | None:
+        """Change what stands on an entry's paper besides its text, and return it. Return None if its original is printed. Raises NoText and OSError."""
+        text = read_text(letters)
+        own = text.own
+        lines = changed(self.given.of(own.digest), fields)
+
+        def note() -> bool:
+            return self.spool.give(self.spool.take(text), tuple(lines.items()), is_printed_too)
+
+        if not await self._noted(note):
+            return None
+        self.given.keep(own.number, own.digest, lines)
+        return lines
 
     async def again(self, job: int) -> bool:
         return await self._noted(lambda: self.spool.again(job))

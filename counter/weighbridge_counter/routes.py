@@ -15,6 +15,7 @@ from aiohttp.http_exceptions import HttpProcessingError
 
 from weighbridge_paper.export import NoExport, has_key
 from weighbridge_paper.text import NoText
+from weighbridge_paper.words import FREE_LINES
 
 from .counter import Counter
 from .files import NoFile
@@ -88,6 +89,7 @@ class Routes:
                 web.get("/indication", self.hand_on),
                 web.get("/tickets/{number}", self.hand_on),
                 web.get("/entries/" + own, self.entry),
+                web.put("/entries/" + own + "/given", self.give),
                 web.get("/papers", self.papers),
                 web.post(r"/papers/{number:[1-9]\d{0,9}}", self.print_paper),
                 web.post(r"/papers/{number:[1-9]\d{0,9}}/browser", self.paper_for_browser),
@@ -132,7 +134,7 @@ class Routes:
         except (web.RequestPayloadError, HttpProcessingError):
             return as_text(b"fault 400 malformed\n", 400)
         except OSError:
-            if not request.path.startswith(("/papers", "/jobs")):
+            if not request.path.startswith(("/papers", "/jobs", "/entries")):
                 raise
             return as_json({"why": "no_file"}, 503)
         except web.HTTPException as fault:
@@ -287,6 +289,31 @@ class Routes:
             return {"why": "refused 17 damaged"}, 409
         return {"text": found[0], "from": found[1]}, 200
 
+    async def give(self, request: web.Request) -> web.StreamResponse:
+        """Change what stands on an entry's paper besides its text. A line that the body doesn't have stays, and an empty one goes."""
+        number = int(request.match_info["number"])
+        try:
+            wish = json.loads(await request.read())
+            fields = {it: wish[it] for it in FREE_LINES if it in wish}
+            is_text = all(isinstance(it, str) for it in fields.values())
+            if not isinstance(wish, dict) or not is_text or set(wish) != set(fields):
+                raise ValueError
+        except (ValueError, TypeError, RecursionError):
+            return as_json({"why": f"send texts, by the names {', '.join(FREE_LINES)}"}, 422)
+        found, status = await self.text_to_print(number)
+        if status != 200:
+            return as_json(found, status)
+        entry = self.counter.books.lists.entries.get(number)
+        if entry is None or entry.kind == "void":
+            return as_json({"why": "void"}, 409)
+        try:
+            lines = await self.counter.give(number, found["text"], fields)
+        except NoText:
+            return as_json({"why": "refused 17 damaged"}, 409)
+        if lines is None:
+            return as_json({"why": "printed"}, 409)
+        return as_json({"given": dict(lines)})
+
     # ---- papers
 
     async def papers(self, request: web.Request) -> web.StreamResponse:
@@ -383,9 +410,10 @@ class Routes:
     # ---- kept tares
 
     async def plate(self, request: web.Request) -> web.StreamResponse:
-        """Answer with a plate's last empty weight."""
-        plate = request.match_info["plate"]
-        return as_json({"plate": plate, "empty": self.counter.books.lists.empty_of(plate)})
+        """Answer with a plate's last empty weight, and with what was given last for its paper."""
+        plate, lists = request.match_info["plate"], self.counter.books.lists
+        given = dict(lists.last_given(plate))
+        return as_json({"plate": plate, "empty": lists.empty_of(plate), "given": given})
 
     async def keep_tare(self, request: web.Request) -> web.StreamResponse:
         try:

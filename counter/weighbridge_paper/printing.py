@@ -62,17 +62,15 @@ class Worker:
         def begin() -> bytes:
             """The paper as what it is now. It is rendered before it is noted, and noted before a byte of it goes out."""
             nonlocal has_begun
-            is_original = job.is_original
-            while True:
-                data = data_of(job.what(is_original), self.printer)
-                if self.spool.begin(job.id, is_original):
+            now: Job | None = job
+            while now is not None and now.state == "waits":
+                data = data_of(now.what(now.is_original), self.printer)
+                if self.spool.begin(now, now.is_original):
                     has_begun = True
                     self.on_change()
                     return data
                 now = self.spool.job(job.id)
-                if now is None or now.state != "waits":
-                    raise Dropped
-                is_original = now.is_original
+            raise Dropped
 
         def tell(why: str) -> None:
             self.spool.tell(job.id, why)

@@ -128,6 +128,28 @@ class Spool:
                 )
             return found
 
+    def give(
+        self, paper: int, given: tuple[tuple[str, str], ...], is_printed_too: bool = False
+    ) -> bool:
+        """Change what the clerk gave. Return False if the original was printed and `is_printed_too` is false: nothing is changed then."""
+        with self._open() as database:
+            words = (json.dumps(given), paper, is_printed_too)
+            return (
+                database.execute(
+                    "UPDATE paper SET given = ? WHERE id = ? AND (? OR NOT is_spent)", words
+                ).rowcount
+                == 1
+            )
+
+    def given(self, most: int) -> list[tuple[int, str, tuple[tuple[str, str], ...]]]:
+        """Return number, digest and what the clerk gave, of the newest papers for which something was given; the oldest of them comes first."""
+        with self._open() as database:
+            rows = database.execute(
+                "SELECT number, digest, given FROM paper WHERE given != '[]' ORDER BY id DESC LIMIT ?",
+                (most,),
+            ).fetchall()
+        return [(number, digest, given_in(it)) for number, digest, it in reversed(rows)]
+
     def text_of(self, number: int) -> Text | None:
         """The newest text of a number, for a further print."""
         with self._open() as database:
@@ -177,15 +199,23 @@ class Spool:
                 )
             ]
 
-    def begin(self, job: int, is_original: bool) -> bool:
-        """Notes that a paper is printed now, and as what. False if another one became the original meanwhile, or the job waits no more."""
+    def begin(self, job: Job, is_original: bool) -> bool:
+        """Note that a paper is printed now, and as what.
+
+        Return False if another one became the original meanwhile, if something else was given for it, or if the job waits no more.
+        """
         with self._open() as database:
-            row = database.execute(f"{JOB} WHERE job.id = ? AND state = 'waits'", (job,)).fetchone()
-            if row is None or (is_original and job_of(row).is_original is False):
+            row = database.execute(
+                f"{JOB} WHERE job.id = ? AND state = 'waits'", (job.id,)
+            ).fetchone()
+            if row is None:
+                return False
+            now = job_of(row)
+            if (is_original and not now.is_original) or now.given != job.given:
                 return False
             database.execute(
                 "UPDATE job SET state = 'begun', why = '', is_original = ?, at = ? WHERE id = ?",
-                (is_original, moment(), job),
+                (is_original, moment(), job.id),
             )
             if is_original:
                 database.execute("UPDATE paper SET is_spent = 1 WHERE id = ?", (row[1],))
