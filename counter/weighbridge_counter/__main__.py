@@ -11,6 +11,7 @@ from pathlib import Path
 
 from weighbridge_paper.reader import Address, SetupFault, trouble_of_folder
 
+from .boards import Sender, open_board
 from .connections import listen
 from .counter import Counter
 from .ports import open_port
@@ -63,6 +64,10 @@ def of_address(key: str, address: Address) -> Iterator[None]:
         ) from None
 
 
+async def run_all(counter: Counter, senders: Sequence[Sender]) -> None:
+    await asyncio.gather(counter.run(), *(it.run() for it in senders))
+
+
 async def serve(setup: Setup) -> None:
     counter = Counter(setup)
     with of_address("listen", setup.listen):
@@ -71,13 +76,20 @@ async def serve(setup: Setup) -> None:
     for port in setup.ports:
         with of_address(f"port {port.name}", port.listen):
             ports.append(await open_port(counter.terminal, port))
+    senders = []
+    for board in setup.boards:
+        with of_address(f"scoreboard {board.name}", board.listen or ("", 0)):
+            senders.append(await open_board(counter.terminal, board, setup.interval))
     for port, listener in zip(setup.ports, ports):
         print(f"counter: port {port.name} on {port.listen[0]}:{port.listen[1]}", file=sys.stderr)
+    for board in setup.boards:
+        where = board.device or "{}:{}".format(*(board.listen or ("", 0)))
+        print(f"counter: scoreboard {board.name} on {where}: {board.form}", file=sys.stderr)
     print(f"counter: http://{setup.listen[0]}:{setup.listen[1]}/", file=sys.stderr, flush=True)
     stopped = asyncio.Event()
     for it in (signal.SIGTERM, signal.SIGINT):
         asyncio.get_running_loop().add_signal_handler(it, stopped.set)
-    running = asyncio.ensure_future(counter.run())
+    running = asyncio.ensure_future(run_all(counter, senders))
     stopping = asyncio.ensure_future(stopped.wait())
     await asyncio.wait([running, stopping], return_when=asyncio.FIRST_COMPLETED)
     if counter.acts.tasks:

@@ -18,7 +18,11 @@ from weighbridge_paper.reader import (
 )
 from weighbridge_paper.text import DEMO
 
+from .scoreboard import FORMS
+
 INTERVALS = (1, 2, 5, 10, 20, 50)
+BAUDS = (1200, 2400, 4800, 9600, 19200, 38400, 57600, 115200)
+DEVICE = "write the serial line of the scoreboard, as /dev/ttyUSB0, or write listen in place of it"
 
 
 @dataclass(frozen=True)
@@ -26,6 +30,17 @@ class Port:
     name: str
     listen: Address
     may_change: bool
+
+
+@dataclass(frozen=True)
+class Board:
+    """A driver's display. It listens at an address, or is at the other end of a serial line."""
+
+    name: str
+    form: str
+    listen: Address | None
+    device: str | None
+    baud: int
 
 
 @dataclass(frozen=True)
@@ -45,6 +60,7 @@ class Setup:
     hosts: tuple[str, ...] = ()
     languages: dict[str, str] = field(default_factory=dict)  # the name of each, in itself
     ports: tuple[Port, ...] = field(default=())
+    boards: tuple[Board, ...] = field(default=())
     papers: Papers | None = None  # the printers; without them the browser prints
     serial: str | None = None  # the serial of the service, if the setup names it
     is_demo: bool = False  # the pages say DEMO
@@ -93,7 +109,7 @@ def gaps_of(web: Path, known: Iterable[str]) -> tuple[list[str], list[str]]:
 def read_setup(path: Path, web: Path) -> Setup:
     """Return the setup of a file. Raise SetupFault with all mistakes of it, and of the file of the printers."""
     reader, known = Reader(table_of(path), str(path), []), languages(web)
-    ports = tables_in(reader, "port")
+    ports, boards = tables_in(reader, "port"), tables_in(reader, "scoreboard")
     setup = Setup(
         state=Path(
             reader.text("state", None, "write the folder in which the counter keeps its files")
@@ -114,6 +130,7 @@ def read_setup(path: Path, web: Path) -> Setup:
             "hosts", 'write the names that browsers ask for, as ["weighbridge.example"]'
         ),
         ports=tuple(port_of(it) for it in ports),
+        boards=tuple(board_of(it) for it in boards),
         papers=papers_of(reader),
         serial=serial_of(reader),
         is_demo=reader.flag("demo", False),
@@ -183,19 +200,35 @@ def papers_of(reader: Reader) -> Papers | None:
         return None
 
 
+def name_of(reader: Reader) -> str:
+    what = "write a name of small letters, digits and _, as till_1"
+    return reader.matching("name", None, "[a-z0-9_]{1,20}", what)
+
+
 def port_of(reader: Reader) -> Port:
     port = Port(
-        reader.matching(
-            "name",
-            None,
-            "[a-z0-9_]{1,20}",
-            "write a name of small letters, digits and _, as till_1",
-        ),
+        name_of(reader),
         reader.address("listen", None),
         reader.choice("may", "read", ("read", "change")) == "change",
     )
     reader.end()
     return port
+
+
+def board_of(reader: Reader) -> Board:
+    is_serial = "device" in reader.table
+    baud = reader.number("baud", 9600, BAUDS[0], BAUDS[-1]) if is_serial else 0
+    if is_serial and baud not in BAUDS:
+        reader.mistake("baud", f"write {', '.join(map(str, BAUDS[:-1]))} or {BAUDS[-1]}")
+    board = Board(
+        name_of(reader),
+        reader.choice("form", None, sorted(FORMS)),
+        None if is_serial else reader.address("listen", None),
+        reader.matching("device", None, "/dev/[A-Za-z0-9/_-]+", DEVICE) if is_serial else None,
+        baud,
+    )
+    reader.end()
+    return board
 
 
 def note_twice(setup: Setup, reader: Reader) -> None:
@@ -209,14 +242,26 @@ def note_twice(setup: Setup, reader: Reader) -> None:
             (f"port {at}: listen", it.listen, "take another port")
             for at, it in enumerate(setup.ports, 1)
         ),
+        *(
+            (f"scoreboard {at}: listen", it.listen, "take another port")
+            for at, it in enumerate(setup.boards, 1)
+            if it.listen is not None
+        ),
     ):
         if address != NO_ADDRESS and address in known:
             reader.mistake(key, f"it is the address of {known[address]}: {what_to_do}")
         known.setdefault(address, key.removesuffix(": listen"))
-    names: set[str] = set()
-    for at, port in enumerate(setup.ports, 1):
-        if port.name and port.name in names:
+    for kind, them in (("port", setup.ports), ("scoreboard", setup.boards)):
+        names: set[str] = set()
+        for at, it in enumerate(them, 1):
+            if it.name and it.name in names:
+                what = f"there is a {kind} {it.name} already: take another name"
+                reader.mistake(f"{kind} {at}: name", what)
+            names.add(it.name)
+    devices: set[str] = set()
+    for at, board in enumerate(setup.boards, 1):
+        if board.device and board.device in devices:
             reader.mistake(
-                f"port {at}: name", f"there is a port {port.name} already: take another name"
+                f"scoreboard {at}: device", "another scoreboard has this line: write its own"
             )
-        names.add(port.name)
+        devices.add(board.device or "")
