@@ -47,11 +47,11 @@ export function choiceOf(now) {
   if (now.oneTare) return { kind: 'single', tare: roundedTare(now.oneTare, now.interval) };
   const kept = now.tares[now.plate];
   if (kept && !kept.is_over && !now.isFirstInstead) return { kind: 'single', tare: roundedTare(kept.kg, now.interval) };
-  return { kind: 'first' };
+  return now.isOnce ? { kind: 'first', isOnce: true } : { kind: 'first' };
 }
 
 // By what a weighing differs from another one of the same plate.
-export const weighingOf = ({ kind, tare, first }) => [kind, tare ?? '', first?.number ?? ''].join(' ');
+export const weighingOf = ({ kind, tare, first, isOnce }) => [kind, tare ?? '', first?.number ?? '', isOnce ? 'once' : ''].join(' ');
 
 // Returns the plates with a kept tare that are the typed one without hyphens. They may be other vehicles, so none is taken without an answer.
 function spellings({ plate, tares }, choice) {

@@ -13,7 +13,7 @@ const RESULT_BEFORE_FAULTS = 5000;   // milliseconds that a result is shown befo
 export const feed = new Feed();
 export const known = { hello: { interval: 20, zone: 'UTC', tare_days: 90 }, state: null, onSite: [], weighedNear: [], today: [], sums: null, tares: {}, papers: { printers: [], jobs: [], refused: null } };
 // `ofPlate` is what the counter knows of the plate in the form, `choice` the weighing that was shown last, and the plates of the answers by their keys.
-export const clerk = { oneTare: null, isFirstInstead: false, isGivenTyped: false, waiting: null, result: null, told: null, newest: null, answered: {}, answers: [], deafness: new Deafness(), arming: new Arming(), plateOfLoad: new PlateOfLoad(), formThatLeft: null, ofPlate: null, choice: { plate: '', weighing: '', plates: {} } };
+export const clerk = { oneTare: null, isFirstInstead: false, isOnce: false, isGivenTyped: false, waiting: null, result: null, told: null, newest: null, answered: {}, answers: [], deafness: new Deafness(), arming: new Arming(), plateOfLoad: new PlateOfLoad(), formThatLeft: null, ofPlate: null, choice: { plate: '', weighing: '', plates: {} } };
 
 export const GIVEN = ['goods', 'order', 'driver'];     // free lines for the paper, which the office doesn't get
 export const linesOf = given => GIVEN.map(it => given[it]).filter(Boolean).join(', ');
@@ -33,9 +33,12 @@ export function linkNow() {
 // By the number of a first weighing: the void by which it was withdrawn today.
 export const withdrawnBy = () => new Map(known.today.filter(it => it.kind === 'void').map(it => [it.first, it]));
 
+// The First of a vehicle that is weighed once is closed by the counter, which is no withdrawal.
+export const isWithdrawn = entry => withdrawnBy().has(entry.number) && !entry.once;
+
 function newestWeighing() {
   const newest = known.today.find(it => it.kind !== 'void');
-  return newest && { plate: newest.plate, number: newest.number, paper: paperOf(newest), isWithdrawn: withdrawnBy().has(newest.number) };
+  return newest && { plate: newest.plate, number: newest.number, paper: paperOf(newest), isWithdrawn: isWithdrawn(newest) };
 }
 
 // The plate's last empty weight in kg, as far as the page knows it.
@@ -45,7 +48,7 @@ export function nowKnown() {
   const link = linkNow();
   return {
     at: Date.now(), link, weight: link === 'up' ? feed.weight : null, state: known.state, papers: known.papers, plate: plate(), onSite: known.onSite, weighedNear: known.weighedNear, tares: known.tares,
-    interval: known.hello.interval, min: MIN_INTERVALS * known.hello.interval, empty: emptyOf(plate()), oneTare: clerk.oneTare, isFirstInstead: clerk.isFirstInstead,
+    interval: known.hello.interval, min: MIN_INTERVALS * known.hello.interval, empty: emptyOf(plate()), oneTare: clerk.oneTare, isFirstInstead: clerk.isFirstInstead, isOnce: clerk.isOnce,
     waiting: clerk.waiting, result: clerk.result, told: clerk.told, newest: newestWeighing(), answered: clerk.answered, isDeaf: clerk.deafness.isDeaf(performance.now()),
     isResultNew: clerk.result !== null && performance.now() - clerk.result.madeAt < RESULT_BEFORE_FAULTS,
   };

@@ -1,6 +1,6 @@
 // The lists: vehicles on site, the papers of today, and what a search finds.
 
-import { clerk, known, linesOf, withdrawnBy } from './known.js';
+import { clerk, isWithdrawn, known, linesOf, withdrawnBy } from './known.js';
 import { openEntry } from './papers.js';
 import { button, make, part } from './parts.js';
 import { askJson } from './request.js';
@@ -104,9 +104,11 @@ function onSiteSays(entry) {
   return { text: `${whenOf(entry.at)} · ${t('slip')} ${entry.number}${isLate ? ` · ${t('since_before')}` : ''}${givenIn(entry)}`, isLate };
 }
 
+const kindOf = ({ kind, once }) => !once ? t(`kind_${kind}`) : t(kind === 'void' ? 'row_once_closed' : 'row_once');
+
 function entrySays(entry) {
   const first = entry.kind === 'void' && entry.first ? ` · ${t('of_first', { number: entry.first })}` : '';
-  return { text: `${KINDS[entry.kind]} ${whenOf(entry.at)} · ${t(`kind_${entry.kind}`)} ${entry.number}${first}${givenIn(entry)}`, isLate: false };
+  return { text: `${KINDS[entry.kind]} ${whenOf(entry.at)} · ${kindOf(entry)} ${entry.number}${first}${givenIn(entry)}`, isLate: false };
 }
 
 const isNew = entry => entry.number === clerk.newest ? 'new' : '';
@@ -115,12 +117,12 @@ let rows;
 
 export function showLists() {
   rows ??= { site: new Rows('site', entry => acts.take(entry.plate)), today: new Rows('today', open), hits: new Rows('hits', closeSearch) };
-  const withdrawn = withdrawnBy(), older = (known.sums?.entries ?? 0) - known.today.length;
+  const older = (known.sums?.entries ?? 0) - known.today.length;
   part('site-count').textContent = known.onSite.length || '';
   part('today-count').textContent = known.sums?.entries || '';
   part('today-sum').textContent = sumsOf(known.sums);
   rows.site.show(known.onSite, { lookOf: isNew, says: onSiteSays, end: known.onSite.length ? '' : t('nobody_on_site') });
-  rows.today.show(known.today, { lookOf: entry => `${isNew(entry)} ${entry.kind === 'void' || withdrawn.has(entry.number) ? 'void' : ''}`, says: entrySays, end: older > 0 ? t('older_today', { number: number(older) }) : known.today.length ? '' : t('nothing_today') });
+  rows.today.show(known.today, { lookOf: entry => `${isNew(entry)} ${entry.kind === 'void' || isWithdrawn(entry) ? 'void' : ''}`, says: entrySays, end: older > 0 ? t('older_today', { number: number(older) }) : known.today.length ? '' : t('nothing_today') });
 }
 
 // What was weighed today, by the counter's sums over all entries of the day. A weighing with a tare has no direction.
@@ -141,7 +143,7 @@ export function printDay({ day, entries, sums }, company) {
 }
 
 function open(entry) {
-  const isOpenFirst = () => entry.kind === 'first' && known.onSite.some(it => it.number === entry.number);
+  const isOpenFirst = () => entry.kind === 'first' && (entry.once ? !withdrawnBy().has(entry.number) : known.onSite.some(it => it.number === entry.number));
   openEntry(entry, known.papers.printers, acts.print_number, isOpenFirst, acts.withdraw, acts.give_later);
 }
 

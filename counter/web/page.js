@@ -189,6 +189,13 @@ function openSearch() {
   search();
 }
 
+// No second weighing follows, so the counter withdraws it later.
+function weighOnce() {
+  clerk.isOnce = true;
+  beDeaf();
+  focusPlate();
+}
+
 function weighFirstInstead() {
   clerk.oneTare = null;
   clerk.isFirstInstead = true;
@@ -239,7 +246,7 @@ async function giveLater(entry, given) {
 }
 
 // What the clerk typed for one vehicle.
-const formNow = () => ({ plate: plate(), oneTare: clerk.oneTare, isFirstInstead: clerk.isFirstInstead, isGivenTyped: clerk.isGivenTyped, given: givenTyped() });
+const formNow = () => ({ plate: plate(), oneTare: clerk.oneTare, isFirstInstead: clerk.isFirstInstead, isOnce: clerk.isOnce, isGivenTyped: clerk.isGivenTyped, given: givenTyped() });
 
 function fillForm({ plate: of, given, isGivenTyped, ...choice }) {
   part('plate').value = of;
@@ -252,8 +259,7 @@ function emptyForm() {
   clerk.arming.end();
   part('plate').value = '';
   clearGiven();
-  clerk.oneTare = null;
-  clerk.isFirstInstead = false;
+  Object.assign(clerk, { oneTare: null, isFirstInstead: false, isOnce: false });
 }
 
 function clearPlate() {
@@ -329,9 +335,7 @@ function typed(event) {
   }
   clerk.arming.end();
   if (event) clerk.deafness.typed();
-  clerk.oneTare = null;
-  clerk.isFirstInstead = false;
-  clerk.answered = {};
+  Object.assign(clerk, { oneTare: null, isFirstInstead: false, isOnce: false, answered: {} });
   if (text) clerk.result = clerk.told = null;
   if (!text || !clerk.isGivenTyped) clearGiven();
   askPlate();
@@ -339,7 +343,7 @@ function typed(event) {
 }
 
 Object.assign(acts, {
-  set_zero: setZero, clear_tare: clearTare, journal_seen: closeJournalBar, print: printResult, print_number: printNumber, show_papers: openPapers, keep_tare: keepTareOf, tare_from_papers: askTare, given_lines: askGiven, given_as_before: giveAsBefore, give_later: giveLater, first_instead: weighFirstInstead,
+  set_zero: setZero, clear_tare: clearTare, journal_seen: closeJournalBar, print: printResult, print_number: printNumber, show_papers: openPapers, keep_tare: keepTareOf, tare_from_papers: askTare, given_lines: askGiven, given_as_before: giveAsBefore, give_later: giveLater, first_instead: weighFirstInstead, weigh_once: weighOnce,
   plate_left: plateLeft, plate_again: plateAgain, weigh, disarm, armed_over: armedOver, choice_changed: () => beDeaf(ALL_KEYS),
   withdraw: ({ plate: of, number: first }) => begin('/voids', { plate: of }, undefined, { first }), take: takeVehicle, answer, clear: clearPlate, focus: focusPlate,
 });
@@ -363,7 +367,7 @@ function arm(now) {
 function weigh(since = performance.now()) {
   const choice = choiceOf(nowKnown()), subject = subjectOf(plate(), choice);
   const given = clerk.isGivenTyped ? givenTyped() : {};     // an empty line removes what the first weighing has
-  begin('/weighings', { kind: choice.kind, plate: plate(), ...(choice.tare ? { tare: String(choice.tare) } : {}), ...given }, () => takeForm(subject, since));
+  begin('/weighings', { kind: choice.kind, plate: plate(), ...(choice.tare ? { tare: String(choice.tare) } : {}), ...(choice.isOnce ? { once: '1' } : {}), ...given }, () => takeForm(subject, since));
 }
 
 // An Enter at this very moment is meant for the press that is over.

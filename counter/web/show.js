@@ -123,6 +123,8 @@ function formOf(now, told) {
   return { plate: now.plate, choice, isReady, isArmable, isArmed: clerk.arming.isArmed, net: isReady && net > 0 ? net : null, kept: now.tares[now.plate], answers: clerk.answers, tareOf: clerk.result?.tare, given: linesOf(givenOf(choice)), before: givenBefore(now.plate, choice), language };
 }
 
+const weighs = ({ kind, tare, isOnce }) => isOnce ? t('weigh_once') : t(`weigh_${kind}`, { tare: tare ? kg(tare) : '' });
+
 // What was given for the plate's last paper, if the clerk has given nothing for this one.
 function givenBefore(plate, choice) {
   const { ofPlate } = clerk;
@@ -133,7 +135,7 @@ const showForm = onlyChanged(form => {
   const { choice } = form;
   part('go').disabled = !form.isReady && (!form.isArmable || form.isArmed);
   part('go').dataset.look = form.isReady ? 'weighs' : form.isArmable ? 'arms' : '';
-  part('go-words').textContent = form.plate ? `${t(`weigh_${choice.kind}`, { tare: choice.tare ? kg(choice.tare) : '' })} · ${form.plate}` : t('weigh');
+  part('go-words').textContent = form.plate ? `${weighs(choice)} · ${form.plate}` : t('weigh');
   part('go-more').textContent = form.isArmable ? t('once_still') : form.net === null ? '' : t('net_to_come', { kg: kg(form.net) });
   part('hint').replaceChildren(...hintsOf(form));
   part('others').replaceChildren(...othersOf(form));
@@ -153,6 +155,7 @@ function aboutPlate({ plate, choice, kept }) {
 function othersOf({ plate, choice, tareOf, given, before }) {
   const others = [];
   if (choice.kind === 'single') others.push(button(t('first_instead'), acts.first_instead));
+  if (choice.kind === 'first' && !choice.isOnce && known.hello.once && isPlate(plate)) others.push(button(t('weigh_once'), acts.weigh_once));
   if (!choice.first && isPlate(plate)) others.push(button(t('tare_from_papers'), acts.tare_from_papers));
   if (isPlate(plate) && before) others.push(button(t('given_as_before', { given: before }), acts.given_as_before));
   if (isPlate(plate)) others.push(button(given ? `${t('given_lines')}: ${given}` : t('give_lines'), acts.given_lines));

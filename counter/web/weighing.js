@@ -94,7 +94,7 @@ function refuse(answer, choices) {
 function finish(request, text) {
   const at = Number(/ (\d+)\n/.exec(text)[1]), net = /^N +(\d+) kg$/m.exec(text)?.[1], grosses = [...text.matchAll(/^G +(\d+) kg$/mg)].map(it => Number(it[1]));
   const kind = request.form.kind ?? 'void', first = request.about?.first, values = { paper: paperOf({ kind }), number: at, plate: request.form.plate, first };
-  const word = kind === 'void' ? first ? 'done_void' : 'done_void_any' : net === undefined ? 'done_first' : 'done_net';
+  const word = kind === 'void' ? first ? 'done_void' : 'done_void_any' : net !== undefined ? 'done_net' : request.form.once ? 'done_once' : 'done_first';
   const isOfThisLoad = clerk.plateOfLoad.loads === request.loads && !known.today.some(it => it.number === at);
   if (kind !== 'void' && isOfThisLoad) clerk.plateOfLoad.weighed({ kind, plate: request.form.plate, number: at });
   const isPair = grosses.length === 2 && Number(net) >= MIN_INTERVALS * known.hello.interval;

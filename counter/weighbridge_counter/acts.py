@@ -8,14 +8,16 @@ import contextlib
 import re
 import urllib.parse
 from collections import Counter
-from collections.abc import AsyncIterator, Awaitable, Callable, Mapping
+from collections.abc import AsyncIterator, Awaitable, Callable, Iterable, Mapping
 from dataclasses import dataclass
 from typing import ParamSpec
 
+from weighbridge_paper.text import NoText, read_text
 from weighbridge_paper.words import FREE_LINES
 
 from .fanout import Turn
 from .files import Files, NoFile, tell
+from .once import Once, Withdrawal
 from .office import NoAnswer, Office
 from .terminal import NotSent, Terminal, Unanswered
 
@@ -28,7 +30,11 @@ TRY_AGAIN_AFTER = 0.3  # seconds
 LOOK_WITHIN = 5.0  # seconds
 TARE = re.compile(r"[1-9]\d{0,6}")
 P = ParamSpec("P")
-NOT_FOR_THE_OFFICE = tuple(f"{it}=".encode() for it in FREE_LINES)  # they stand on paper alone
+# The free lines stand on paper alone, and that a vehicle is weighed once is the counter's own.
+NOT_FOR_THE_OFFICE = tuple(f"{it}=".encode() for it in (*FREE_LINES, "once"))
+# Refusals after which the entry may be in the journal: its slip is gone, or damaged.
+MAY_BE_STORED = (b"refused 2 ", b"refused 17 ")
+NOT_OPEN = b"refused 13 "
 
 
 @dataclass(frozen=True)
@@ -66,8 +72,17 @@ async def in_time(lock: asyncio.Lock) -> AsyncIterator[None]:
 
 class Acts:
     def __init__(
-        self, terminal: Terminal, office: Office, files: Files, interval: int, counts: Counter[str]
+        self,
+        terminal: Terminal,
+        office: Office,
+        files: Files,
+        interval: int,
+        counts: Counter[str],
+        once: Once | None = None,
     ) -> None:
+        """`once` has the vehicles that are weighed once. Without it such a weighing is refused."""
+        self.once = once
+        self.step_of: Callable[[str], Withdrawal | None] = lambda key: None
         self.terminal, self.office, self.files, self.interval, self.counts = (
             terminal,
             office,
@@ -105,8 +120,11 @@ class Acts:
                 parts = [it for it in parts if not it.startswith(NOT_FOR_THE_OFFICE)]
                 body = b"&".join(parts)
             tares = [it[5:].decode("latin-1") for it in parts if it.startswith(b"tare=")]
-            if not tares:
+            if "once" in asked:
+                told.set_result(await self._weigh_once(target, body, asked, bool(tares)))
+            elif not tares:
                 async with in_time(self.one_at_a_time):
+                    await self._close_plate(target, asked)
                     told.set_result(await self._pass_on(target, body, asked))
             elif len(tares) == 1 and TARE.fullmatch(tares[0]) and b"kind=single" in parts:
                 rest = b"&".join(it for it in parts if not it.startswith(b"tare="))
@@ -151,6 +169,48 @@ class Acts:
                 f"the client gets an answer of the office, but the counter couldn't process it here: {repr(fault)[:200]}"
             )
 
+    # ---- vehicles that are weighed once
+
+    async def _weigh_once(
+        self, target: str, body: bytes, asked: Mapping[str, str], has_tare: bool
+    ) -> Told:
+        """Pass on the First of a vehicle that is weighed once, which is noted before. Raises Busy or NoFile; nothing was sent then."""
+        key, plate = asked.get("key", ""), asked.get("plate", "")
+        is_first = (target, asked.get("kind"), asked["once"]) == ("/weighings", "first", "1")
+        if self.once is None or not is_first or has_tare or not key or not plate:
+            return not_sent(422, "bad_once")
+        async with in_time(self.one_at_a_time):
+            await self._close_plate(target, asked)
+            await self.once.intend(key, plate, INTEND_WITHIN)
+            told = await self._pass_on(target, body, asked)
+            if told.status == 201:
+                with contextlib.suppress(NoText):
+                    own = read_text(told.body.decode("utf-8", "replace")).own
+                    self.once.stored(key, own.number, own.digest)
+            elif told is not NO_ANSWER and told.status < 500 and not told.body.startswith(MAY_BE_STORED):
+                self.once.forget(key)
+            return told
+
+    async def _close_plate(self, target: str, asked: Mapping[str, str]) -> None:
+        """Withdraw the First of a plate that was weighed once, because the plate comes again. The caller holds the lock."""
+        if self.once is not None and target == "/weighings":
+            await self._withdraw(self.once.of_plate(asked.get("plate", ""), asked.get("key", "")))
+
+    async def withdraw(self, keys: Iterable[str]) -> None:
+        """Withdraw the Firsts of vehicles that were weighed once, by the keys of their notes. Raises Busy."""
+        async with in_time(self.one_at_a_time):
+            await self._withdraw(keys)
+
+    async def _withdraw(self, keys: Iterable[str]) -> None:
+        for key in keys:
+            wanted = self.step_of(key)
+            if wanted is None or self.once is None:
+                continue
+            form = {"key": wanted.key, "plate": wanted.plate}
+            told = await self._pass_on("/voids", urllib.parse.urlencode(form).encode(), form)
+            if told.status == 201 or told.body.startswith(NOT_OPEN):
+                self.once.forget(key)
+
     # ---- a tare that belongs to one weighing
 
     async def _weigh_with_tare(
@@ -184,6 +244,7 @@ class Acts:
                     told.set_result(refusal)
                     return
                 try:
+                    await self._close_plate(target, asked)
                     told.set_result(await self._pass_on(target, body, asked))
                 finally:
                     await self._clear_tare(turn)

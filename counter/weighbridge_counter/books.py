@@ -2,10 +2,11 @@
 
 import asyncio
 import datetime
+import math
 import time
 import zoneinfo
 from collections import Counter
-from collections.abc import Callable, Mapping
+from collections.abc import Callable, Mapping, Set
 
 from weighbridge_paper.export import NoExport
 from weighbridge_paper.text import NoText, Text, read_text
@@ -37,6 +38,8 @@ class Books:
     ) -> None:
         self.office, self.zone, self.counts, self.given = office, zone, counts, given or Given()
         self.lists, self.journal = Lists(zone, self.given), journal or Journal()
+        self.once: Callable[[], Set[int]] = frozenset  # the Firsts of vehicles that are weighed once
+        self.exported_at = -math.inf  # when the export of the lists was asked for
         self.places = 0  # texts that passed
         self.state = (
             "ok"  # of the office: ok, store (its journal can't be read or written), no_answer
@@ -63,16 +66,16 @@ class Books:
         except NoText:
             self.wants_export = True
             return
-        entry, is_new = self._take(text, self.places)
+        entry, is_new = self._take(text, self.places, asked.get("key", ""))
         if is_new:
             self.on_entry(entry)
 
-    def _take(self, text: Text, place: int) -> tuple[Entry, bool]:
+    def _take(self, text: Text, place: int, key: str) -> tuple[Entry, bool]:
         """Add a text to the lists. If it is from another journal, start the lists again, because the office answers only from its own journal."""
         is_another, known = self.lists.contradicts(text), self.lists.known(place)
         if is_another:
-            self.lists = Lists(self.zone, self.given)
-        entry, is_new = self.lists.passed(text, place)
+            self.lists = self._with_once(Lists(self.zone, self.given))
+        entry, is_new = self.lists.passed(text, place, key)
         if is_another:
             self._begin_again(
                 SHORTER if entry.number < known.last else changed_by(known, text.own.serial),
@@ -137,7 +140,7 @@ class Books:
             self.counts["exports_not_understood"] += 1
             self.read_at = time.monotonic()  # the next one waits until the bridge is empty
             return
-        self._take_export(read, why, known, place)
+        self._take_export(read, why, known, place, began)
         self.read_at = time.monotonic()
         self.export_seconds = self.read_at - began
         self.counts["exports"] += 1
@@ -147,19 +150,30 @@ class Books:
         read = Lists.of_export(self.zone, export, self.given)
         return read, why_another(known, read.rows)
 
-    def _take_export(self, read: Lists, why: str | None, known: Known, place: int) -> None:
+    def _with_once(self, lists: Lists) -> Lists:
+        lists.once = self.once
+        return lists
+
+    def is_certain(self, since: float) -> bool:
+        """Return whether nothing is missing in the lists, and their export was asked for after a moment."""
+        return self.is_whole() and self.lists.is_of_export and self.exported_at > since
+
+    def _take_export(
+        self, read: Lists, why: str | None, known: Known, place: int, asked_at: float
+    ) -> None:
         """Make the lists those of an export and of each text that passed after the counter asked for it.
 
         An earlier text is in the export, or in no journal.
         """
-        older, self.lists = self.lists, read
+        older, self.lists = self.lists, self._with_once(read)
         self.lists.with_texts_of(older)
         self.wants_export = False
         if why is not None:
             self._begin_again(why, known)
         self.journal.keep(self.lists.known(place))
         for at, text in older.passed_since(place):
-            self._take(text, at)
+            self._take(text, at, older.keys[text.own.number])
+        self.exported_at = asked_at
         self.on_lists()
 
     async def export_of_now(self) -> tuple[Answer, int]:

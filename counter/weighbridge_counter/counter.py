@@ -1,19 +1,21 @@
 """What the counter knows at a moment, and who is told when it changes."""
 
 import asyncio
+import contextlib
 import datetime
 import time
 from collections.abc import Callable, Coroutine, Mapping
 from dataclasses import asdict
 from typing import Any
 
-from .acts import Acts
+from .acts import Acts, Busy
 from .books import Books
 from .files import Files
 from .given import Given, Lines
 from .journal import Journal
 from .off_zero import MIN_INTERVALS, OffZero
 from .office import NoAnswer, Office
+from .once import Once
 from .pages import FASTEST, SLOWEST, Pages
 from .papers import Printing, papers_of
 from .room import Room, capacity_of, room_of
@@ -29,6 +31,7 @@ from .zero import Zero
 STATE_EVERY = 0.25  # seconds
 WITHOUT_VALUE = 1.5  # seconds between two looks whether another one has the terminal
 ANSWERS_WITHIN = 1.2  # seconds
+WITHDRAW_EVERY = 5.0  # seconds
 NOTED_WITHIN = 0.3  # seconds that an answer waits for the disk at most
 GONE_AFTER = 0.5  # seconds without a value after which pages get a sign of life
 
@@ -42,7 +45,11 @@ class Counter:
         self.counts = self.terminal.fanout.counts
         self.office = Office(setup.office)
         self.files = Files(setup.state)
-        self.acts = Acts(self.terminal, self.office, self.files, setup.interval, self.counts)
+        clock = self.terminal.clock
+        self.once = Once(self.files, lambda: self.now().date(), clock) if setup.once else None
+        self.acts = Acts(
+            self.terminal, self.office, self.files, setup.interval, self.counts, self.once
+        )
         self.given = Given()
         self.books = Books(self.office, setup.zone, self.counts, Journal(self.files), self.given)
         self.printing = Printing(
@@ -93,6 +100,12 @@ class Counter:
         self.books.on_lists = self._tell_lists
         self.books.on_entry = self._take_entry
         self.books.is_empty = self._is_empty
+        if self.once is not None:
+            once = self.once
+            self.books.once = self.books.lists.once = once.numbers
+            self.acts.step_of = lambda key: once.step(
+                key, self.books.lists, self.books.is_certain
+            )
 
     async def run(self) -> None:
         await asyncio.gather(
@@ -102,6 +115,7 @@ class Counter:
             self._look_for_another(),
             self.printing.run(),
             self.files.run(),
+            self._withdraw_when_due(),
         )
 
     def now(self) -> datetime.datetime:
@@ -216,7 +230,7 @@ class Counter:
 
         Of a vehicle on site it can still be changed then, because its ticket will have it. Raises NoText and OSError.
         """
-        is_on_site = number in self.books.lists.open.values()
+        is_on_site = number in self.books.lists.there()
         lines = await self.printing.give(letters, fields, is_on_site)
         if lines is not None:
             self.pages.tell("given", {"number": number, "given": dict(lines)})
@@ -285,6 +299,7 @@ class Counter:
             "languages": setup.languages,
             "interval": setup.interval,
             "tare_days": setup.tare_days,
+            "once": setup.once,
             "demo": setup.is_demo,
             "demo_page": setup.demo_page,
             "now": self.milliseconds(),
@@ -314,6 +329,16 @@ class Counter:
     def _tell_of_a_new_day(self) -> None:
         self.day = self.now().date()
         self._tell_lists()
+
+    async def _withdraw_when_due(self) -> None:
+        """After local midnight, withdraw the Firsts of the vehicles that were weighed once."""
+        while (once := self.once) is not None:
+            if due := once.due():
+                with contextlib.suppress(Busy):
+                    await self.acts.withdraw(due)
+                if any(once.notes[it].number is None for it in due if it in once.notes):
+                    self.books.wants_export = True
+            await asyncio.sleep(WITHDRAW_EVERY)
 
     async def _look_for_another(self) -> None:
         """A service that answers at its office, and gives no value for so long, serves another one's terminal."""

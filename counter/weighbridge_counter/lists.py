@@ -3,6 +3,7 @@
 import collections
 import datetime
 import zoneinfo
+from collections.abc import Callable, Set
 from typing import Any
 
 from weighbridge_paper.export import Row, rows_of
@@ -11,6 +12,7 @@ from weighbridge_paper.text import Text
 from .given import Given, Lines
 from .journal import Known
 from .near import Near
+from .once import is_own_void
 from .slips import Entry, entry_of_row, entry_of_text, slip_of_row
 
 MOST_TEXTS = 2000  # that are kept as they passed
@@ -25,6 +27,9 @@ class Lists:
         self.rows: dict[int, Row] = {}  # of the export, for a slip again
         self.texts: dict[int, Text] = {}  # as they passed
         self.places: dict[int, int] = {}  # of each text among all that passed
+        self.keys: dict[int, str] = {}  # of the texts that passed
+        self.closed: dict[int, int] = {}  # by a First: the entry that closed it
+        self.once: Callable[[], Set[int]] = frozenset  # the Firsts of vehicles that are weighed once
         self.first: int | None = None  # the first number of the export that they are made of
         self.is_of_export = False
         self.open: dict[str, int] = {}  # the number of the open First of a plate
@@ -73,6 +78,7 @@ class Lists:
         for number, text in older.texts.items():
             if number in self.rows and self.rows[number].digest == text.own.digest:
                 self.texts[number], self.places[number] = text, older.places[number]
+                self.keys[number] = older.keys[number]
 
     def passed_since(self, place: int) -> list[tuple[int, Text]]:
         """Return the texts that passed after a place, each with its own place, in the order in which they passed."""
@@ -93,13 +99,14 @@ class Lists:
             return number <= next(reversed(self.rows), 0)
         return self.digest_of(number) != text.own.digest
 
-    def passed(self, text: Text, place: int = 0) -> tuple[Entry, bool]:
-        """Takes a text that the office answered with 201. Gives its entry, and whether it is new here."""
+    def passed(self, text: Text, place: int = 0, key: str = "") -> tuple[Entry, bool]:
+        """Takes a text that the office answered with 201, and the key of its request. Gives its entry, and whether it is new here."""
         entry = entry_of_text(text)
         self.texts[entry.number], self.places[entry.number] = text, place
+        self.keys[entry.number] = key
         while len(self.texts) > MOST_TEXTS:
             oldest = next(iter(self.texts))
-            del self.texts[oldest], self.places[oldest]
+            del self.texts[oldest], self.places[oldest], self.keys[oldest]
         if entry.number in self.entries:
             return entry, False
         if entry.number != self.last + 1:
@@ -121,7 +128,7 @@ class Lists:
             first = self.open.pop(entry.plate, None)
             first = entry.first if entry.first is not None else first
             if first is not None:
-                self.partner[entry.number] = first
+                self.partner[entry.number], self.closed[first] = first, entry.number
             if entry.kind == "second" and first in self.entries:
                 self.empty[entry.plate] = self._lighter(first, entry.number)
 
@@ -142,6 +149,22 @@ class Lists:
         if number in self.texts:
             return self.texts[number].own.digest
         return self.rows[number].digest if number in self.rows else None
+
+    def open_first(self, plate: str) -> int | None:
+        return self.open.get(plate)
+
+    def key_of(self, number: int) -> str:
+        return self.rows[number].key if number in self.rows else self.keys.get(number, "")
+
+    def number_of_key(self, key: str) -> int | None:
+        """Return the number of the entry with a key, as the export and the texts since have it."""
+        passed = (number for number, it in self.keys.items() if it == key)
+        return next(passed, next((it for it, row in self.rows.items() if row.key == key), None))
+
+    def is_once(self, number: int) -> bool:
+        """Return whether an entry is the First of a vehicle that is weighed once, or its Void."""
+        void = number if self.entries[number].kind == "void" else self.closed.get(number, 0)
+        return number in self.once() or is_own_void(self.key_of(void))
 
     # ---- what is shown
 
@@ -175,10 +198,15 @@ class Lists:
             "net": self.net_of(number),
             "first": self.partner.get(number),
             "given": dict(self.given.of(self.digest_of(number))),
+            "once": self.is_once(number),
         }
 
     def on_site(self) -> list[dict[str, Any]]:
-        return [self.shown(number) for number in sorted(self.open.values(), reverse=True)]
+        return [self.shown(number) for number in sorted(self.there(), reverse=True)]
+
+    def there(self) -> set[int]:
+        """Return the Firsts of the vehicles on site."""
+        return set(self.open.values()) - self.once()
 
     def last_given(self, plate: str) -> Lines:
         """Return what was given for the newest entry of a plate for which something was."""

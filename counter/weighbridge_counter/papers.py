@@ -8,7 +8,7 @@ from collections.abc import Callable, Mapping
 from concurrent.futures import ThreadPoolExecutor
 from typing import Any, TypeVar
 
-from weighbridge_paper.layout import WITHDRAWS, Paper, Template, blocks_of
+from weighbridge_paper.layout import ONCE, WITHDRAWS, Paper, Template, blocks_of
 from weighbridge_paper.page import page_of
 from weighbridge_paper.printers import Papers
 from weighbridge_paper.printing import Worker
@@ -18,6 +18,7 @@ from weighbridge_paper.words import LANGUAGES
 
 from .files import tell
 from .given import Given, Lines, changed, lines_in
+from .once import is_own_void
 from .setup import Setup
 
 TRY_EVERY = 1.0  # seconds
@@ -202,17 +203,22 @@ class Printing:
             self.on_change()
             return
         # at once, so that the lists, which get the text next, show it
-        task = asyncio.ensure_future(self._take(text, self.given.take(text, asked)))
+        once = ((ONCE, "1"),) if "once" in asked else ()
+        is_quiet = text.own.kind == "void" and is_own_void(asked.get("key", ""))
+        lines = self.given.take(text, asked)
+        task = asyncio.ensure_future(self._take(text, lines, once, is_quiet))
         self.tasks.add(task)
         task.add_done_callback(self.tasks.discard)
 
-    async def _take(self, text: Text, lines: Lines) -> None:
-        given = (*lines.items(), *self._first_of_void(text))
+    async def _take(
+        self, text: Text, lines: Lines, once: tuple[tuple[str, str], ...], is_quiet: bool
+    ) -> None:
+        given = (*lines.items(), *once, *self._first_of_void(text))
 
         def note() -> None:
             is_new = not self.spool.is_known(text)
             paper = self.spool.take(text, given)
-            if is_new and self.papers.by_itself is not None:
+            if is_new and self.papers.by_itself is not None and not is_quiet:
                 self.spool.put(paper, self.papers.by_itself)
 
         with contextlib.suppress(OSError):

@@ -57,6 +57,7 @@ class Setup:
     max: int = 60000
     wait: int = 20
     tare_days: int = 90
+    once: bool = False  # whether a vehicle may be weighed once
     hosts: tuple[str, ...] = ()
     languages: dict[str, str] = field(default_factory=dict)  # the name of each, in itself
     ports: tuple[Port, ...] = field(default=())
@@ -126,6 +127,7 @@ def read_setup(path: Path, web: Path) -> Setup:
         max=reader.number("max", 60000, 500, 500000),
         wait=reader.number("wait", 20, 1, 600),
         tare_days=reader.number("tare_days", 90, 1, 3660),
+        once=reader.flag("once", False),
         hosts=reader.texts(
             "hosts", 'write the names that browsers ask for, as ["weighbridge.example"]'
         ),

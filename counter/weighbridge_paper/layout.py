@@ -11,6 +11,7 @@ from .text import DEMO, Text, Weighing
 
 LONGEST_GIVEN = 60  # characters of a free line
 WITHDRAWS = "withdraws"  # the name under which a Void has the number of its First
+ONCE = "once"  # the name under which a First says that no second weighing follows
 MOST_MARKS = 2  # accents and the like on one letter
 CONTINUES = ">"  # stands before what goes on the line above; no legal text has it
 
@@ -77,7 +78,7 @@ class Paper:
     """What is printed: a text, what the clerk gave with it, and whether it is the original."""
 
     text: Text
-    # name and value, of words.FREE_LINES; with a Void also WITHDRAWS and the number of its First
+    # name and value, of words.FREE_LINES; also WITHDRAWS and the number of its First with a Void, and ONCE with a First
     given: tuple[tuple[str, str], ...] = ()
     is_original: bool = True
 
@@ -100,10 +101,10 @@ def blocks_of(paper: Paper, template: Template) -> list[Block]:
     if text.own.serial == DEMO:
         made.append(Line(words.word("demo", language), "bold", True))
     made += [Line(it, "plain" if at else "bold", True) for at, it in enumerate(template.header)]
-    made += [Rule(), *headline(text, dict(paper.given).get(WITHDRAWS), language)]
+    made += [Rule(), *headline(text, dict(paper.given), language)]
     for it in text.weighings:
         made += [Rule(), *weighing(it, template)]
-    by_clerk = [(name, value) for name, value in paper.given if name != WITHDRAWS]
+    by_clerk = [(name, value) for name, value in paper.given if name in words.FREE_LINES]
     if by_clerk:
         made.append(Rule(words.word("given_by_clerk", language)))
         made += [Pair(words.word(name, language), value) for name, value in by_clerk]
@@ -116,11 +117,16 @@ def blocks_of(paper: Paper, template: Template) -> list[Block]:
     return made + marks
 
 
-def headline(text: Text, withdraws: str | None, language: str) -> list[Block]:
-    """Return the kind and number, the plate and the net. A Void's text doesn't name its First, so `withdraws` does, if the counter knows it."""
+def headline(text: Text, given: Mapping[str, str], language: str) -> list[Block]:
+    """Return the kind and number, the plate and the net.
+
+    A Void's text doesn't name its First, and that of a First doesn't say that no second weighing follows. So `given` does, if the counter knows it.
+    """
     own, kind = text.own, "ticket" if text.is_ticket else "slip"
+    withdraws = given.get(WITHDRAWS)
     made: list[Block] = [
         Line(f"{words.word(kind, language)} {own.number}", "title"),
+        *([Line(words.word("weighed_once", language), "bold")] if ONCE in given else []),
         Line(words.word("plate", language), "small"),
         Line(text.plate, "large"),
     ]

@@ -15,6 +15,7 @@ from pathlib import Path
 
 from .layout import Paper
 from .text import NoText, Text, read_text
+from .words import FREE_LINES
 
 MOST_TRIES = 3  # that were cut in the middle; then somebody has to press
 KEPT_DAYS = 60  # that a job which came to its end is listed
@@ -131,9 +132,13 @@ class Spool:
     def give(
         self, paper: int, given: tuple[tuple[str, str], ...], is_printed_too: bool = False
     ) -> bool:
-        """Change what the clerk gave. Return False if the original was printed and `is_printed_too` is false: nothing is changed then."""
+        """Change the free lines. Return False if the original was printed and `is_printed_too` is false: nothing is changed then."""
         with self._open() as database:
-            words = (json.dumps(given), paper, is_printed_too)
+            (before,) = database.execute(
+                "SELECT given FROM paper WHERE id = ?", (paper,)
+            ).fetchone()
+            others = (it for it in given_in(before) if it[0] not in FREE_LINES)
+            words = (json.dumps((*given, *others)), paper, is_printed_too)
             return (
                 database.execute(
                     "UPDATE paper SET given = ? WHERE id = ? AND (? OR NOT is_spent)", words
