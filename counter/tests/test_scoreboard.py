@@ -178,7 +178,9 @@ class TheSetup(unittest.TestCase):
     def read(self, *tables):
         with tempfile.TemporaryDirectory() as folder:
             path = Path(folder) / "counter.toml"
-            path.write_text(f'state = "{folder}"\n' + "".join(f"[[scoreboard]]\n{it}\n" for it in tables))
+            path.write_text(
+                f'state = "{folder}"\n' + "".join(f"[[scoreboard]]\n{it}\n" for it in tables)
+            )
             return read_setup(path, WEB).boards
 
     def test_a_board_by_tcp_and_one_by_a_line(self):

@@ -187,7 +187,11 @@ class Acts:
                 with contextlib.suppress(NoText):
                     own = read_text(told.body.decode("utf-8", "replace")).own
                     self.once.stored(key, own.number, own.digest)
-            elif told is not NO_ANSWER and told.status < 500 and not told.body.startswith(MAY_BE_STORED):
+            elif (
+                told is not NO_ANSWER
+                and told.status < 500
+                and not told.body.startswith(MAY_BE_STORED)
+            ):
                 self.once.forget(key)
             return told
 

@@ -103,9 +103,7 @@ class Counter:
         if self.once is not None:
             once = self.once
             self.books.once = self.books.lists.once = once.numbers
-            self.acts.step_of = lambda key: once.step(
-                key, self.books.lists, self.books.is_certain
-            )
+            self.acts.step_of = lambda key: once.step(key, self.books.lists, self.books.is_certain)
 
     async def run(self) -> None:
         await asyncio.gather(

@@ -29,7 +29,9 @@ class Lists:
         self.places: dict[int, int] = {}  # of each text among all that passed
         self.keys: dict[int, str] = {}  # of the texts that passed
         self.closed: dict[int, int] = {}  # by a First: the entry that closed it
-        self.once: Callable[[], Set[int]] = frozenset  # the Firsts of vehicles that are weighed once
+        self.once: Callable[
+            [], Set[int]
+        ] = frozenset  # the Firsts of vehicles that are weighed once
         self.first: int | None = None  # the first number of the export that they are made of
         self.is_of_export = False
         self.open: dict[str, int] = {}  # the number of the open First of a plate
