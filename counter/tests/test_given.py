@@ -3,6 +3,7 @@
 import json
 import unittest
 import zoneinfo
+from dataclasses import replace
 from types import SimpleNamespace
 from unittest import mock
 
@@ -10,10 +11,12 @@ from aiohttp.test_utils import make_mocked_request
 from weighbridge_counter.given import Given, changed
 from weighbridge_counter.lists import Lists
 from weighbridge_counter.routes import Routes
+from weighbridge_paper.printers import Printer
+from weighbridge_paper.printing import unprintable
 from weighbridge_paper.text import read_text
 
 from .papers import USUAL, Sample
-from .test_counter_papers import first_of
+from .test_counter_papers import TEMPLATE, first_of
 from .test_lists import ROW, export
 
 UTC = zoneinfo.ZoneInfo("UTC")
@@ -81,8 +84,26 @@ class InTheLists(unittest.TestCase):
         self.assertEqual({}, self.lists.last_given("XX-99"))
 
 
+class TheLetters(unittest.TestCase):
+    def test_letters_that_a_printer_can_not_print_are_named(self):
+        roll = Printer(
+            "yard", "tcp", "127.0.0.1", "9100", "escpos80", TEMPLATE, 48, (("cp858", 19),), True
+        )
+        sheet = replace(roll, name="office", form="a5")
+        for text, on_roll, on_sheet in (
+            ("Kies 0/32, 5 €?", "", ""),
+            ("Łódź “Süd”", "", ""),
+            ("漢字 漢", "漢字", "漢字"),
+            ("Жито", "Жито", ""),
+        ):
+            self.assertEqual(on_roll, unprintable(text, (roll,)), text)
+            self.assertEqual(on_sheet, unprintable(text, (sheet,)), text)
+            self.assertEqual(on_roll, unprintable(text, (sheet, roll)), text)
+            self.assertEqual("", unprintable(text, ()), "a browser prints")
+
+
 class TheRoute(unittest.IsolatedAsyncioTestCase):
-    async def asked(self, body, kind="single", lines=None):
+    async def asked(self, body, kind="single", lines=None, letters=""):
         text = USUAL[kind].text
         lists = SimpleNamespace(
             texts={2: SimpleNamespace(letters=text)}, entries={2: SimpleNamespace(kind=kind)}
@@ -91,6 +112,7 @@ class TheRoute(unittest.IsolatedAsyncioTestCase):
             setup=SimpleNamespace(listen=("127.0.0.1", 1), hosts=()),
             books=SimpleNamespace(lists=lists),
             give=mock.AsyncMock(return_value=lines),
+            printing=SimpleNamespace(unprintable=lambda fields: letters),
         )
         request = make_mocked_request("PUT", "/entries/2/given", match_info={"number": "2"})
         request._read_bytes = body
@@ -110,6 +132,10 @@ class TheRoute(unittest.IsolatedAsyncioTestCase):
         self.assertEqual((409, {"why": "printed"}), (await self.asked(b"{}"))[:2])
         status, said, calls = await self.asked(b"{}", "void", {})
         self.assertEqual((409, {"why": "void"}, []), (status, said, calls))
+
+    async def test_letters_that_can_not_be_printed_are_refused(self):
+        status, said, calls = await self.asked(b'{"goods": "x"}', lines={}, letters="x")
+        self.assertEqual((422, {"why": "unprintable", "letters": "x"}, []), (status, said, calls))
 
     async def test_what_is_no_line_is_refused(self):
         for body in (b"", b"[]", b'"goods"', b'{"goods": 7}', b'{"plate": "AB-12"}', b"[" * 2000):

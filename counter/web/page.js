@@ -222,12 +222,26 @@ function showDeafness() {
 // Free lines for the paper of this vehicle.
 function askGiven() {
   if (!clerk.isGivenTyped) fillGiven(givenOf(choiceOf(nowKnown())), false);
+  part('giving-why').textContent = '';
   part('giving').showModal();
 }
 
 function fillGiven(given, isTyped) {
   for (const it of GIVEN) part(it).value = given[it] ?? '';
   clerk.isGivenTyped = isTyped;
+}
+
+// Letters that a printer would print as a question mark or as an empty box. Without an answer nothing is said.
+async function unprintable(given) {
+  const answer = await askJson('GET', `/printable?${new URLSearchParams(given)}`);
+  return answer?.status === 200 ? answer.unprintable : '';
+}
+
+async function useGiven(event) {
+  event.preventDefault();
+  const letters = await unprintable(givenTyped());
+  part('giving-why').textContent = letters ? t('lines_unprintable', { letters }) : '';
+  if (!letters) part('giving').close();
 }
 
 const clearGiven = () => fillGiven({}, false);
@@ -240,9 +254,9 @@ function giveAsBefore() {
 
 // Free lines of a weighing that is stored already.
 async function giveLater(entry, given) {
-  const answer = await ask('PUT', `/entries/${entry.number}/given`, JSON.stringify(given));
+  const answer = await askJson('PUT', `/entries/${entry.number}/given`, JSON.stringify(given));
   if (answer?.status === 200) tell('ok', 'lines_saved');
-  return answer?.status ?? 0;
+  return answer ?? {};
 }
 
 // What the clerk typed for one vehicle.
@@ -452,6 +466,7 @@ function listenToHands() {
   part('clear').addEventListener('click', clearPlate);
   part('weigh').addEventListener('submit', press);
   part('tare-form').addEventListener('submit', useTare);
+  part('giving-form').addEventListener('submit', useGiven);
   for (const it of GIVEN) part(it).addEventListener('input', () => { clerk.isGivenTyped = true; });
   part('zero').addEventListener('click', setZero);
   part('last').addEventListener('click', printLast);

@@ -55,14 +55,14 @@ export async function openEntry(entry, printers, press, isOpenFirst, withdraw, g
   part('entry').showModal();
 }
 
-// Free lines of a weighing that is stored. `give` returns the status of the answer.
+// Free lines of a weighing that is stored. `give` returns the answer.
 function openGiven(entry, give) {
   const fields = GIVEN.map(name => [name, make('input', { className: 'free', maxLength: 60, value: entry.given[name] ?? '' })]);
   const why = make('p', { role: 'alert' });
   const save = button(t('save_lines'), async () => {
-    const given = Object.fromEntries(fields.map(([name, field]) => [name, field.value.trim()])), status = await give(entry, given);
+    const given = Object.fromEntries(fields.map(([name, field]) => [name, field.value.trim()])), { status, letters } = await give(entry, given);
     if (status === 200) part('changing').close();
-    else why.textContent = t(status === 409 ? 'lines_printed' : 'lines_not_saved');
+    else why.textContent = letters ? t('lines_unprintable', { letters }) : t(status === 409 ? 'lines_printed' : 'lines_not_saved');
   });
   part('changing-title').textContent = `${t('given_lines')}: ${paperOf(entry)} ${entry.number} · ${entry.plate}`;
   part('changing-lines').replaceChildren(...fields.map(([name, field]) => make('label', {}, t(name), ' ', field)), why, make('div', { className: 'row' }, save, button(t('close'), () => part('changing').close())));

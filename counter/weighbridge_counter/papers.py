@@ -8,10 +8,10 @@ from collections.abc import Callable, Mapping
 from concurrent.futures import ThreadPoolExecutor
 from typing import Any, TypeVar
 
-from weighbridge_paper.layout import ONCE, WITHDRAWS, Paper, Template, blocks_of
+from weighbridge_paper.layout import ONCE, WITHDRAWS, Paper, Template, blocks_of, given_of
 from weighbridge_paper.page import page_of
 from weighbridge_paper.printers import Papers
-from weighbridge_paper.printing import Worker
+from weighbridge_paper.printing import Worker, unprintable
 from weighbridge_paper.spool import Job, Spool
 from weighbridge_paper.text import ZEROS, NoText, Text, check_digests, read_text
 from weighbridge_paper.words import LANGUAGES
@@ -269,6 +269,11 @@ class Printing:
             }
 
         return await self._noted(note)
+
+    def unprintable(self, fields: Mapping[str, str]) -> str:
+        """Return the letters of free lines that a printer can't print. Without a printer a browser prints, which has its own fonts."""
+        lines = "".join(value for _, value in given_of(fields))
+        return unprintable(lines, self.papers.printers)
 
     async def give(
         self, letters: str, fields: Mapping[str, str], is_printed_too: bool

@@ -95,6 +95,7 @@ class Routes:
                 web.post(r"/papers/{number:[1-9]\d{0,9}}/browser", self.paper_for_browser),
                 web.post(r"/jobs/{job:[1-9]\d{0,9}}/again", self.print_again),
                 web.delete(r"/jobs/{job:[1-9]\d{0,9}}", self.drop_job),
+                web.get("/printable", self.printable),
                 web.get("/search", self.search),
                 web.get("/today", self.today),
                 web.get("/today.csv", self.today_as_table),
@@ -300,6 +301,8 @@ class Routes:
                 raise ValueError
         except (ValueError, TypeError, RecursionError):
             return as_json({"why": f"send texts, by the names {', '.join(FREE_LINES)}"}, 422)
+        if letters := self.counter.printing.unprintable(fields):
+            return as_json({"why": "unprintable", "letters": letters}, 422)
         found, status = await self.text_to_print(number)
         if status != 200:
             return as_json(found, status)
@@ -353,6 +356,10 @@ class Routes:
             )
         except NoText:
             return as_json({"why": "refused 17 damaged"}, 409)
+
+    async def printable(self, request: web.Request) -> web.StreamResponse:
+        """Answer with the letters of goods, order and driver that a printer can't print."""
+        return as_json({"unprintable": self.counter.printing.unprintable(request.query)})
 
     async def print_again(self, request: web.Request) -> web.StreamResponse:
         return as_json(

@@ -89,6 +89,10 @@ class Letters:
         alike = ALIKE.get(letter, bare if bare != letter else "")
         return self.plain(alike) if alike else "?"
 
+    def lacks(self, letter: str) -> bool:
+        """Return whether a question mark would stand for a letter."""
+        return letter != "?" and "?" in self._alike(letter)
+
     def of(self, text: str) -> bytes:
         return b"".join(self._letter(it) for it in self.plain(text))
 

@@ -26,6 +26,12 @@ def load_fonts() -> None:
         pdfmetrics.registerFont(TTFont(name, str(FONTS / file)))
 
 
+def lacks(letter: str) -> bool:
+    """Return whether an empty box would stand for a letter."""
+    load_fonts()
+    return ord(letter) not in pdfmetrics.getFont(PLAIN).face.charToGlyph
+
+
 def width_of(text: str, font: str, size: float) -> float:
     return float(pdfmetrics.stringWidth(text, font, size))
 

@@ -1,12 +1,12 @@
 """Prints what waits for a printer, one paper after another."""
 
-from collections.abc import Callable
+from collections.abc import Callable, Iterable
 from pathlib import Path
 from typing import TYPE_CHECKING
 
 from . import layout, words
 from .devices import GiveUp, Queue, Trouble, put_in_folder, wire_to
-from .escpos import Roll
+from .escpos import Letters, Roll
 from .forms import FORMS
 from .printers import Printer
 from .spool import Job, Spool
@@ -23,6 +23,21 @@ def data_of(paper: layout.Paper, printer: Printer) -> bytes:
     from .pdf import Sheet  # reportlab is large, and a printer for ESC/POS needs none
 
     return Sheet(FORMS[printer.form]).pdf_of(blocks, about(paper, printer.template))
+
+
+def unprintable(text: str, printers: Iterable[Printer]) -> str:
+    """Return the letters of a text that one of the printers can't print, each once."""
+    return "".join(
+        it for it in dict.fromkeys(text) if any(lacks(it, printer) for printer in printers)
+    )
+
+
+def lacks(letter: str, printer: Printer) -> bool:
+    if printer.is_escpos:
+        return Letters(printer.pages).lacks(letter)
+    from . import pdf
+
+    return pdf.lacks(letter)
 
 
 def about(paper: layout.Paper, template: layout.Template) -> "About":
