@@ -33,6 +33,7 @@ ASKED = [
     ("The bridge was not empty", "off and on"),
     ("Let it drive off", "drive off"),
     ("may drive off", "drive off"),
+    ("The page had no weight for a while", "wait"),
     ("Type the plate", "type"),
     ("Is it this one?", "look"),
     ("Is it one of them?", "look"),
