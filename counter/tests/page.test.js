@@ -96,6 +96,14 @@ test('the page asks about a small net, even one of zero', () => {
   assert.equal(step(now({ plate: 'RA-KM-1236', onSite: [first('RA-KM-1236', 9400)] })).word, 'ready');
 });
 
+test('a vehicle that is weighed once is no other kind of weighing, and a press for one is none for the other', () => {
+  const once = now({ isOnce: true });
+  assert.deepEqual([choiceOf(once).kind, choiceOf(once).isOnce, choiceOf(now()).isOnce], ['first', true, undefined]);
+  assert.ok(step(once).isReady);
+  assert.notEqual(subjectOf('A', choiceOf(once)), subjectOf('A', choiceOf(now())));
+  for (const more of [{ oneTare: 5000 }, { onSite: [first('HB-X-1')] }]) assert.equal(choiceOf(now({ isOnce: true, ...more })).isOnce, undefined);
+});
+
 test('an answer about a small net holds for this weighing alone', () => {
   const onSite = number => [{ ...first('HB-X-1', 9020), number }], one = step(now({ onSite: onSite(1) })).answers[0];
   assert.ok(step(now({ onSite: onSite(1), answered: { small_net: one.subject } })).isReady);
