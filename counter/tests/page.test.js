@@ -3,10 +3,10 @@
 import assert from 'node:assert/strict';
 import { readFileSync } from 'node:fs';
 import { test } from 'node:test';
-import { ARMED_FOR, Arming, READY_FOR, subjectOf } from './web/arming.js';
-import { alike, choiceOf, demoOf, doubtOf, isFalseDemo, plateOf, PlateOfLoad, roundedTare, step } from './web/guide.js';
-import { ALL_KEYS, ANSWER_KEYS, DEAF_FOR, Deafness, HAMMERED_WITHIN, PAGE_KEYS, deedOf } from './web/hands.js';
-import { send } from './web/request.js';
+import { ARMED_FOR, Arming, READY_FOR, subjectOf } from '../web/arming.js';
+import { alike, choiceOf, demoOf, doubtOf, isFalseDemo, plateOf, PlateOfLoad, roundedTare, step } from '../web/guide.js';
+import { ALL_KEYS, ANSWER_KEYS, DEAF_FOR, Deafness, HAMMERED_WITHIN, PAGE_KEYS, deedOf } from '../web/hands.js';
+import { send } from '../web/request.js';
 
 const first = (plate, gross = 18340) => ({ plate, gross, at: '2026-03-10T08:00:00Z', number: 1 });
 const plates = (typed, onSite, weighedNear = []) => alike(typed, onSite.map(it => first(it)), weighedNear).map(it => it.plate);
@@ -458,6 +458,7 @@ test('a tare is shown and used as the scale rounds it', () => {
   for (const [kg, interval, wanted] of [[5000, 20, 5000], [5009, 20, 5000], [5010, 20, 5020], [9, 20, 0], [10, 20, 20], [7, 5, 5], [8, 5, 10], [3, 1, 3], [24, 50, 0], [25, 50, 50]]) assert.equal(roundedTare(kg, interval), wanted, `${kg} ${interval}`);
   assert.equal(choiceOf(now({ tares: { 'HB-X-1': kept(1451) } })).tare, 1460);
   assert.equal(choiceOf(now({ oneTare: 1451 })).tare, 1460);
+  assert.equal(choiceOf(now({ tares: { 'HB-X-1': kept(5000, { is_over: true }) } })).kind, 'first', 'one that has expired');
 });
 
 test('a kept tare of a plate with other hyphens is offered, and never taken', () => {
@@ -485,6 +486,10 @@ test('a tare below a fifth of the gross is doubted, and one that differs by a tw
     [1460, 9000, null, 'small_tare'], [1800, 9000, null, undefined], [1780, 9000, null, 'small_tare'], [5000, 9000, 5000, undefined], [5000, 9000, 5260, undefined], [5000, 9000, 5280, 'other_tare'],
     [5260, 9000, 5000, 'other_tare'], [5240, 9000, 5000, undefined], [1460, null, null, undefined], [1460, null, 14460, 'other_tare'], [1460, 9000, 14460, 'small_tare'],
   ]) assert.equal(doubtOf(tare, gross, empty)?.word, word, `${tare} ${gross} ${empty}`);
+});
+
+test('a tare of the gross or more is no tare', () => {
+  for (const [oneTare, word] of [[9000, 'tare_too_great'], [9500, 'tare_too_great'], [8600, 'ready']]) assert.equal(step(now({ oneTare })).word, word, `${oneTare}`);
 });
 
 test('a doubted tare is weighed with only once its own key was pressed', () => {
@@ -528,7 +533,7 @@ async function wordsOf(catalogues, asks) {
     const found = catalogues[/(\w+)\.json$/.exec(path)[1]];
     return { ok: found !== undefined, json: async () => typeof found === 'string' ? JSON.parse(found) : found };
   };
-  return import(`./web/words.js?${asks}`);
+  return import(`../web/words.js?${asks}`);
 }
 
 test('a number chooses the form of its noun, as the language does', async () => {
@@ -595,7 +600,7 @@ test('without English the page waits', async () => {
 });
 
 test('one of each thing that is counted has no plural in any language', async () => {
-  const read = name => JSON.parse(readFileSync(new URL(`./web/lang/${name}.json`, import.meta.url)));
+  const read = name => JSON.parse(readFileSync(new URL(`../web/lang/${name}.json`, import.meta.url)));
   const { speak, t } = await wordsOf(Object.fromEntries(['en', 'de', 'fr', 'es'].map(it => [it, read(it)])), 'shipped');
   for (const [language, one, many] of [
     ['en', '1 ticket', '2 tickets'], ['de', '1 Wiegeschein', '2 Wiegescheine'], ['fr', '1 ticket', '2 tickets'], ['es', '1 tique', '2 tiques'],
