@@ -115,6 +115,19 @@ class Passing(WithABridge):
             )
             self.assertEqual([("Kies 0/16", "Ł", "K1")], seen)
 
+    async def test_a_list_that_fails_keeps_no_answer_and_no_other_list(self):
+        bridge, after = self.bridge((201, TICKET)), []
+
+        def fails(text, asked):
+            raise ValueError("x" * 1000)
+
+        bridge.acts.on_text = [fails, lambda text, asked: after.append(text)]
+        with contextlib.redirect_stderr(io.StringIO()) as said:
+            told = await self.weigh(bridge, b"key=K1&kind=first&plate=AB-12")
+        self.assertEqual((201, TICKET.encode()), (told.status, told.body))
+        self.assertEqual([TICKET], after)
+        self.assertEqual(1, said.getvalue().count("\n"))
+
     async def test_no_answer_is_told_as_none_and_as_sent(self):
         told = await self.weigh(self.bridge(None), b"key=K1&kind=first&plate=AB-12")
         self.assertEqual((502, True), (told.status, told.is_sent))

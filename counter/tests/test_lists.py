@@ -156,6 +156,18 @@ class TheLists(unittest.TestCase):
         lists.passed(slip(4, "FIRST", "RA-KM-1236"))
         self.assertEqual([], lists.near.shown())
 
+    def test_what_a_void_withdraws_is_named_only_while_nothing_is_missing(self):
+        lists = Lists.of_export(BERLIN, export(ROW))
+        lists.passed(slip(2, "VOID", "AB-12", None))
+        self.assertEqual([1, None], [lists.first_of(2), lists.first_of(3)])
+        lists.passed(slip(4, "FIRST", "AB-12"))
+        lists.passed(slip(5, "VOID", "AB-12", None))
+        self.assertEqual([None, None], [lists.first_of(2), lists.first_of(5)], "3 is missing")
+        lists = Lists(BERLIN)
+        lists.passed(slip(1, "FIRST", "AB-12"))
+        lists.passed(slip(2, "VOID", "AB-12", None))
+        self.assertIsNone(lists.first_of(2), "there was no export")
+
     def test_a_number_between_is_missed(self):
         lists = Lists.of_export(BERLIN, export(ROW))
         lists.passed(slip(3, "FIRST", "EF-56"))

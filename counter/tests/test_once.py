@@ -144,6 +144,8 @@ class AtTheCounter(unittest.IsolatedAsyncioTestCase):
             self.assertEqual(502, (await self.weigh(**FIRST))[0])
             self.assertEqual(["AB-12"], self.noted(), "it may be stored")
             self.day += datetime.timedelta(1)
+            await self.acts.withdraw(self.once.due())
+            self.assertEqual(["AB-12"], self.noted(), "the counter doesn't know yet")
             self.read_anew()
             self.office.fails = [lost]
             await self.acts.withdraw(self.once.due())
@@ -183,6 +185,21 @@ class AtTheCounter(unittest.IsolatedAsyncioTestCase):
         self.read_anew()
         await self.acts.withdraw(self.once.due())
         self.assertEqual(["first", "void", "first"], self.office.kinds())
+        self.assertEqual({}, self.once.notes)
+
+    async def test_another_journal_s_weighing_is_never_withdrawn(self):
+        self.start()
+        self.read_anew()
+        await self.weigh(**FIRST)
+        self.office = Office()
+        form = {"key": "other-1", "kind": "first", "plate": "AB-12"}
+        await self.office.ask("POST", "/weighings", urllib.parse.urlencode(form).encode())
+        self.start()
+        self.day += datetime.timedelta(1)
+        self.at += 1
+        self.read_anew()
+        await self.acts.withdraw(self.once.due())
+        self.assertEqual(["first"], self.office.kinds(), "of the same number and plate")
         self.assertEqual({}, self.once.notes)
 
     async def test_without_a_note_on_the_disk_nothing_is_sent(self):
