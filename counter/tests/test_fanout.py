@@ -76,6 +76,17 @@ class Sending(unittest.TestCase):
         played.reading(1)
         self.assertEqual("answered", asker.outcome)
 
+    def test_a_command_that_waited_over_a_standstill_never_goes_out(self):
+        played = PlayedTerminal()
+        played.connect()
+        asker = Asker(played.fanout, "Z")
+        played.clock.now += 60  # without a tick, because the program stood still
+        played.fanout.received(played.value())
+        played.fanout.settle()
+        self.assertEqual(["SIR"], played.sent)
+        played.pass_time(0.1)
+        self.assertEqual("not_sent", asker.outcome)
+
     def test_who_settles_a_new_connection_asks_before_the_others(self):
         played = PlayedTerminal()
         played.connect()

@@ -479,7 +479,8 @@ class ThePaperAfterAPurge(unittest.IsolatedAsyncioTestCase):
                 lambda number: before,
             )
             printing.on_unlinked = lambda: missed.append(True)
-            await printing._take(text, {"key": key})
+            printing.passed(text, {"key": key})
+            await asyncio.gather(*printing.tasks)
             printing.notes.shutdown()
         return printing.refused is None, bool(missed)
 

@@ -72,6 +72,7 @@ class AtTheCounter(unittest.IsolatedAsyncioTestCase):
     def setUp(self):
         folder = tempfile.TemporaryDirectory()
         self.addCleanup(folder.cleanup)
+        self.told = []  # the vehicles on site at each entry
         self.folder, self.office, self.day, self.at = (
             Path(folder.name),
             Office(),
@@ -88,7 +89,10 @@ class AtTheCounter(unittest.IsolatedAsyncioTestCase):
         self.once = Once(self.files, lambda: self.day, lambda: self.at)
         self.acts = Acts(terminal, self.office, self.files, 20, Counter(), self.once)
         self.books = Books(self.office, UTC, Counter())
-        self.books.once = self.books.lists.once = self.once.numbers
+        self.books.once = self.books.lists.once = self.once.keys
+        self.books.on_entry = lambda entry: self.told.append(
+            [it["number"] for it in self.books.lists.on_site()]
+        )
         self.acts.on_text.append(self.books.passed)
         self.acts.step_of = lambda key: self.once.step(key, self.books.lists, self.books.is_certain)
 
@@ -110,7 +114,7 @@ class AtTheCounter(unittest.IsolatedAsyncioTestCase):
         self.read_anew()
         self.assertEqual(201, (await self.weigh(**FIRST))[0])
         self.assertEqual(["AB-12"], self.noted())
-        self.assertEqual([], self.books.lists.on_site())
+        self.assertEqual(([], [[]]), (self.books.lists.on_site(), self.told))
         self.assertTrue(self.books.lists.shown(1)["once"])
         self.assertEqual(201, (await self.weigh(key="till-1", kind="first", plate="AB-12"))[0])
         self.assertEqual(["first", "void", "first"], self.office.kinds())

@@ -13,6 +13,7 @@ from pathlib import Path
 from types import SimpleNamespace
 from unittest import mock
 
+from aiohttp import web
 from aiohttp.test_utils import make_mocked_request
 from weighbridge_counter.books import REST, Books
 from weighbridge_counter.office import Answer, NoAnswer, Office
@@ -50,17 +51,18 @@ class ManyAskers(unittest.IsolatedAsyncioTestCase):
         self.assertEqual((40, MOST_ASKING), (office.all, office.most))
 
     async def test_many_searches_hold_up_no_value(self):
-        lists = SimpleNamespace(search=lambda words: time.sleep(0.005) or ([], 0))
+        done = []
+        lists = SimpleNamespace(search=lambda words: done.append(words) or ([], 0))
         routes = routes_over(SlowOffice())
         routes.counter.books = SimpleNamespace(lists=lists, is_whole=lambda: True)
         searches = asyncio.gather(
             *(routes.search(make_mocked_request("GET", f"/search?q={it}")) for it in range(60))
         )
-        longest, before = 0.0, time.monotonic()
+        most = before = 0
         while not searches.done():
             await asyncio.sleep(0)
-            longest, before = max(longest, time.monotonic() - before), time.monotonic()
-        self.assertLess(longest, 0.1)
+            most, before = max(most, len(done) - before), len(done)
+        self.assertEqual((60, 1), (len(done), most), "between two looks at what came")
 
     async def test_one_export_is_for_all_who_wait_and_none_comes_upon_the_other(self):
         office = SlowOffice()
@@ -175,6 +177,26 @@ class AtTheOffice(unittest.IsolatedAsyncioTestCase):
             (500, 1, False), (answer.status, said.getvalue().count("\n"), "\x1b" in said.getvalue())
         )
         self.assertLess(len(said.getvalue()), 400)
+
+    async def test_a_request_of_before_a_standstill_changes_nothing(self):
+        handled = []
+
+        async def handle(request):
+            handled.append(request.method)
+            return web.Response()
+
+        routes = routes_over(self.office)
+        for is_in_doubt, method, status in (
+            (True, "POST", 503),
+            (True, "DELETE", 503),
+            (True, "GET", 200),
+            (False, "POST", 200),
+        ):
+            routes.counter.terminal = SimpleNamespace(is_in_doubt=lambda it=is_in_doubt: it)
+            request = make_mocked_request(method, "/weighings", headers={"Host": "127.0.0.1"})
+            answer = await routes.guarded(request, handle)
+            self.assertEqual(status, answer.status, (is_in_doubt, method))
+        self.assertEqual(["GET", "POST"], handled)
 
     async def test_a_tare_nested_too_deep_is_none(self):
         request = make_mocked_request("PUT", "/tares/AB-1", match_info={"plate": "AB-1"})

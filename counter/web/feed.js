@@ -31,7 +31,7 @@ export class Feed {
   open() {
     this.close();
     const source = this.source = new EventSource(`${location.origin}/events`);
-    for (const name of ['hello', 'state', 'weight', 'lists', 'tares', 'tare', 'entry', 'papers', 'alive']) {
+    for (const name of ['hello', 'state', 'weight', 'lists', 'tares', 'tare', 'entry', 'given', 'papers', 'alive']) {
       source.addEventListener(name, event => this.take(name, JSON.parse(event.data)));
     }
     source.onerror = () => {

@@ -38,9 +38,8 @@ class Books:
     ) -> None:
         self.office, self.zone, self.counts, self.given = office, zone, counts, given or Given()
         self.lists, self.journal = Lists(zone, self.given), journal or Journal()
-        self.once: Callable[
-            [], Set[int]
-        ] = frozenset  # the Firsts of vehicles that are weighed once
+        # the keys of the Firsts of vehicles that are weighed once
+        self.once: Callable[[], Set[str]] = frozenset
         self.exported_at = -math.inf  # when the export of the lists was asked for
         self.places = 0  # texts that passed
         self.state = (

@@ -102,7 +102,7 @@ class Counter:
         self.books.is_empty = self._is_empty
         if self.once is not None:
             once = self.once
-            self.books.once = self.books.lists.once = once.numbers
+            self.books.once = self.books.lists.once = once.keys
             self.acts.step_of = lambda key: once.step(key, self.books.lists, self.books.is_certain)
 
     async def run(self) -> None:

@@ -29,9 +29,8 @@ class Lists:
         self.places: dict[int, int] = {}  # of each text among all that passed
         self.keys: dict[int, str] = {}  # of the texts that passed
         self.closed: dict[int, int] = {}  # by a First: the entry that closed it
-        self.once: Callable[
-            [], Set[int]
-        ] = frozenset  # the Firsts of vehicles that are weighed once
+        # the keys of the Firsts of vehicles that are weighed once
+        self.once: Callable[[], Set[str]] = frozenset
         self.first: int | None = None  # the first number of the export that they are made of
         self.is_of_export = False
         self.open: dict[str, int] = {}  # the number of the open First of a plate
@@ -166,7 +165,7 @@ class Lists:
     def is_once(self, number: int) -> bool:
         """Return whether an entry is the First of a vehicle that is weighed once, or its Void."""
         void = number if self.entries[number].kind == "void" else self.closed.get(number, 0)
-        return number in self.once() or is_own_void(self.key_of(void))
+        return self.key_of(number) in self.once() or is_own_void(self.key_of(void))
 
     # ---- what is shown
 
@@ -208,7 +207,8 @@ class Lists:
 
     def there(self) -> set[int]:
         """Return the Firsts of the vehicles on site."""
-        return set(self.open.values()) - self.once()
+        once = self.once()
+        return {it for it in self.open.values() if self.key_of(it) not in once}
 
     def last_given(self, plate: str) -> Lines:
         """Return what was given for the newest entry of a plate for which something was."""

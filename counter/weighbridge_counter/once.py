@@ -7,7 +7,7 @@ open any more.
 
 import datetime
 import hashlib
-from collections.abc import Callable, Mapping
+from collections.abc import Callable, Mapping, Set
 from dataclasses import dataclass, replace
 from typing import Any, Protocol
 
@@ -156,9 +156,9 @@ class Once:
             self.forget(key)
         return None
 
-    def numbers(self) -> set[int]:
-        """Return the numbers of the Firsts that are noted."""
-        return {it.number for it in self.notes.values() if it.number is not None}
+    def keys(self) -> Set[str]:
+        """Return the keys of the Firsts that are noted."""
+        return self.notes.keys()
 
     def _keep(self, notes: Mapping[str, Note]) -> None:
         self.notes = dict(notes)

@@ -253,13 +253,14 @@ def note_twice(setup: Setup, reader: Reader) -> None:
         if address != NO_ADDRESS and address in known:
             reader.mistake(key, f"it is the address of {known[address]}: {what_to_do}")
         known.setdefault(address, key.removesuffix(": listen"))
-    for kind, them in (("port", setup.ports), ("scoreboard", setup.boards)):
-        names: set[str] = set()
-        for at, it in enumerate(them, 1):
-            if it.name and it.name in names:
-                what = f"there is a {kind} {it.name} already: take another name"
-                reader.mistake(f"{kind} {at}: name", what)
-            names.add(it.name)
+    for kind, names in (
+        ("port", [it.name for it in setup.ports]),
+        ("scoreboard", [it.name for it in setup.boards]),
+    ):
+        for at, name in enumerate(names):
+            if name and name in names[:at]:
+                what = f"there is a {kind} {name} already: take another name"
+                reader.mistake(f"{kind} {at + 1}: name", what)
     devices: set[str] = set()
     for at, board in enumerate(setup.boards, 1):
         if board.device and board.device in devices:
