@@ -19,6 +19,13 @@ def rows(clerk, where):
     return clerk.browser.run(ROW, where)
 
 
+def is_done(clerk):
+    """Press Done in the window of the free lines."""
+    clerk.keys(ENTER)
+    is_open = "return document.getElementById('giving').open"
+    becomes("the window closes", lambda: not clerk.browser.run(is_open))
+
+
 def paper_of(bridge, number):
     """Return name and value of each free line on an entry's paper in the browser. That prints its original."""
     blocks = bridge.json("POST", f"/papers/{number}/browser")["blocks"]
@@ -37,7 +44,8 @@ def from_the_first_to_the_second(bridge, clerk):
     clerk.sees("Ready.")
     press(clerk, "#others button", "Goods, order, driver")
     becomes("the dialog is there", lambda: clerk.focus() == "goods")
-    clerk.keys("Kies 0/32" + ENTER)
+    clerk.keys("Kies 0/32")
+    is_done(clerk)
     becomes(
         "the form shows what was given",
         lambda: "On the printout: Kies 0/32" in clerk.browser.run(OTHERS),
@@ -91,7 +99,7 @@ def one_that_is_removed(bridge, clerk):
     clerk.browser.run(
         "const it = document.getElementById('goods'); it.value = ''; it.dispatchEvent(new Event('input', { bubbles: true }))"
     )
-    clerk.keys(ENTER)
+    is_done(clerk)
     becomes(
         "a line that the clerk removes is gone",
         lambda: "On the printout: Ada" in clerk.browser.run(OTHERS),
