@@ -75,13 +75,13 @@ def one_that_comes_again(bridge, clerk):
 
 def one_of_another_day(bridge, clerk):
     bridge.next_vehicle(8000)
-    weighs_once(bridge, clerk, "ON-CE-2")
+    weighs_once(bridge, clerk, "ZW-EI-7")
     bridge.put(0)
     bridge.kill_counter()
     path = f"{bridge.folder}/state/once.json"
     with open(path) as file:
         notes = json.load(file)
-    same("it is noted on the disk", ["ON-CE-2"], [it["plate"] for it in notes.values()])
+    same("it is noted on the disk", ["ZW-EI-7"], [it["plate"] for it in notes.values()])
     for it in notes.values():
         it["day"] = str(datetime.date.fromisoformat(it["day"]) - datetime.timedelta(1))
     with open(path, "w") as file:
@@ -89,7 +89,7 @@ def one_of_another_day(bridge, clerk):
     bridge.start_counter()
     becomes(
         "after midnight the counter withdraws it, also after a new start",
-        lambda: kinds(bridge)[-2:] == [("first", "ON-CE-2"), ("void", "ON-CE-2")],
+        lambda: kinds(bridge)[-2:] == [("first", "ZW-EI-7"), ("void", "ZW-EI-7")],
         40,
     )
     time.sleep(6)
