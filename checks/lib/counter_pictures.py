@@ -1,10 +1,14 @@
 """The pictures of docs/counter.md, for checks/counter --pictures: taken in a browser over a real service."""
 
+import io
 import time
 
 from counter_clerk import ENTER, F9, Clerk, at_of
 from countering import Bridge
 
+# Of the page at each size: width and height in pixels, and how high each is in the picture of all of them.
+SIZES = ((360, 740), (1024, 768), (1280, 900), (1920, 1080))
+HEIGHT, BETWEEN = 360, 12
 SETTINGS = 'address = ["Hafenstraße 12", "28217 Bremen"]\n'
 
 
@@ -27,6 +31,32 @@ def write(program, folder):
         clerk.keys(ENTER)
         clerk.sees(plate.rpartition("-")[2] and "kg")
         time.sleep(0.3)
+
+    def sizes():
+        """Write one picture of the page at each size, light above and dark below."""
+        from PIL import Image
+
+        rows = []
+        for is_dark in (False, True):
+            row = []
+            for width, height in SIZES:
+                clerk.browser.look(width, height, is_dark)
+                time.sleep(0.6)
+                taken = Image.open(io.BytesIO(clerk.browser.picture())).convert("RGB")
+                row.append(taken.resize((HEIGHT * taken.width // taken.height, HEIGHT)))
+            rows.append(row)
+        whole = (
+            sum(it.width for it in rows[0]) + BETWEEN * (len(SIZES) + 1),
+            2 * HEIGHT + 3 * BETWEEN,
+        )
+        made = Image.new("RGB", whole, (128, 128, 128))
+        for at, row in enumerate(rows):
+            left = BETWEEN
+            for it in row:
+                made.paste(it, (left, BETWEEN + at * (HEIGHT + BETWEEN)))
+                left += it.width + BETWEEN
+        made.quantize(128).save(f"{folder}/counter_sizes.png", optimize=True)
+        clerk.browser.look(1000, 640, False)
 
     def picture(name):
         time.sleep(0.4)
@@ -61,6 +91,13 @@ def write(program, folder):
         bridge.wait_until_up()
         clerk.sees("drive off, and on again")
         picture("restarted")
+        bridge.put(0)
+        clerk.keys(F9)
+        clerk.sees("Zero is set.")
+        bridge.put(4070)
+        clerk.keys("HB-KW-77")
+        clerk.sees("Ready.")
+        sizes()
     finally:
         clerk.close()
         bridge.close()
