@@ -4,6 +4,7 @@ The clerk types only the plate of the vehicle on the bridge, or of the one that 
 plate isn't that of the vehicle on the bridge. Between two vehicles the bridge is empty, so it is certain which of them an entry is of.
 """
 
+import hashlib
 import signal
 import time
 
@@ -18,6 +19,13 @@ HIDE = """Object.defineProperty(document, 'hidden', { configurable: true, value:
 PRESS = "[...document.querySelectorAll(arguments[0])].find(it => it.textContent.includes(arguments[1]))?.click()"
 
 
+def plate_of(number):
+    """Return a plate that is like no other, so that the page asks nothing."""
+    digest = hashlib.sha256(b"%d" % number).digest()
+    letters = "".join(chr(ord("A") + it % 26) for it in digest[:4])
+    return f"{letters[:2]}-{letters[2:]}-{int.from_bytes(digest[4:6], 'big') % 9000 + 1000}"
+
+
 class Day:
     def __init__(self, bridge, network, clerk):
         self.bridge, self.network, self.clerk = bridge, network, clerk
@@ -29,7 +37,7 @@ class Day:
     def comes(self, may_sway=False):
         """Let the next vehicle drive on."""
         self.number += 1
-        self.plate = f"EN-MY-{self.number:03}"
+        self.plate = plate_of(self.number)
         self.bridge.converter.sway = 100 if may_sway else 0
         self.bridge.converter.load = 4000 + 10 * self.number
 
@@ -231,7 +239,7 @@ class Day:
 
     def letters_come_before_the_answer(self):
         self.types()
-        following = f"EN-MY-{self.number + 1:03}"
+        following = plate_of(self.number + 1)
         self.clerk.browser.hammer(ENTER + following, 0.03)
         time.sleep(1)
         self.swaps()

@@ -15,13 +15,9 @@ SETTINGS = 'address = ["Hafenstraße 12", "28217 Bremen"]\n'
 def write(program, folder):
     bridge = Bridge(program, 10, settings=SETTINGS).start_counter()
     clerk = Clerk(at_of(bridge.http), None, 1000, 640)
-    clerk.browser.tool(
-        "Emulation.setDeviceMetricsOverride",
-        width=1000,
-        height=640,
-        deviceScaleFactor=0.7,
-        mobile=False,
-    )
+    how = {"width": 1000, "height": 640, "deviceScaleFactor": 0.7, "mobile": False}
+    small = lambda: clerk.browser.tool("Emulation.setDeviceMetricsOverride", **how)
+    small()
 
     def weigh(plate, load):
         bridge.next_vehicle(load)
@@ -57,6 +53,7 @@ def write(program, folder):
                 left += it.width + BETWEEN
         made.quantize(128).save(f"{folder}/counter_sizes.png", optimize=True)
         clerk.browser.look(1000, 640, False)
+        small()
 
     def picture(name):
         time.sleep(0.4)
@@ -81,6 +78,7 @@ def write(program, folder):
         clerk.keys("HB-KW-77")
         clerk.sees("Ready.")
         picture("ready")
+        sizes()
         clerk.browser.click("#clear")
         clerk.keys("HB-KW-71")
         clerk.sees("HB-KW-77 is on site")
@@ -91,13 +89,6 @@ def write(program, folder):
         bridge.wait_until_up()
         clerk.sees("drive off, and on again")
         picture("restarted")
-        bridge.put(0)
-        clerk.keys(F9)
-        clerk.sees("Zero is set.")
-        bridge.put(4070)
-        clerk.keys("HB-KW-77")
-        clerk.sees("Ready.")
-        sizes()
     finally:
         clerk.close()
         bridge.close()

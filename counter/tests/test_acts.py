@@ -115,6 +115,22 @@ class Passing(WithABridge):
             )
             self.assertEqual([("Kies 0/16", "Ł", "K1")], seen)
 
+    async def test_a_press_that_was_long_on_its_way_weighs_nothing(self):
+        for ago, status in ((0, 201), (2900, 201), (3100, 503), (600_000, 503), (-5000, 201)):
+            for form in (b"key=K1&kind=first&plate=AB%2D12", BODY):
+                bridge = self.bridge((201, TICKET))
+                at = round(bridge.terminal.clock() * 1000) - ago
+                told = await self.weigh(bridge, form + b"&at=%d" % at)
+                self.assertEqual((status, status == 201), (told.status, told.is_sent), (ago, form))
+                self.assertEqual(int(status == 201), len(bridge.office.bodies))
+                self.assertNotIn(b"at=", b"".join(bridge.office.bodies))
+        for wrong in (b"", b"x", b"-1", b"1e3", b"9" * 16, "\u0663".encode()):
+            bridge = self.bridge()
+            told = await self.weigh(bridge, b"key=K1&kind=first&plate=AB%2D12&at=" + wrong)
+            self.assertEqual(
+                (422, b"counter bad_at\n", False), (told.status, told.body, told.is_sent)
+            )
+
     async def test_a_list_that_fails_keeps_no_answer_and_no_other_list(self):
         bridge, after = self.bridge((201, TICKET)), []
 

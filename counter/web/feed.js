@@ -53,6 +53,9 @@ export class Feed {
     this.hear(name, what);
   }
 
+  // This moment by the counter's clock, in milliseconds; nothing while the distance of the clocks isn't known.
+  moment() { return this.offset === null ? {} : { at: Math.round(now() - this.offset) }; }
+
   isGone() { return now() - this.heardAt > SILENT_AFTER; }
 
   // Milliseconds since the counter got the weight; Infinity while that can't be told.

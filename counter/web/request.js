@@ -70,10 +70,10 @@ export function renewed(request) {
 export const isOld = request => Math.abs(Date.now() - request.made) > AGAIN_FOR;
 
 // Sends until an answer is final. Null: it isn't sent by itself any more, because there was none for so long, or because `isForAnother` says that another vehicle
-// may be there. Both are asked before each sending but the first.
-export async function send(request, unanswered, isForAnother = () => false) {
+// may be there. Both are asked before each sending but the first. `moment` gives the time at which it is sent, so that the counter can refuse what was long on its way.
+export async function send(request, unanswered, isForAnother = () => false, moment = () => ({})) {
   for (;;) {
-    const answer = await ask('POST', request.target, new URLSearchParams(request.form));
+    const answer = await ask('POST', request.target, new URLSearchParams({ ...request.form, ...moment() }));
     if (isFinal(answer, request)) {
       forget(request);
       return answer;

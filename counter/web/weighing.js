@@ -1,7 +1,7 @@
 // A weighing from the press to its end: sent until it is answered, and then told.
 
 import { isPast } from './guide.js';
-import { clerk, known, linkNow, MIN_INTERVALS, withdrawnBy } from './known.js';
+import { clerk, feed, known, linkNow, MIN_INTERVALS, withdrawnBy } from './known.js';
 import { counterWordOf, forget, isOld, isStored, keptRequest, newRequest, refusalOf, renewed, send } from './request.js';
 import { acts, show } from './show.js';
 import { has, paperOf, t } from './words.js';
@@ -50,7 +50,7 @@ const whatOf = request => ({ what: `${t(request.form.kind ? `kind_${request.form
 async function conclude(request, giveBack = NOTHING_TAKEN()) {
   clerk.result = clerk.told = null;
   wait('wait', 'sent', whatOf(request));
-  const answer = await send(request, () => wait('wait', 'no_answer_yet', whatOf(request)), () => isForAnother(request));
+  const answer = await send(request, () => wait('wait', 'no_answer_yet', whatOf(request)), () => isForAnother(request), () => feed.moment());
   if (answer === null) { leave(request, giveBack); return; }
   clerk.waiting = null;
   if (answer.status === 201) finish(request, answer.text);

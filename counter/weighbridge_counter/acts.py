@@ -30,8 +30,10 @@ TRY_AGAIN_AFTER = 0.3  # seconds
 LOOK_WITHIN = 5.0  # seconds
 TARE = re.compile(r"[1-9]\d{0,6}")
 P = ParamSpec("P")
-# The free lines stand on paper alone, and that a vehicle is weighed once is the counter's own.
-NOT_FOR_THE_OFFICE = tuple(f"{it}=".encode() for it in (*FREE_LINES, "once"))
+# The free lines stand on paper alone. That a vehicle is weighed once, and when the clerk pressed, is the counter's own.
+NOT_FOR_THE_OFFICE = tuple(f"{it}=".encode() for it in (*FREE_LINES, "once", "at"))
+PRESSED_WITHIN = 3.0  # seconds: an older press never begins, because another vehicle may be there
+MOMENT = re.compile(r"\d{1,15}")  # in milliseconds of the counter's clock
 # Refusals after which the entry may be in the journal: its slip is gone, or damaged.
 MAY_BE_STORED = (b"refused 2 ", b"refused 17 ")
 NOT_OPEN = b"refused 13 "
@@ -120,7 +122,9 @@ class Acts:
                 parts = [it for it in parts if not it.startswith(NOT_FOR_THE_OFFICE)]
                 body = b"&".join(parts)
             tares = [it[5:].decode("latin-1") for it in parts if it.startswith(b"tare=")]
-            if "once" in asked:
+            if (refusal := self._not_now(asked)) is not None:
+                told.set_result(refusal)
+            elif "once" in asked:
                 told.set_result(await self._weigh_once(target, body, asked, bool(tares)))
             elif not tares:
                 async with in_time(self.one_at_a_time):
@@ -141,6 +145,16 @@ class Acts:
         finally:
             if not told.done():
                 told.set_result(NO_ANSWER)
+
+    def _not_now(self, asked: Mapping[str, str]) -> Told | None:
+        """Return the refusal of a request that says when it was sent, if the way to the counter took too long. Return None if it is in time, or doesn't say."""
+        at = asked.get("at")
+        if at is None:
+            return None
+        if not MOMENT.fullmatch(at):
+            return not_sent(422, "bad_at")
+        is_late = self.terminal.clock() - int(at) / 1000 > PRESSED_WITHIN
+        return not_sent(503, "late") if is_late else None
 
     async def _pass_on(self, target: str, body: bytes, asked: Mapping[str, str]) -> Told:
         try:
