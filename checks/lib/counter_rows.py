@@ -12,7 +12,7 @@ FOCUS = "const it = document.activeElement; return [it.closest('ul')?.id, it.clo
 DIALOG = "return document.querySelector('#entry[open]') && [...document.querySelectorAll('#entry h2, #entry #entry-sub, #entry button')].map(it => it.textContent)"
 # Gives the page a list of vehicles on site, and then 21 entries. Returns for how long an entry holds up the page's thread, in milliseconds: the
 # shortest, because other work on the machine only adds to it.
-ENTRY = "{ number: 90000 + at, kind: 'first', plate: `COST-${at}`, at: new Date().toISOString(), gross: 18340, tare: null, net: null, first: null }"
+ENTRY = "{ number: 90000 + at, kind: 'first', plate: `COST-${at}`, at: new Date().toISOString(), gross: 18340, tare: null, net: null, first: null, given: {}, once: false }"
 SITE = "Array.from({ length: count }, (_, at) => entry(count - at))"
 LISTS = (
     f"const entry = at => ({ENTRY});"
@@ -52,7 +52,11 @@ def a_menu_withdraws(bridge, clerk):
     clerk.browser.run(menu_of("AA-WR-1") + ".click()")
     found = becomes("the menu of a row on site opens its text", lambda: clerk.browser.run(DIALOG))
     same("with its title", "Slip 1 · AA-WR-1", found[0])
-    same("print, withdraw and close", ["Print again", "Withdraw this weighing", "Close"], found[2:])
+    same(
+        "print, goods, withdraw and close",
+        ["Print again", "Goods, order, driver…", "Withdraw this weighing", "Close"],
+        found[2:],
+    )
     clerk.browser.run("document.querySelector('#entry .danger').click()")
     time.sleep(0.8)
     clerk.browser.run("document.querySelector('#entry .danger').click()")

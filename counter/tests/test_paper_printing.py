@@ -301,6 +301,15 @@ class AtAPrinter(unittest.TestCase):
             self.assertFalse(self.turn())
         self.assertEqual([name], os.listdir(box))
 
+    def test_a_duplicate_that_did_not_come_out_gives_no_original_back(self):
+        paper = self.spool.take(read_text(USUAL["second"].text))
+        first, second = (self.spool.job(self.spool.put(paper, it)) for it in ("one", "other"))
+        self.assertTrue(self.spool.begin(first, True))
+        self.spool.printed(first.id)
+        self.assertTrue(self.spool.begin(second, False))
+        self.spool.give_back(second.id, "cover_open")
+        self.assertFalse(self.spool.job(second.id).is_original)
+
     def test_of_many_at_once_one_is_the_original(self):
         paper = self.spool.take(read_text(USUAL["second"].text))
         jobs = [self.spool.job(self.spool.put(paper, f"printer_{it}")) for it in range(12)]

@@ -63,6 +63,10 @@ class TheText(unittest.TestCase):
             [10200, 9999998], [read_text(it["second"].text).net for it in (USUAL, LONGEST)]
         )
 
+    def test_a_pair_that_leaves_loaded_has_its_net_too(self):
+        for first, own, net in ((8140, 18340, 10200), (18340, 8140, 10200), (9000, 9000, 0)):
+            self.assertEqual(net, read_text(Sample("second", first=first, own=own).text).net)
+
     def test_that_of_the_formats_page_by_its_keys_alone(self):
         self.assertEqual([], check_digests(read_text(TICKET), {1: "K1", 2: "K2"}, {}))
 
@@ -208,6 +212,13 @@ class TheLayout(unittest.TestCase):
                 [], [it for it in self.blocks(USUAL[kind]) if isinstance(it, layout.Mark)]
             )
         self.assertEqual("DUPLIKAT · DUPLICATE", self.blocks(USUAL["void"], "de", False)[0].text)
+
+    def test_a_played_paper_says_so_at_both_ends_and_a_true_one_nowhere(self):
+        for serial, is_original in (("DEMO", True), ("DEMO", False), ("WB01", True)):
+            made = self.blocks(Sample("single", serial=serial), is_original=is_original)
+            half = len(made) // 2
+            for blocks in (made[:half], made[half:]):
+                self.assertEqual(serial == "DEMO", layout.Mark("DEMO") in blocks, serial)
 
     def test_the_legal_text_is_wrapped_between_characters_and_put_together_again(self):
         for it in ALL:
