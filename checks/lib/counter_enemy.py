@@ -1,4 +1,4 @@
-"""Part of checks/counter: a day of sixty vehicles with twenty kinds of trouble, at the page alone, by a clerk whose aim is a false ticket.
+"""Part of checks/counter: a day of sixty vehicles with twenty kinds of trouble, only at the page, by a clerk whose aim is a false ticket.
 
 The clerk types only the plate of the vehicle on the bridge, or of the one that comes next, but presses whatever there is at any time. A ticket is false if its
 plate isn't that of the vehicle on the bridge. Between two vehicles the bridge is empty, so it is certain which of them an entry is of.

@@ -56,7 +56,7 @@ def from_the_first_to_the_second(bridge, clerk):
     becomes("so does the row of the vehicle", lambda: rows(clerk, "#site") == ["Kies 0/32"])
     bridge.kill_counter()
     bridge.start_counter()
-    becomes("also after a new start", lambda: rows(clerk, "#site") == ["Kies 0/32"])
+    becomes("even after a new start", lambda: rows(clerk, "#site") == ["Kies 0/32"])
     bridge.next_vehicle(4000)
     clerk.keys(ESCAPE + "GI-VE-1")
     clerk.sees("Ready.")
@@ -148,7 +148,11 @@ def until_it_is_printed(bridge, clerk):
         put(bridge, 2, '{"goods": "Erde"}'),
     )
     same("and stay", [("Goods", "Kies 0/32")], paper_of(bridge, 2))
-    same("those of no entry too", 404, bridge.ask("PUT", "/entries/99/given", body="{}")[0])
+    same(
+        "without an entry there is nothing to change",
+        404,
+        bridge.ask("PUT", "/entries/99/given", body="{}")[0],
+    )
     clerk.keys(ESCAPE)
 
 

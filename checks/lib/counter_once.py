@@ -88,7 +88,7 @@ def one_of_another_day(bridge, clerk):
         json.dump(notes, file)
     bridge.start_counter()
     becomes(
-        "after midnight the counter withdraws it, also after a new start",
+        "after midnight the counter withdraws it, even after a new start",
         lambda: kinds(bridge)[-2:] == [("first", "ZW-EI-7"), ("void", "ZW-EI-7")],
         40,
     )

@@ -241,7 +241,7 @@ def no_request_twice(bridge, clerk):
     """Whatever is cut between the press and the answer, the request is sent again under its key, and stored once."""
     hook = """const real = window.realFetch ??= window.fetch; const plan = arguments[0].slice(); window.sent = [];
         window.fetch = async (target, how) => { if (!/[/](weighings|voids)$/.test(target)) return real(target, how);
-        window.sent.push(String(how.body)); const step = plan.shift(); if (step === 'cut') { await real(target, how); throw new TypeError('cut'); }
+        window.sent.push(how.body.get('key')); const step = plan.shift(); if (step === 'cut') { await real(target, how); throw new TypeError('cut'); }
         if (step === 'lost') throw new TypeError('lost'); if (step === 'page') return new Response('<html>', { status: 502 });
         if (step === 'store') return new Response('refused 15 store\\n', { status: 503 });
         if (step === 'not_sent') return new Response('counter busy\\n', { status: 503, headers: { 'X-Counter': 'not_sent' } }); return real(target, how); };"""

@@ -251,6 +251,18 @@ test('a plate that was typed while a weighed vehicle drives off is the next one\
   }
 });
 
+test('the plate of the weighed vehicle itself leaves with it', () => {
+  const own = { plate: 'A', number: 7, paper: 'Slip', isWithdrawn: false };
+  const at = (load, net, bridge, more = {}) => load.hasLeft(now({ plate: 'A', state: { ...now().state, bridge }, ...more }, {}, { net }));
+  const known = new PlateOfLoad();
+  known.weighed({ kind: 'first', plate: 'A', number: 7 });
+  assert.deepEqual([at(known, 9000, 'weighed'), at(known, 0, 'weighed'), at(known, 9000, 'empty')], [false, true, false]);
+  const loaded = new PlateOfLoad();       // the page was loaded since
+  assert.deepEqual([at(loaded, 9000, 'weighed', { newest: own }), at(loaded, 0, 'weighed', { newest: own })], [false, true]);
+  const other = new PlateOfLoad();
+  assert.deepEqual([at(other, 9000, 'weighed', { newest: { ...own, plate: 'B' } }), at(other, 0, 'weighed')], [false, false], 'that of another one is the next one\'s');
+});
+
 test('letters that are typed before the answer are the next vehicle\'s plate', () => {
   const load = new PlateOfLoad(), at = (plate, net, waiting = null) => load.hasLeft(now({ plate, waiting }, {}, { net }));
   assert.deepEqual([at('A', 9000), at('', 9000, {}), at('B', 9000, {})], [false, false, false]);

@@ -1,4 +1,4 @@
-"""What clerks give for papers: a Second gets what its First has, a change replaces or removes a line, and the search finds it."""
+"""Goods, order and driver: a Second gets what its First has, a change replaces or removes a line, and the search finds it."""
 
 import json
 import unittest

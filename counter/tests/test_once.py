@@ -26,7 +26,7 @@ FIRST = {"key": "page-1", "kind": "first", "plate": "AB-12", "once": "1"}
 
 
 class Office:
-    """Stores what it is asked, as the office does, and fails as it is told: `cut` loses the request, `lost` loses its answer."""
+    """Stores what it gets, as the office does. `fails` says how it fails: `cut` loses the request, `lost` loses its answer."""
 
     def __init__(self):
         self.rows, self.texts, self.open, self.fails, self.asked = [], {}, {}, [], []

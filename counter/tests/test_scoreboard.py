@@ -18,7 +18,7 @@ from weighbridge_counter.setup import Board, SetupFault, read_setup
 from weighbridge_counter.values import Value
 
 WEB = Path(__file__).resolve().parent.parent / "web"
-# What is shown, and what toledo, sma and condec make of it.
+# A weight, and the lines of toledo, sma and condec for it.
 ROWS = [
     (
         Shown("S", 18340, 0, 20),

@@ -78,8 +78,9 @@ export const grossOf = weight => weight && weight.net !== null ? weight.net + (w
 const UNSEEN_FOR = 8000;             // milliseconds without a weight, after which another load may be on the bridge
 const isWhile = (since, at) => Math.abs(at - since) > UNSEEN_FOR;
 
-// Which load the plate in the form is for. A plate that was typed on an empty bridge, or while a weighed vehicle drives off, is for the next load. A plate leaves
-// the form with its load, whoever weighed that, so that the next vehicle is never ready under it. It leaves too if the page had no weight for a while since it was typed.
+// Which load the plate in the form is for. A plate that was typed on an empty bridge, or while a weighed vehicle drives off, is for the next load, unless it is the
+// weighed vehicle's own. A plate leaves the form with its load, whoever weighed that, so that the next vehicle is never ready under it. It leaves too if the page had
+// no weight for a while since it was typed.
 export class PlateOfLoad {
   #isForThis = false;
   #isBack = false;
@@ -122,7 +123,7 @@ export class PlateOfLoad {
   }
 
   // Takes what is known now, at a time of the day in milliseconds. Returns true once the load has left for which the plate was typed, or may have.
-  hasLeft({ plate, weight, state, min, waiting, at }) {
+  hasLeft({ plate, weight, state, min, waiting, newest, at }) {
     const gross = grossOf(weight);
     if (plate !== this.#plate) {
       this.#plate = plate;
@@ -133,7 +134,8 @@ export class PlateOfLoad {
     if (this.#wasUnseen) this.#entry = null;
     const hadPlate = this.#isForThis && Boolean(plate), isNoLoad = gross < min, isWeighed = this.#entry !== null || waiting !== null || ['weighed', 'restarted'].includes(state.bridge);
     const leaves = this.#wasUnseen ? Boolean(plate) && isWhile(this.#plateAt, at) : hadPlate && isNoLoad;
-    this.#isForThis = Boolean(plate) && !leaves && !isNoLoad && (hadPlate || this.#isBack || !isWeighed);
+    const isItsOwn = plate === (this.#entry ?? (state.bridge === 'weighed' ? newest : null))?.plate;
+    this.#isForThis = Boolean(plate) && !leaves && !isNoLoad && (hadPlate || this.#isBack || !isWeighed || isItsOwn);
     this.#isBack = false;
     this.#seenAt = at;
     if ((isNoLoad || this.#wasUnseen) && this.#isLoaded) this.#loads++;

@@ -14,7 +14,7 @@ from .terminal import Terminal
 EVERY = 0.1  # seconds
 OLDEST = 1.0  # seconds: an older weight isn't sent
 MOST_CLIENTS = 4
-READS_NOTHING = 5.0  # seconds: a client that takes nothing for so long is hung up
+READS_NOTHING = 5.0  # seconds without a byte taken, after which a client is disconnected
 SMALL_BUFFER = 4096  # bytes in the system on the way to a client: what waits there grows old
 OPEN_AGAIN_AFTER = 1.0  # seconds
 

@@ -40,7 +40,7 @@ class Books:
         self.lists, self.journal = Lists(zone, self.given), journal or Journal()
         # the keys of the Firsts of vehicles that are weighed once
         self.once: Callable[[], Set[str]] = frozenset
-        self.exported_at = -math.inf  # when the export of the lists was asked for
+        self.exported_at = -math.inf  # when the counter asked for the export of the lists
         self.places = 0  # texts that passed
         self.state = (
             "ok"  # of the office: ok, store (its journal can't be read or written), no_answer
@@ -156,7 +156,7 @@ class Books:
         return lists
 
     def is_certain(self, since: float) -> bool:
-        """Return whether nothing is missing in the lists, and their export was asked for after a moment."""
+        """Return whether nothing is missing in the lists, and the counter asked for their export after a moment."""
         return self.is_whole() and self.lists.is_of_export and self.exported_at > since
 
     def _take_export(

@@ -1,6 +1,6 @@
-"""What clerks give for the paper of a weighing: goods, order and driver. It is no legal record, and the office doesn't have it.
+"""Goods, order and driver, which clerks give for the paper of a weighing. They are no legal record, and the office doesn't have them.
 
-The papers' database stores it by the entry's digest. This copy in memory is for the pages, and for a Second, which gets what its First has.
+The papers' database stores them by the entry's digest. This copy in memory is for the pages, and for a Second, which gets what its First has.
 """
 
 from collections.abc import Iterable, Iterator, Mapping

@@ -68,7 +68,7 @@ class Withdrawal:
 
 
 class Lists(Protocol):
-    """What the lists know of the lists."""
+    """The lists, as far as they know the journal."""
 
     def open_first(self, plate: str) -> int | None:
         """Return the number of a plate's open First."""
@@ -134,7 +134,7 @@ class Once:
     ) -> Withdrawal | None:
         """Return the Void that a note needs now, or None. A note that needs none any more is removed.
 
-        `is_certain` says whether nothing is missing in the lists, and their export was asked for after a moment of the counter's clock.
+        `is_certain` says whether nothing is missing in the lists, and the counter asked for their export after a moment of its clock.
         """
         note = self.notes[key]
         if note.number is None:

@@ -75,7 +75,7 @@ class Printing:
         return self.spool.given(MOST_GIVEN)
 
     def _know_given(self, read: list[tuple[int, str, tuple[tuple[str, str], ...]]]) -> None:
-        """Take what was given before this start. What was given since is newer."""
+        """Take the lines of before this start. Lines that came later replace them."""
         since, self.given.by_digest = self.given.by_digest, {}
         for number, digest, pairs in read:
             self.given.keep(number, digest, lines_in(pairs))

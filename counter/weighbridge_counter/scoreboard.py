@@ -14,7 +14,7 @@ MOST_DIGITS = 6
 
 @dataclass(frozen=True)
 class Shown:
-    """What a scoreboard shows. The weight is the indicated one in kg: net if a tare is in force, else gross. Without a weight, `kg` is None."""
+    """The weight that a scoreboard shows. The weight is the indicated one in kg: net if a tare is in force, else gross. Without a weight, `kg` is None."""
 
     state: str  # as of Value: S, D, I, + or -
     kg: int | None
@@ -50,7 +50,7 @@ def toledo(it: Shown) -> bytes:
 
 
 def toledo_with_sum(it: Shown) -> bytes:
-    """As `toledo`, with the check character: all characters together are 0 in seven bits."""
+    """Return the line of `toledo` and its check character, by which the sum of all characters is 0 in seven bits."""
     made = toledo(it)
     return made + bytes((-sum(made) & 0x7F,)) if made else b""
 
