@@ -572,7 +572,10 @@ def an_early_enter(bridge, clerk):
     clerk.keys(ENTER)
     bridge.put(0)
     bridge.converter.load, bridge.converter.sway = 8000, 100
-    clerk.sees("It is still moving.", what="another vehicle sways there when the office answers")
+    clerk.sees(
+        "Not sent: it came too late.",
+        what="another vehicle sways there when the press comes to the counter",
+    )
     stands(8000)
     time.sleep(2.5)
     same(
