@@ -687,6 +687,34 @@ def a_swap_that_the_page_did_not_see(bridge, clerk):
     clerk.keys(ESCAPE)
 
 
+def a_window_that_another_vehicle_finds_open(bridge, clerk):
+    """Open the window of the tare or of the goods for one vehicle, and type into it once another one is there."""
+    for words, focus in (("Tare from papers", "tare-kg"), ("Goods, order, driver", "goods")):
+        bridge.next_vehicle(7000)
+        clerk.keys(ESCAPE + "WI-ND-1")
+        clerk.sees("Ready.")
+        clerk.browser.run(
+            "[...document.querySelectorAll('#others button')].find(it => it.textContent.startsWith(arguments[0])).click()",
+            words,
+        )
+        becomes(f"{words}: the window is there", lambda focus=focus: clerk.focus() == focus)
+        bridge.next_vehicle(8000)
+        nothing_comes_of(
+            bridge,
+            clerk,
+            f"{words}: what is typed once another vehicle is there",
+            lambda: clerk.browser.hammer("3000" + TEN, 0.1),
+            "",
+        )
+        clerk.sees("The vehicle has left the bridge. WI-ND-1 was removed", what="and it says why")
+        same(
+            "nothing of it stays for the next paper",
+            "",
+            clerk.browser.run("return document.getElementById('goods').value"),
+        )
+        clerk.keys(ESCAPE)
+
+
 def a_request_whose_load_left(bridge, clerk):
     """Show that the page sends a request again until it has an answer, but never for another vehicle."""
     bridge.next_vehicle(7000)
@@ -812,6 +840,7 @@ def show(program):
         letters_before_the_answer(bridge, clerk)
         a_plate_leaves_with_its_load(bridge, clerk)
         a_swap_that_the_page_did_not_see(bridge, clerk)
+        a_window_that_another_vehicle_finds_open(bridge, clerk)
         a_request_whose_load_left(bridge, clerk)
         a_colleague_weighs_it(bridge, clerk)
         withdraws_only_what_it_shows(bridge, clerk)

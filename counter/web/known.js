@@ -12,8 +12,8 @@ const RESULT_BEFORE_FAULTS = 5000;   // milliseconds that a result is shown befo
 
 export const feed = new Feed();
 export const known = { hello: { interval: 20, zone: 'UTC', tare_days: 90 }, state: null, onSite: [], weighedNear: [], today: [], sums: null, tares: {}, papers: { printers: [], jobs: [], refused: null } };
-// `ofPlate` is what the counter knows of the plate in the form, `choice` the weighing that was shown last, and the plates of the answers by their keys.
-export const clerk = { oneTare: null, isFirstInstead: false, isOnce: false, isGivenTyped: false, waiting: null, result: null, told: null, newest: null, answered: {}, answers: [], deafness: new Deafness(), arming: new Arming(), plateOfLoad: new PlateOfLoad(), formThatLeft: null, ofPlate: null, choice: { plate: '', weighing: '', plates: {} } };
+// `left` is the plate that left the form last, and the sentence about it; `askedFor` the plate that a window was opened for; `ofPlate` what the counter knows of the plate in the form, `choice` the weighing that was shown last, and the plates of the answers by their keys.
+export const clerk = { oneTare: null, isFirstInstead: false, isOnce: false, isGivenTyped: false, waiting: null, result: null, told: null, newest: null, answered: {}, answers: [], deafness: new Deafness(), arming: new Arming(), plateOfLoad: new PlateOfLoad(), formThatLeft: null, left: { word: '', plate: '' }, askedFor: '', ofPlate: null, choice: { plate: '', weighing: '', plates: {} } };
 
 export const GIVEN = ['goods', 'order', 'driver'];     // free lines for the paper, which the office doesn't get
 export const linesOf = given => GIVEN.map(it => given[it]).filter(Boolean).join(', ');

@@ -152,6 +152,7 @@ async function lookUp(of) {
 }
 
 function askTare() {
+  clerk.askedFor = plate();
   clerk.ofPlate = null;
   part('tare-empty').textContent = '';
   part('tare-label').textContent = t('tare_of', { plate: plate() });
@@ -163,6 +164,7 @@ function askTare() {
 }
 
 function useTare() {
+  if (isOver()) return;
   const typedTare = Number(part('tare-kg').value);
   if (roundedTare(typedTare, known.hello.interval) === 0) {
     tell('bad', 'counter_bad_tare');
@@ -221,6 +223,7 @@ function showDeafness() {
 
 // Free lines for the paper of this vehicle.
 function askGiven() {
+  clerk.askedFor = plate();
   if (!clerk.isGivenTyped) fillGiven(givenOf(choiceOf(nowKnown())), false);
   part('giving-why').textContent = '';
   part('giving').showModal();
@@ -239,6 +242,10 @@ async function unprintable(given) {
 
 async function useGiven(event) {
   event.preventDefault();
+  if (isOver()) {
+    part('giving').close();
+    return;
+  }
   const letters = await unprintable(givenTyped());
   part('giving-why').textContent = letters ? t('lines_unprintable', { letters }) : '';
   if (!letters) part('giving').close();
@@ -285,9 +292,20 @@ function clearPlate() {
 // The load has left for which the plate was typed, or may have. A clerk whose vehicle is still there gets the plate back by one press.
 function plateLeft(of, wasUnseen) {
   clerk.formThatLeft = formNow();
-  for (const it of ['taring', 'giving']) part(it).close();     // what is typed there is for this plate
   emptyForm();
-  tell('wait', wasUnseen ? 'plate_unseen' : 'plate_left', undefined, { plate: of }, ['plate_again']);
+  clerk.left = { word: wasUnseen ? 'plate_unseen' : 'plate_left', plate: of };
+  tellLeft();
+}
+
+const tellLeft = () => tell('wait', clerk.left.word, undefined, { plate: clerk.left.plate }, ['plate_again']);
+
+// What is typed in a window is for the plate that it was opened for. If that has left the form, the window takes nothing. It stays open until then, because letters
+// that the clerk types for it would be a plate otherwise.
+function isOver() {
+  if (plate() === clerk.askedFor) return false;
+  clearGiven();
+  if (clerk.left.plate === clerk.askedFor) tellLeft();
+  return true;
 }
 
 function plateAgain() {
