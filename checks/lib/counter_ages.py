@@ -97,8 +97,8 @@ def never_old(bridge, clerk, what, seconds=6, may_show_none=False):
     return delays
 
 
-def press_to_ticket(bridge, clerk, count=9):
-    """Milliseconds from the Enter key to the answer on the page, by the page's own clock."""
+def press_to_ticket(bridge, clerk, count=9, most=200, before=lambda: None, where=""):
+    """Measure the milliseconds from the Enter key to the answer on the page, by the page's own clock. `before` is called before each press."""
     watch = """window.took = 0; window.pressed = 0;
         document.addEventListener('keydown', event => { if (event.key === 'Enter') window.pressed ||= performance.now(); }, { capture: true });
         new MutationObserver(() => { if (window.pressed && !window.took && document.getElementById('guide').dataset.look === 'ok') window.took = performance.now() - window.pressed; })
@@ -109,6 +109,7 @@ def press_to_ticket(bridge, clerk, count=9):
         clerk.keys("PRESS-" + "ABCDEFGHJ"[number] * 4)
         clerk.sees("Ready.", what=None if number == 0 else f"ready, the {number + 1}th time")
         clerk.browser.run(watch)
+        before()
         time.sleep(random.random() / bridge.pace)
         clerk.keys(ENTER)
         becomes("and weighed", lambda: clerk.browser.run("return window.took"))
@@ -116,8 +117,8 @@ def press_to_ticket(bridge, clerk, count=9):
         clerk.keys(ESCAPE)
     times.sort()
     holds(
-        f"from the press to the answer on the page, at {bridge.pace} readings a second",
-        times[count // 2] <= 200,
+        f"from the press to the answer on the page{where}, at {bridge.pace} readings a second",
+        times[count // 2] <= most,
         f"median {times[count // 2]:.0f} ms, worst {times[-1]:.0f} ms of {count}",
     )
 

@@ -2,6 +2,7 @@
 
 import time
 
+from counter_ages import press_to_ticket
 from counter_clerk import ENTER, ESCAPE, TAB, Clerk, at_of
 from countering import Bridge, becomes, holds, same
 
@@ -32,6 +33,12 @@ COST = (
     "const [count, done] = arguments, took = [];"
     f"import('/web/known.js').then(async ({{ feed, known }}) => {{ {LISTS} {ENTRIES}"
     " done(Math.min(...took)); });"
+)
+
+
+FILL = (
+    "const [count, done] = arguments;"
+    f"import('/web/known.js').then(({{ feed, known }}) => {{ {LISTS} done(); }});"
 )
 
 
@@ -233,6 +240,17 @@ def what_an_entry_costs(bridge, clerk):
     clerk.browser.run("const it = document.getElementById('site'); it.scrollTop = it.scrollHeight")
     becomes("all are drawn once one scrolls", lambda: drawn() == ON_SITE + 21)
     clerk.load()
+    clerk.sees("The bridge is empty")
+    press_to_ticket(
+        bridge,
+        clerk,
+        count=5,
+        most=300,
+        before=lambda: clerk.browser.call(
+            "POST", "/execute/async", {"script": FILL, "args": [ON_SITE]}
+        ),
+        where=f" with {ON_SITE} on site",
+    )
 
 
 def show(program, bridge=None):
