@@ -240,6 +240,7 @@ def what_an_entry_costs(bridge, clerk):
     clerk.browser.run("const it = document.getElementById('site'); it.scrollTop = it.scrollHeight")
     becomes("all are drawn once one scrolls", lambda: drawn() == ON_SITE + 21)
     clerk.load()
+    bridge.put(0)
     clerk.sees("The bridge is empty")
     press_to_ticket(
         bridge,
