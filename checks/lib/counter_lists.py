@@ -266,7 +266,10 @@ def kept_tares(bridge):
     )
     same(
         "whoever asks for the plate gets it too",
-        ({"plate": "AB-12", "empty": 5040}, {"plate": "NEW-1", "empty": None}),
+        (
+            {"plate": "AB-12", "empty": 5040, "given": {}},
+            {"plate": "NEW-1", "empty": None, "given": {}},
+        ),
         (bridge.json("GET", "/plates/AB-12"), bridge.json("GET", "/plates/NEW-1")),
     )
     bridge.kill_counter()

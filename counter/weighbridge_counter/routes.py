@@ -89,7 +89,7 @@ class Routes:
                 web.get("/indication", self.hand_on),
                 web.get("/tickets/{number}", self.hand_on),
                 web.get("/entries/" + own, self.entry),
-                web.put("/entries/" + own + "/given", self.give),
+                web.put(r"/entries/{number:[1-9]\d{0,9}}/given", self.give),
                 web.get("/papers", self.papers),
                 web.post(r"/papers/{number:[1-9]\d{0,9}}", self.print_paper),
                 web.post(r"/papers/{number:[1-9]\d{0,9}}/browser", self.paper_for_browser),
