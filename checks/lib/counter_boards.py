@@ -56,6 +56,7 @@ def show(program):
         bridge.kill_service()
         time.sleep(1.3)
         same("without a service condec says so", b"\x02       0KGI", yard.newest())
+        ramp.newest(0.2)  # what was sent before
         same("and toledo sends nothing", None, ramp.newest(1.0))
         bridge.start_service()
         bridge.wait_until_up()

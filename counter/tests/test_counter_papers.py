@@ -7,6 +7,7 @@ import zoneinfo
 from pathlib import Path
 from unittest import mock
 
+from weighbridge_counter.once import void_key
 from weighbridge_counter.papers import MOST_SHOWN, Printing
 from weighbridge_paper import spool
 from weighbridge_paper.layout import Template
@@ -119,6 +120,28 @@ class InTheCounter(unittest.IsolatedAsyncioTestCase):
         self.assertIn(b"Slip 29", self.played.printed[0])
         self.printing.first_of = {}.get
         self.assertIn("Slip 26", texts(await self.printing.for_browser(void.text)), "it is kept")
+
+    async def test_a_vehicle_that_is_weighed_once_has_a_slip_that_says_so_and_no_other_paper(self):
+        slip, void = Sample("first", number=7), Sample("void", number=9)
+        self.printing.passed(slip.text, {"once": "1", "goods": "Kies"})
+        await self.becomes(lambda: len(self.played.printed) == 1)
+        self.assertEqual(
+            [True, True],
+            [it in self.played.printed[0] for it in (b"Weighed once. No second", b"Kies")],
+        )
+        self.printing.passed(void.text, {"key": void_key("page-1")})
+        await self.becomes(lambda: not self.printing.tasks and self.printing.spool.text_of(9))
+        await asyncio.sleep(0.2)
+        self.assertEqual((1, []), (len(self.played.printed), self.printing.jobs))
+        await self.printing.print(void.text, "yard")
+        await self.becomes(lambda: len(self.played.printed) == 2)
+        self.printing.passed(Sample("void", number=11).text, {"key": "page-2"})
+        await self.becomes(lambda: len(self.played.printed) == 3)
+        changed = await self.printing.give(slip.text, {"goods": "Sand"}, True)
+        self.assertEqual({"goods": "Sand"}, changed)
+        again = await self.printing.for_browser(slip.text)
+        said = [it.get("text") for it in again["blocks"]]
+        self.assertIn("Weighed once. No second weighing follows.", said, "it still says so")
 
     async def test_what_was_given_at_the_first_weighing_is_on_the_ticket(self):
         pair = Sample("second", number=8)

@@ -55,7 +55,7 @@ class ALocalDay(unittest.TestCase):
         )
 
     def test_more_entries_than_are_listed_are_summed_all_the_same(self):
-        count = MOST_LISTED + 500
+        count = 2 * MOST_LISTED
         rows = [row(it, "single", f"P{it}", 20000, 8000) for it in range(1, count + 1)]
         found = day_of(Lists.of_export(BERLIN, export(*rows)), NOON)
         self.assertEqual(
