@@ -12,6 +12,9 @@ DIALOGS = {
     "searching": "document.getElementById('find').click()",
     "taring": "[...document.querySelectorAll('#others button')].find(it => it.textContent.startsWith('Tare')).click()",
     "giving": "[...document.querySelectorAll('#others button')].find(it => it.textContent.startsWith('Goods')).click()",
+    "changing": "document.querySelector('#site .menu').click();"
+    " const found = setInterval(() => { const it = [...document.querySelectorAll('#entry[open] button')].find(it => it.textContent.startsWith('Goods'));"
+    " if (it) { clearInterval(found); it.click(); } }, 50)",
     "keeping": "document.getElementById('tares').click()",
     "running": "document.getElementById('serial').click()",
 }
@@ -28,6 +31,7 @@ for (const it of document.querySelectorAll('button, input, select, #save-today')
   if ((a + .05) / (b + .05) < 3) found.push(`${it.tagName}#${it.id}: ${((a + .05) / (b + .05)).toFixed(2)}`);
 }
 return found;"""
+MENU = "Text, print, withdraw"
 SPEAK = "document.dispatchEvent(new KeyboardEvent('keydown', { key: 'w', code: 'KeyW', altKey: true, bubbles: true }))"
 
 
@@ -77,6 +81,18 @@ def show(program, bridge=None):
         same("no region is without one", False, "" in regions)
         headings = [name for role, name in found if role == "heading"]
         same("its headings", ["Kieswerk Wellum", "On site 1"], headings[:2])
+        roles = [role for role, _ in found]
+        same(
+            "two lists, with a row for each vehicle on site and each entry of today",
+            (2, 1 + 3),
+            (roles.count("list"), roles.count("listitem")),
+        )
+        menus = [name for role, name in found if role == "button" and name.endswith(MENU)]
+        same(
+            "each row's menu names its plate and its slip",
+            ["AA-11, Slip 1", "AA-11, Slip 3", "BB-22, Slip 2", "BB-22, Slip 2"],
+            sorted(it.partition(":")[0] for it in menus),
+        )
         rows = [name for role, name in found if role == "button" and "weighing" in name]
         same(
             "a weighing that was withdrawn is named so",

@@ -657,7 +657,9 @@ def a_swap_that_the_page_did_not_see(bridge, clerk):
     bridge.next_vehicle(7000)
     clerk.keys(ESCAPE + "UNSEEN-1")
     clerk.sees("Ready.")
-    clerk.browser.run("document.getElementById('goods').value = 'Gravel'")
+    clerk.browser.run(
+        "const it = document.getElementById('goods'); it.value = 'Gravel'; it.dispatchEvent(new Event('input'))"
+    )
     bridge.converter.is_silent = True
     clerk.sees("The scale gives no weight.")
     time.sleep(9)
