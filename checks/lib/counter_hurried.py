@@ -700,6 +700,11 @@ def a_window_that_another_vehicle_finds_open(bridge, clerk):
             words,
         )
         becomes(f"{words}: the window is there", lambda focus=focus: clerk.focus() == focus)
+        clerk.browser.run(
+            """window.seen = [];
+            const words = document.getElementById('words');
+            new MutationObserver(() => window.seen.push(words.textContent)).observe(words, { childList: true, characterData: true, subtree: true });"""
+        )
         bridge.next_vehicle(8000)
         nothing_comes_of(
             bridge,
@@ -708,7 +713,8 @@ def a_window_that_another_vehicle_finds_open(bridge, clerk):
             lambda: clerk.browser.hammer("3000" + TEN, 0.1),
             "",
         )
-        clerk.sees("The vehicle has left the bridge. WI-ND-1 was removed", what="and it says why")
+        why = "The vehicle has left the bridge. WI-ND-1 was removed from the form."
+        same("and it says why", True, why in clerk.browser.run("return window.seen"))
         same(
             "nothing of it stays for the next paper",
             "",

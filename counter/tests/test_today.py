@@ -17,6 +17,7 @@ from weighbridge_counter.pages import Page
 from weighbridge_counter.setup import Setup
 from weighbridge_counter.tares import Kept
 from weighbridge_counter.today import MOST_LISTED, day_of, midnight, table_of, whole_day_of
+from weighbridge_counter.values import Value
 
 from .test_lists import BERLIN, export, row
 
@@ -142,6 +143,33 @@ class ALocalDay(unittest.TestCase):
             ["", "", "in", "out", "", "", "", "", "", "out"],
             [it["direction"] for it in found["entries"]],
         )
+
+
+class BeforeAWeight(unittest.IsolatedAsyncioTestCase):
+    async def test_a_page_knows_whose_a_tare_is_and_what_stood_there_before_it_has_the_weight(self):
+        folder = tempfile.TemporaryDirectory()
+        self.addCleanup(folder.cleanup)
+        counter = Counter(Setup(Path(folder.name), zone=BERLIN))
+        told, fanout = [], counter.terminal.fanout
+        counter.pages.tell = lambda name, what: told.append((name, what["tare"], what["off_zero"]))
+        counter.pages.tell_weight = lambda what: told.append(("weight", what["tare"]))
+        at = 1000.0
+
+        def comes(kg, tare, seconds=1.0):
+            nonlocal at
+            at += seconds
+            told.clear()
+            value = Value("S", kg - tare, at)
+            fanout.link, fanout.value, fanout.tare = "up", value, tare
+            counter._take_value(value)
+            return [it[:2] for it in told]
+
+        self.assertEqual([("state", 0), ("weight", 0)], comes(0, 0))
+        self.assertEqual([("weight", 0)], comes(0, 0))
+        self.assertEqual([("state", 5000), ("weight", 5000)], comes(0, 5000), "a tare is set")
+        self.assertEqual([("state", 0), ("weight", 0)], comes(0, 0), "and cleared")
+        self.assertEqual([("state", 0), ("weight", 0)], comes(9000, 0), "a vehicle came")
+        self.assertEqual(0, counter.told_state["off_zero"]["before"])
 
 
 class Midnight(unittest.IsolatedAsyncioTestCase):
