@@ -289,15 +289,16 @@ def by_the_browser(program, pictures, looked_at):
             clerk.sees("Type the plate.")
             clerk.keys("HB-KW-77")
             clerk.sees("Ready.")
-            press(clerk, "#others", "Goods, order, driver")
-            same("the dialog asks for the goods", "goods", clerk.focus())
-            clerk.keys("Kies 0/16" + ENTER)
+            if load == 9170:
+                press(clerk, "#others", "Goods, order, driver")
+                same("the dialog asks for the goods", "goods", clerk.focus())
+                clerk.keys("Kies 0/16" + ENTER)
             becomes(
-                "what was given stands on the button",
+                "what was given stands on the button, at both weighings",
                 lambda: "On the printout: Kies 0/16" in clerk.browser.text("#others"),
             )
             # Enter doesn't react for 0.7 s after a dialog
-            time.sleep(0.8)
+            time.sleep(1.2)
             clerk.keys(ENTER)
             clerk.sees(
                 "HB-KW-77" if load == 9170 else "net 10,200 kg", what="it is weighed"
