@@ -30,7 +30,7 @@ TRY_AGAIN_AFTER = 0.3  # seconds
 LOOK_WITHIN = 5.0  # seconds
 TARE = re.compile(r"[1-9]\d{0,6}")
 P = ParamSpec("P")
-# The free lines stand on paper alone. That a vehicle is weighed once, and when the clerk pressed, is the counter's own.
+# The free lines are only for the paper. That a vehicle is weighed once, and when the clerk pressed, is the counter's own.
 NOT_FOR_THE_OFFICE = tuple(f"{it}=".encode() for it in (*FREE_LINES, "once", "at"))
 PRESSED_WITHIN = 3.0  # seconds: an older press never begins, because another vehicle may be there
 MOMENT = re.compile(r"\d{1,15}")  # in milliseconds of the counter's clock

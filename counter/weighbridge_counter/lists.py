@@ -101,7 +101,7 @@ class Lists:
         return self.digest_of(number) != text.own.digest
 
     def passed(self, text: Text, place: int = 0, key: str = "") -> tuple[Entry, bool]:
-        """Takes a text that the office answered with 201, and the key of its request. Gives its entry, and whether it is new here."""
+        """Take a text for which the office returned 201, and the key of its request. Return its entry, and whether it is new here."""
         entry = entry_of_text(text)
         self.texts[entry.number], self.places[entry.number] = text, place
         self.keys[entry.number] = key

@@ -189,7 +189,7 @@ class Printing:
     # ---- what is asked
 
     def passed(self, letters: str, asked: Mapping[str, str]) -> None:
-        """A weighing's text, as the office answered it, and the request's fields. One that comes again isn't printed again."""
+        """Note the text that the office returned for a request with these fields, and print it. A text that comes again isn't printed again."""
         try:
             text = read_text(letters)
             own = text.own.number
