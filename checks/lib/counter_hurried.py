@@ -556,35 +556,38 @@ def an_early_enter(bridge, clerk):
         keys = clerk.browser.run("return window.weighed")
         same("under a new key", (2, 2), (len(keys), len(set(keys))))
 
-    # once more, but the vehicle leaves meanwhile, and another one drives on
-    bridge.put(0)
-    bridge.put(7000)
-    before = rows(bridge)
-    clerk.keys(ESCAPE + ESCAPE + "FL-HH-99")
-    clerk.sees("Ready.")
-    clerk.browser.run(
-        """window.weighed = [];
-        window.fetch = async (target, how) => {
-          if (target.endsWith('/weighings')) await new Promise(done => setTimeout(done, 4000));
-          return window.realFetch(target, how);
-        }"""
-    )
-    clerk.keys(ENTER)
-    bridge.put(0)
-    bridge.converter.load, bridge.converter.sway = 8000, 100
-    clerk.sees(
-        "Not sent: it came too late.",
-        what="another vehicle sways there when the press comes to the counter",
-    )
-    stands(8000)
-    time.sleep(2.5)
-    same(
-        "it isn't weighed by that press, and the plate isn't in the form",
-        ([], ""),
-        (rows(bridge)[len(before) :], clerk.plate()),
-    )
-    clerk.browser.run("window.fetch = window.realFetch")
-    clerk.keys(ESCAPE + ESCAPE)
+    # once more, but the vehicle leaves meanwhile, and another one drives on; a page that doesn't say when it pressed asks the office
+    for says_when, words in ((True, "Not sent: it came too late."), (False, "It is still moving.")):
+        bridge.put(0)
+        bridge.put(7000)
+        before = rows(bridge)
+        clerk.keys(ESCAPE + ESCAPE + "FL-HH-99")
+        clerk.sees("Ready.")
+        clerk.browser.run(
+            """const saysWhen = arguments[0];
+            window.weighed = [];
+            window.fetch = async (target, how) => {
+              if (target.endsWith('/weighings')) {
+                await new Promise(done => setTimeout(done, 4000));
+                if (!saysWhen) how.body.delete('at');
+              }
+              return window.realFetch(target, how);
+            }""",
+            says_when,
+        )
+        clerk.keys(ENTER)
+        bridge.put(0)
+        bridge.converter.load, bridge.converter.sway = 8000, 100
+        clerk.sees(words, what=f"another vehicle sways there when the press comes: {words}")
+        stands(8000)
+        time.sleep(2.5)
+        same(
+            "it isn't weighed by that press, and the plate isn't in the form",
+            ([], ""),
+            (rows(bridge)[len(before) :], clerk.plate()),
+        )
+        clerk.browser.run("window.fetch = window.realFetch")
+        clerk.keys(ESCAPE + ESCAPE)
 
 
 def letters_before_the_answer(bridge, clerk):
