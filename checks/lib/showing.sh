@@ -1,3 +1,4 @@
+# shellcheck shell=bash
 # How a check in the shell shows what it shows: by a line for each thing, or by both texts if they differ. A check sources it at its head, and may
 # define `failing`, which tells more before it ends.
 check=$(basename "$0")
