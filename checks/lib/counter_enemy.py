@@ -128,7 +128,9 @@ class Day:
         self.over_silence(self.bridge.kill_counter, self.bridge.start_counter)
 
     def the_tab_is_hidden(self):
-        hide = lambda it: self.clerk.browser.run(HIDE, it)
+        def hide(it):
+            return self.clerk.browser.run(HIDE, it)
+
         self.over_silence(lambda: hide(True), lambda: hide(False))
 
     def the_service_is_killed(self):

@@ -317,7 +317,9 @@ def a_small_net(bridge, clerk):
 
 
 def off_zero(bridge, clerk):
-    put = lambda load: setattr(bridge.converter, "load", load)
+    def put(load):
+        bridge.converter.load = load
+
     put(80)
     clerk.sees("The bridge is empty", 8, "160 kg on the empty bridge: at first it is called empty")
     began = time.monotonic()

@@ -241,7 +241,10 @@ def kept_tares(bridge):
         )
     bridge.kill_counter()
     bridge.start_counter()
-    kept = lambda: next(it for name, it in bridge.events(1.0) if name == "tares")
+
+    def kept():
+        return next(it for name, it in bridge.events(1.0) if name == "tares")
+
     shown = {"kg": 5000, "by": "anna", "is_over": False, "used": None, "empty": None}
     same(
         "it is there after a start, with the clerk who kept it",
@@ -286,7 +289,10 @@ def kept_tares(bridge):
 def a_full_journal(program):
     """Show that the counter says how long the journal has room, and when no vehicle can be weighed in."""
     bridge = Bridge(program, 20, capacity=8).start_counter()
-    told = lambda: bridge.health()["state"]["room"]
+
+    def told():
+        return bridge.health()["state"]["room"]
+
     try:
         empty = {"places": 8, "days": None, "is_low": False, "is_full": False}
         becomes("an empty journal has all its places", lambda: told() == empty)

@@ -178,7 +178,10 @@ def search_and_withdraw_by_keyboard(bridge, clerk):
 
 def which_program_weighs(bridge, clerk):
     """The serial opens what an inspector asks for: program, kit, sources, setup, and the newest entry with its digest."""
-    facts = lambda: clerk.browser.run("return document.getElementById('facts').innerText")
+
+    def facts():
+        return clerk.browser.run("return document.getElementById('facts').innerText")
+
     newest = bridge.entries()[-1]
     clerk.browser.click("#serial")
     becomes("the version is there", lambda: "weighbridge " in facts())

@@ -16,7 +16,10 @@ def write(program, folder):
     bridge = Bridge(program, 10, settings=SETTINGS).start_counter()
     clerk = Clerk(at_of(bridge.http), None, 1000, 640)
     how = {"width": 1000, "height": 640, "deviceScaleFactor": 0.7, "mobile": False}
-    small = lambda: clerk.browser.tool("Emulation.setDeviceMetricsOverride", **how)
+
+    def small():
+        return clerk.browser.tool("Emulation.setDeviceMetricsOverride", **how)
+
     small()
 
     def weigh(plate, load):

@@ -143,7 +143,7 @@ def a_press_that_lasts(bridge, clerk):
         "the row is the same part of the page",
         [True, plate],
         clerk.browser.run(
-            f"return [window.pressed.isConnected, window.pressed.querySelector('.plate').textContent]"
+            "return [window.pressed.isConnected, window.pressed.querySelector('.plate').textContent]"
         ),
     )
     clerk.browser.mouse(
@@ -224,7 +224,9 @@ def the_day(bridge, clerk):
 
 
 def what_an_entry_costs(bridge, clerk):
-    drawn = lambda: clerk.browser.run("return document.querySelectorAll('#site .main').length")
+    def drawn():
+        return clerk.browser.run("return document.querySelectorAll('#site .main').length")
+
     took = clerk.browser.call("POST", "/execute/async", {"script": COST, "args": [ON_SITE]})
     holds(
         f"with {ON_SITE} on site an entry costs the page's thread less than {MOST_MILLISECONDS} ms",

@@ -145,7 +145,7 @@ def newest_reads_few(it, folder):
     lines = [book.line(number) + "\n" for number in range(15_900, 16_011)]
     with open(book.write(f"{folder}/growth.csv", 0), "a") as out:
         out.writelines(lines)
-    read = "SELECT sum(seq_tup_read + idx_tup_fetch) FROM pg_stat_user_tables WHERE relname IN ('finding', 'load', 'refusal') OR relname LIKE 'entry\_%'"
+    read = "SELECT sum(seq_tup_read + idx_tup_fetch) FROM pg_stat_user_tables WHERE relname IN ('finding', 'load', 'refusal') OR relname LIKE 'entry\\_%'"
     time.sleep(1)
     before = it.told(read, user=clusters.OWNER)
     status, said = it.cluster.run(
@@ -1804,7 +1804,7 @@ def show_pages(office, folder):
     for count in (5, 50, 200):
         it.told(
             f"INSERT INTO head_office.bridge (bridge, retention_days) SELECT 'B' || g, 90 FROM generate_series(1, {count}) g ON CONFLICT DO NOTHING",
-            f"INSERT INTO head_office.journal (bridge) SELECT bridge FROM head_office.bridge WHERE bridge NOT IN (SELECT bridge FROM head_office.journal)",
+            "INSERT INTO head_office.journal (bridge) SELECT bridge FROM head_office.bridge WHERE bridge NOT IN (SELECT bridge FROM head_office.journal)",
             "INSERT INTO head_office.load (journal, records, added, findings, new_findings) SELECT journal, 0, 0, 0, 0 FROM head_office.journal",
             "UPDATE head_office.standing SET whole_at = now()",
             "INSERT INTO head_office.day_sum SELECT current_date - d, bridge, 100, 1234567, 1000000 + d * 1000 * length(bridge), 1, 2, 3 FROM head_office.bridge, generate_series(1, 30) d ON CONFLICT DO NOTHING",

@@ -276,7 +276,7 @@ class Maker:
         return lines
 
     def office(self):
-        pick, whole = self.random.choice, self.random.randint
+        pick = self.random.choice
         chance = self.random.random()
         moment = self.clock()
         if chance < 0.45:
@@ -333,7 +333,7 @@ class Maker:
 
     def tidy_http(self):
         """A right request but for its length or its form."""
-        pick, whole = self.random.choice, self.random.randint
+        pick = self.random.choice
         body = pick(
             [
                 self.form().encode(),
@@ -459,7 +459,7 @@ class Maker:
         return data or b"\n"
 
     def trace(self):
-        pick, whole = self.random.choice, self.random.randint
+        pick = self.random.choice
         lines = []
         for _ in range(pick([5, 20, 40, 60])):
             chance = self.random.random()

@@ -102,9 +102,10 @@ class InTheCounter(unittest.IsolatedAsyncioTestCase):
     async def test_a_void_names_its_first_outside_the_legal_text(self):
         void, first = Sample("void", number=27), Sample("first", number=28)
         self.printing.first_of = {27: 26, 28: 3, 30: 29}.get
-        texts = lambda paper: [
-            it.get("text", "") for it in paper["blocks"] if it["is"] in ("line", "rule")
-        ]
+
+        def texts(paper):
+            return [it.get("text", "") for it in paper["blocks"] if it["is"] in ("line", "rule")]
+
         said = texts(await self.printing.for_browser(void.text))
         self.assertIn("Slip 26", said)
         self.assertNotIn("Given by the clerk. No part of the weighing.", said)

@@ -38,7 +38,7 @@ from weighbridge_demo.pace import MOST_LATE, PERIOD, Pace
 from weighbridge_demo.player import Player
 from weighbridge_paper.escpos import Roll
 from weighbridge_paper.forms import FORMS
-from weighbridge_paper.layout import Code, Legal, Line, Mark, Paper, Template, blocks_of
+from weighbridge_paper.layout import Legal, Line, Mark, Paper, Template, blocks_of
 from weighbridge_paper.page import page_of
 from weighbridge_paper.pdf import marks_of
 from weighbridge_paper.reader import SetupFault

@@ -4,7 +4,7 @@ import random
 import unittest
 
 from weighbridge_counter.fanout import PATIENCE, REPEAT_AFTER, REPLY_WITHIN
-from weighbridge_counter.values import Value, reply_of, value_of
+from weighbridge_counter.values import reply_of, value_of
 
 from .played import Asker, PlayedTerminal
 

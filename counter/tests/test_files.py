@@ -70,8 +70,7 @@ class TheWayToTheDisk(unittest.TestCase):
 
     def calls_of(self, work):
         """Return what reaches the disk, in its order."""
-        names, calls, real = (
-            {},
+        calls, real = (
             [],
             SimpleNamespace(open=os.open, fsync=os.fsync, replace=os.replace, unlink=os.unlink),
         )

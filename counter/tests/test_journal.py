@@ -309,7 +309,7 @@ class AnotherJournal(WithBooks):
         )
 
     async def test_a_text_of_it_begins_the_lists_again_at_once(self):
-        journal = await self.begin()
+        await self.begin()
         other = PlayedJournal("new")
         self.office.journal = other
         self.passes(other.weigh("N-1"))

@@ -1,6 +1,5 @@
 """Vehicles that are weighed once: the First is noted before it goes out, and withdrawn once, when the plate comes again or on another day."""
 
-import asyncio
 import datetime
 import tempfile
 import unittest

@@ -12,7 +12,7 @@ from types import SimpleNamespace
 from unittest import mock
 
 from weighbridge_counter import boards
-from weighbridge_counter.boards import Line, Listener, Sender, open_board
+from weighbridge_counter.boards import Line, Listener, Sender
 from weighbridge_counter.scoreboard import FORMS, NOTHING, Shown, shown_of
 from weighbridge_counter.setup import Board, SetupFault, read_setup
 from weighbridge_counter.values import Value

@@ -191,7 +191,10 @@ class Midnight(unittest.IsolatedAsyncioTestCase):
         counter, now = Counter(Setup(Path(folder.name), zone=BERLIN)), [NOON]
         page, counter.day = Page([], lambda: None), NOON.date()
         counter.pages.add(page)
-        told = lambda: re.findall(r"event: (lists|tares)", b"".join(page.frames).decode())
+
+        def told():
+            return re.findall(r"event: (lists|tares)", b"".join(page.frames).decode())
+
         with (
             mock.patch.object(counter, "now", lambda: now[0]),
             mock.patch("weighbridge_counter.counter.STATE_EVERY", 0.001),

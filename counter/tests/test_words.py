@@ -349,9 +349,12 @@ class OfAnOperator(unittest.TestCase):
         setup.write_text(
             'spool = "/tmp/x"\nlanguage = "it"\n[[printer]]\nname = "yard"\nto = "usb:/dev/usb/lp0"\n'
         )
-        fault = lambda language: words.fault_of(language, self.folder)
+
+        def fault_of(language):
+            return words.fault_of(language, self.folder)
+
         with mock.patch("weighbridge_paper.printers.LANGUAGES", ("en", "it")), mock.patch(
-            "weighbridge_paper.printers.fault_of", fault
+            "weighbridge_paper.printers.fault_of", fault_of
         ):
             with self.assertRaises(SetupFault) as caught:
                 read_papers(setup)

@@ -71,7 +71,8 @@ async def run_all(counter: Counter, senders: Sequence[Sender]) -> None:
 async def serve(setup: Setup) -> None:
     counter = Counter(setup)
     with of_address("listen", setup.listen):
-        server = await listen(Routes(counter, FOLDER).application(), setup.listen)
+        # a name holds the server until the end
+        server = await listen(Routes(counter, FOLDER).application(), setup.listen)  # noqa: F841
     ports = []
     for port in setup.ports:
         with of_address(f"port {port.name}", port.listen):
