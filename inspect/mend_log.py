@@ -22,6 +22,8 @@ Status 0: it wrote a repaired copy, and nothing is wrong with it.
 Status 1: it wrote nothing, because nothing is damaged or no single bits repair it. Or something is still wrong with the copy.
 Status 2: it can't read or write a file.
 """
+from __future__ import annotations  # the oldest Python that is enough for this program is 3.8
+
 import argparse
 import hashlib
 import os
@@ -31,6 +33,7 @@ import struct
 import subprocess
 import sys
 import tempfile
+from collections.abc import Iterable, Iterator
 
 sys.dont_write_bytecode = True  # so that Python writes nothing next to this program
 sys.path.insert(0, os.path.dirname(os.path.realpath(__file__)))
@@ -46,7 +49,7 @@ MOST_BITS, MOST_WAYS = 8, 64
 class Log(verify.Log):
     """The bytes of a log, and where a repair may go."""
 
-    def is_end(self, at):
+    def is_end(self, at: int) -> bool:
         """Return True if the log may end at byte `at`, because a frame there was never finished or is of an earlier log."""
         frame = self.data[at : at + self.length]
         return (
@@ -55,7 +58,7 @@ class Log(verify.Log):
             or sum(a != b for a, b in zip(frame[8:16], self.salts)) > 1
         )
 
-    def is_counted(self, at):
+    def is_counted(self, at: int) -> bool:
         """Return True if the commit with the frame at byte `at` counts nothing, or has what it counted.
 
         It counts its zeros, and how far its numbers are below the number of the frame that counts.
@@ -83,14 +86,14 @@ class Log(verify.Log):
             self.data[begin + FRAME_HEADER : begin + FRAME_HEADER + 8], "big"
         )
 
-    def first_damage(self):
+    def first_damage(self) -> int | None:
         """Return the byte where the first frame that isn't whole begins. Return None if each frame up to the log's end is whole."""
         at = HEADER
         while self.is_whole(at):
             at += self.length
         return None if self.is_end(at) and not self.signed_behind(at + self.length) else at
 
-    def refusal(self, size):
+    def refusal(self, size: int) -> str | None:
         """Return why the program refuses this log of a journal file of `size` bytes. Return None if it accepts the log.
 
         The program checks more than SQLite, and accepts less.
@@ -98,7 +101,9 @@ class Log(verify.Log):
         damage = self.damage(size)
         stop = self.first_stop() if damage is None and self.is_signed() else None
         if stop is not None:
-            salts = self.frame(stop[0])[8:16]
+            frame = self.frame(stop[0])
+            assert frame is not None  # the log has it whole
+            salts = frame[8:16]
             is_open = salts[0] == self.salts[0]
             if (is_open and not self.is_torn(*stop)) or (
                 not is_open and salts[0] != 0 and salts[1:] == self.salts[1:]
@@ -109,14 +114,14 @@ class Log(verify.Log):
         return damage
 
 
-def turned(data, bit):
+def turned(data: bytes, bit: int) -> bytes:
     """Return the data with one bit turned over."""
     other = bytearray(data)
     other[bit // 8] ^= 1 << bit % 8
     return bytes(other)
 
 
-def is_mended_at(log, at):
+def is_mended_at(log: Log, at: int) -> bool:
     """Return True if the frame at byte `at` and the next one are whole, and its commit has what it counted.
 
     If the log ends behind the frame, there needn't be a next one.
@@ -128,7 +133,7 @@ def is_mended_at(log, at):
     )
 
 
-def bits_of_header(data):
+def bits_of_header(data: bytes) -> list[int]:
     """Return each bit of the header that, turned over, makes the header and the first frame whole.
 
     If there is none, return each bit that makes the header itself whole.
@@ -137,7 +142,7 @@ def bits_of_header(data):
     return [bit for bit in whole if is_mended_at(Log(turned(data, bit)), HEADER)] or whole
 
 
-def bits_of_frame(log, at):
+def bits_of_frame(log: Log, at: int) -> list[int]:
     """Return each bit of the frame at byte `at` that, turned over, makes this frame and the next one whole.
 
     If there is none, return each bit that makes the frame itself whole.
@@ -159,7 +164,7 @@ def bits_of_frame(log, at):
     return [bit for bit in whole if is_mended_at(Log(turned(log.data, bit)), at)] or whole
 
 
-def bits_by_checksum(order, content, first, second):
+def bits_by_checksum(order: str | None, content: bytes, first: int, second: int) -> Iterator[int]:
     """Yield each bit of the content that, turned over, makes the two sums of its checksum greater by `first` and `second`.
 
     A checksum is a sum in which each word has two weights of its own.
@@ -183,7 +188,7 @@ class Stuck(Exception):
     """Raised if no single bits repair the log."""
 
 
-def ways(data, bits=()):
+def ways(data: bytes, bits: tuple[int, ...] = ()) -> list[tuple[int, ...]]:
     """Return each way to make the log whole with one bit in each damaged place, as a tuple of bits. Raises Stuck if a place has no such bit."""
     log = Log(data)
     at = log.first_damage() if log.is_signed() else 0
@@ -207,17 +212,17 @@ def ways(data, bits=()):
     return made
 
 
-def where_of(at):
+def where_of(at: int) -> str:
     return f"the frame from byte {at}" if at else "the header"
 
 
-def with_bits(data, bits):
+def with_bits(data: bytes, bits: Iterable[int]) -> bytes:
     for bit in bits:
         data = turned(data, bit)
     return data
 
 
-def faults_of(files):
+def faults_of(files: dict[str, bytes]) -> list[str]:
     """Return what verify.py finds wrong with a journal of these files, and what SQLite finds wrong with the database."""
     with tempfile.TemporaryDirectory() as folder:
         path = os.path.join(folder, "journal.db")
@@ -236,7 +241,7 @@ def faults_of(files):
         return [it.replace(path, "the copy") for it in found]
 
 
-def stands_again(log, at):
+def stands_again(log: Log, at: int) -> bool:
     """Return True if a later commit of the log wrote the page of the frame at byte `at` again."""
     page, it, last = log.data[at : at + 4], at + log.length, 0
     while log.is_whole(it):
@@ -247,7 +252,7 @@ def stands_again(log, at):
     return False
 
 
-def flipped_bits(files):
+def flipped_bits(files: dict[str, bytes]) -> tuple[int, ...]:
     """Return the bits of the log that are flipped. End the program if they can't be found."""
     data = files["-wal"]
     if len(data) < HEADER:
@@ -279,13 +284,13 @@ def flipped_bits(files):
     return found[0]
 
 
-def place_of(log, bit):
+def place_of(log: Log, bit: int) -> int:
     """Return the byte where the frame with this bit begins. Return 0 for the header."""
     byte = bit // 8
     return 0 if byte < HEADER else byte - (byte - HEADER) % log.length
 
 
-def asked_program(program, copy):
+def asked_program(program: str | None, copy: str) -> list[str]:
     """Return what the program says about a copy that it refuses. Return an empty list if it accepts the copy, or if `program` is None."""
     if program is None:
         return []
@@ -302,19 +307,19 @@ def asked_program(program, copy):
     )
 
 
-def read(path):
+def read(path: str) -> bytes:
     with open(path, "rb") as it:
         return it.read()
 
 
-def write(path, data):
+def write(path: str, data: bytes) -> None:
     with open(os.open(path, os.O_WRONLY | os.O_CREAT | os.O_EXCL, 0o600), "wb") as it:
         it.write(data)
         it.flush()
         os.fsync(it.fileno())
 
 
-def mend(path, folder, program):
+def mend(path: str, folder: str, program: str | None) -> int:
     """Write the repaired copy, and print what was done and what is still wrong. Return the exit status."""
     data = {end: read(path + end) for end in BESIDE if end == "-wal" or os.path.exists(path + end)}
     if not data.get(""):
@@ -344,14 +349,14 @@ def mend(path, folder, program):
     print(f"damaged log, SHA-256 {hashlib.sha256(before).hexdigest()}")
     print(f"repaired log, SHA-256 {hashlib.sha256(data['-wal']).hexdigest()}")
     left = faults_of(data) + asked_program(program, copy)
-    for it in left:
-        print(f"still wrong: {it}")
+    for fault in left:
+        print(f"still wrong: {fault}")
     print(f"the copy is {copy}; check it by: weighbridge check --file {copy}")
     print("show both to the inspector before a service uses the copy")
     return 1 if left else 0
 
 
-def main():
+def main() -> int:
     parser = argparse.ArgumentParser(
         description=__doc__, formatter_class=argparse.RawDescriptionHelpFormatter
     )
