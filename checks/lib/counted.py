@@ -3,7 +3,7 @@
 counts = [0, 0]
 
 
-def case(name, is_so, found=""):
+def case(name: str, is_so: object, found: object = "") -> None:
     counts[0 if is_so else 1] += 1
     print(
         f"{'ok    ' if is_so else 'FAILED'} {name}{'' if is_so else f': {found!r:.1000}'}",
@@ -11,5 +11,5 @@ def case(name, is_so, found=""):
     )
 
 
-def same(name, wanted, found):
+def same(name: str, wanted: object, found: object) -> None:
     case(name, wanted == found, found)

@@ -3,15 +3,15 @@
 import os
 import sys
 
-failures = []
+failures: list[str] = []
 
 
-def holds(what, is_so):
+def holds(what: str, is_so: object) -> None:
     if not is_so:
         failures.append(what)
 
 
-def end():
+def end() -> int:
     """Tells what was gathered. The status of the check."""
     name = os.path.basename(sys.argv[0])
     for it in failures:

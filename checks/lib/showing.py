@@ -4,11 +4,13 @@ import os
 import shutil
 import sys
 import time
+from collections.abc import Callable
+from typing import NoReturn
 
 NAME = os.path.basename(sys.argv[0])
 
 
-def skip_without(*tools):
+def skip_without(*tools: str) -> None:
     """Ends the check where a tool is not installed."""
     for tool in tools:
         if shutil.which(tool) is None:
@@ -16,18 +18,18 @@ def skip_without(*tools):
             raise SystemExit(0)
 
 
-def fail(words):
+def fail(words: str) -> NoReturn:
     raise SystemExit(f"{NAME}: {words}")
 
 
-def same(what, wanted, found):
+def same(what: str, wanted: object, found: object) -> None:
     """Fails where the two differ."""
     if wanted != found:
         fail(f"{what}\nwanted: {wanted}\nfound:  {found}")
     print(f"{what}: ok", flush=True)
 
 
-def becomes(what, wanted, look, seconds=20):
+def becomes(what: str, wanted: object, look: Callable[[], object], seconds: float = 20) -> None:
     """Looks again and again until it finds what is wanted."""
     until = time.monotonic() + seconds
     found = look()
