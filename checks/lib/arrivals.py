@@ -20,23 +20,23 @@ ESTABLISHED, SYN_SENT, SYN_RECEIVED, FIN_WAIT, CLOSE_WAIT, LISTENS = (
 class Arrivals(threading.Thread):
     """Notes, for each connection to a port of this machine, when a poll first found a byte in its socket, or that the service had accepted it."""
 
-    def __init__(self, port):
+    def __init__(self, port: int) -> None:
         super().__init__(daemon=True)
         self.own = f"0100007F:{port:04X}"
-        self.came = {}  # by the client's port
+        self.came: dict[int, float] = {}  # by the client's port
         self.waiting = 0  # connections in the listener's queue at the last poll
         self.sockets = 0  # of both sides before their end, at the last poll
         self.polled = threading.Event()
         self.over = threading.Event()
         self.start()
 
-    def run(self):
+    def run(self) -> None:
         while not self.over.is_set():
             self.poll()
             self.polled.set()
             time.sleep(LOOK)
 
-    def poll(self):
+    def poll(self) -> None:
         now, sockets = time.monotonic(), 0
         with open("/proc/net/tcp") as it:
             rows = [line.split()[1:10] for line in it]
@@ -54,14 +54,14 @@ class Arrivals(threading.Thread):
                     self.came.setdefault(int(other.partition(":")[2], 16), now)
         self.sockets = sockets
 
-    def since(self, port, sent):
+    def since(self, port: int, sent: float) -> float:
         """Returns when the system had the request that the client at this port sent. A request that the service answered between two polls had no delay."""
         return max(sent, self.came.get(port, sent))
 
-    def next_poll(self):
+    def next_poll(self) -> None:
         self.polled.clear()
         self.polled.wait(10)
 
-    def close(self):
+    def close(self) -> None:
         self.over.set()
         self.join()

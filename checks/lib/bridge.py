@@ -9,17 +9,33 @@ import socket
 import subprocess
 import threading
 import time
+from collections.abc import Callable
+from typing import IO, Any, Protocol
 
 HOST = "127.0.0.1"
+Answer = tuple[int, str]  # the status and the body
 
 
-def free_port():
+class HasOffice(Protocol):
+    """A program with the port where it listens for requests of the office."""
+
+    office: int
+
+
+class HasTerminal(Protocol):
+    """A program with the port where it listens for clients of the terminal."""
+
+    terminal: int
+
+
+def free_port() -> int:
     with socket.socket() as it:
         it.bind((HOST, 0))
-        return it.getsockname()[1]
+        port: int = it.getsockname()[1]
+        return port
 
 
-def sizes_of(process):
+def sizes_of(process: subprocess.Popen[Any]) -> tuple[int, float]:
     """The memory of the process in kB and its processor time in seconds."""
     with open(f"/proc/{process.pid}/stat") as it:
         fields = it.read().rpartition(")")[2].split()
@@ -32,22 +48,24 @@ def sizes_of(process):
 class Converter(threading.Thread):
     """Sends a line so many times a second, as long as it isn't told to be silent. The line is what `load` gives for its number."""
 
-    def __init__(self, rate=10.0, load=lambda number: 0):
+    def __init__(
+        self, rate: float = 10.0, load: Callable[[int], object] = lambda number: 0
+    ) -> None:
         super().__init__(daemon=True)
         self.listener = socket.create_server((HOST, 0))
-        self.port = self.listener.getsockname()[1]
+        self.port: int = self.listener.getsockname()[1]
         self.source = f"tcp:{HOST}:{self.port}"
         self.rate, self.load = rate, load
-        self.sent = []  # when each line was sent
+        self.sent: list[float] = []  # when each line was sent
         self.speaks = threading.Event()
         self.speaks.set()
         self.ended = threading.Event()
 
-    def begin(self):
+    def begin(self) -> None:
         if not self.is_alive():
             self.start()
 
-    def run(self):
+    def run(self) -> None:
         stream, _ = self.listener.accept()
         stream.setsockopt(socket.IPPROTO_TCP, socket.TCP_NODELAY, 1)
         due = time.monotonic()
@@ -64,7 +82,7 @@ class Converter(threading.Thread):
             pass
         stream.close()
 
-    def close(self):
+    def close(self) -> None:
         self.ended.set()
         self.speaks.set()
 
@@ -72,11 +90,11 @@ class Converter(threading.Thread):
 class Played(Converter):
     """Sends the load that is on the bridge now."""
 
-    def __init__(self, rate=10.0):
+    def __init__(self, rate: float = 10.0) -> None:
         super().__init__(rate, load=lambda number: self.now)
         self.now = 0
 
-    def put(self, load, lines=12):
+    def put(self, load: int, lines: int = 12) -> None:
         """Puts a load on the bridge, and waits until so many lines of it were sent, or nobody takes them any more."""
         self.now = load
         wanted = len(self.sent) + lines
@@ -87,22 +105,24 @@ class Played(Converter):
 class Fed:
     """A converter that sends the loads that it is given, at once."""
 
-    def __init__(self):
+    def __init__(self) -> None:
         self.listener = socket.create_server((HOST, 0))
         self.source = f"tcp:{HOST}:{self.listener.getsockname()[1]}"
-        self.stream = None
+        self.stream: socket.socket | None = None
 
-    def begin(self):
+    def begin(self) -> None:
         if self.stream is not None:
             return
         self.listener.settimeout(30)
         self.stream, _ = self.listener.accept()
         self.stream.setsockopt(socket.IPPROTO_TCP, socket.TCP_NODELAY, 1)
 
-    def send(self, *loads):
+    def send(self, *loads: int) -> None:
+        assert self.stream is not None  # begin accepted it
         self.stream.sendall(b"".join(b"%d\n" % load for load in loads))
 
-    def close(self):
+    def close(self) -> None:
+        assert self.stream is not None  # begin accepted it
         self.stream.close()
         self.listener.close()
 
@@ -112,15 +132,15 @@ class Service:
 
     def __init__(
         self,
-        program,
-        file,
-        converter,
-        *options,
-        turns=1_000_000_000,
-        limit=None,
-        errors=subprocess.PIPE,
-    ):
-        """`limit` is called in the new process before the program begins; `errors` is its standard error."""
+        program: str,
+        file: str,
+        converter: Any,
+        *options: str,
+        turns: int = 1_000_000_000,
+        limit: Callable[[], object] | None = None,
+        errors: int | IO[Any] | None = subprocess.PIPE,
+    ) -> None:
+        """Start it. `converter` is any with a `source` and a `begin`, and may have more that a check uses. `limit` is called in the new process before the program begins; `errors` is its standard error."""
         self.converter = converter
         self.terminal, self.office = free_port(), free_port()
         words = [
@@ -148,7 +168,7 @@ class Service:
             # The service answers once it has polled its converter for a second, so all that is sent from now on is new.
             get(self, "/indication")
 
-    def wait_for_office(self):
+    def wait_for_office(self) -> None:
         until = time.monotonic() + 10
         while time.monotonic() < until:
             try:
@@ -156,11 +176,12 @@ class Service:
                 return
             except OSError:
                 if self.process.poll() is not None:
+                    assert self.process.stderr is not None  # it is a pipe
                     raise SystemExit(f"the service ended: {self.process.stderr.read().strip()}")
                 time.sleep(0.01)
         raise SystemExit("the service doesn't listen")
 
-    def put(self, load, seconds=20):
+    def put(self, load: int, seconds: float = 20) -> None:
         """Puts a load on the bridge, and waits until it is indicated as stable. The interval is 20 kg."""
         self.converter.put(load, 1)
         wanted = f"STABLE G {(load + 5) // 10 * 20:10} kg"
@@ -171,11 +192,11 @@ class Service:
                 return
         raise SystemExit(f"not indicated within {seconds} s: {wanted}")
 
-    def kill(self):
+    def kill(self) -> None:
         self.process.send_signal(signal.SIGKILL)
         self.process.wait()
 
-    def end(self):
+    def end(self) -> tuple[str, str, int]:
         """Lets the converter end, and gives what the service printed, reported and answered."""
         self.converter.close()
         out, err = self.process.communicate(timeout=20)
@@ -185,15 +206,15 @@ class Service:
 class Terminal:
     """A client of the terminal."""
 
-    def __init__(self, service, timeout=20):
+    def __init__(self, service: HasTerminal, timeout: float = 20) -> None:
         self.stream = socket.create_connection((HOST, service.terminal), timeout)
         self.stream.setsockopt(socket.IPPROTO_TCP, socket.TCP_NODELAY, 1)
         self.rest = b""
 
-    def send(self, data):
+    def send(self, data: bytes) -> None:
         self.stream.sendall(data)
 
-    def line(self):
+    def line(self) -> str:
         while b"\r\n" not in self.rest:
             more = self.stream.recv(4096)
             if not more:
@@ -202,27 +223,29 @@ class Terminal:
         line, _, self.rest = self.rest.partition(b"\r\n")
         return line.decode()
 
-    def ask(self, command):
+    def ask(self, command: str) -> str:
         self.send(command.encode() + b"\r\n")
         return self.line()
 
-    def close(self):
+    def close(self) -> None:
         self.stream.close()
 
 
-def printed(program, *words):
+def printed(program: str, *words: str) -> tuple[int, str, str]:
     """The status of a run, and what it printed and reported."""
     it = subprocess.run([program, *words], stdin=subprocess.DEVNULL, capture_output=True, text=True)
     return it.returncode, it.stdout, it.stderr
 
 
-def request_bytes(method, target, body=None):
+def request_bytes(method: str, target: str, body: str | None = None) -> bytes:
     if body is None:
         return f"{method} {target} HTTP/1.1\r\nHost: x\r\n\r\n".encode()
     return f"{method} {target} HTTP/1.1\r\nHost: x\r\nContent-Length: {len(body)}\r\n\r\n{body}".encode()
 
 
-def exchange_bytes(port, data, timeout=60, meanwhile=lambda: None):
+def exchange_bytes(
+    port: int, data: bytes, timeout: float = 60, meanwhile: Callable[[], object] = lambda: None
+) -> bytes:
     """All bytes that the office at this port answers. Something may be done once the request is sent."""
     with socket.create_connection((HOST, port), timeout) as stream:
         stream.settimeout(timeout)
@@ -236,7 +259,12 @@ def exchange_bytes(port, data, timeout=60, meanwhile=lambda: None):
             answer += more
 
 
-def exchange(service, data, timeout=60, meanwhile=lambda: None):
+def exchange(
+    service: HasOffice,
+    data: bytes,
+    timeout: float = 60,
+    meanwhile: Callable[[], object] = lambda: None,
+) -> Answer | None:
     """The status and the body of a request's response; None where the connection gave none. Something may be done once it is sent."""
     head, parted, body = exchange_bytes(service.office, data, timeout, meanwhile).partition(
         b"\r\n\r\n"
@@ -246,9 +274,9 @@ def exchange(service, data, timeout=60, meanwhile=lambda: None):
     return int(head.split()[1]), body.decode()
 
 
-def get(service, target, timeout=60):
+def get(service: HasOffice, target: str, timeout: float = 60) -> Answer | None:
     return exchange(service, request_bytes("GET", target), timeout)
 
 
-def post(service, target, body="", timeout=60):
+def post(service: HasOffice, target: str, body: str = "", timeout: float = 60) -> Answer | None:
     return exchange(service, request_bytes("POST", target, body), timeout)

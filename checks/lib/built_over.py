@@ -14,13 +14,13 @@ import sys
 TOP = os.path.dirname(os.path.dirname(os.path.dirname(os.path.abspath(__file__))))
 
 
-def listed():
+def listed() -> dict[str, str]:
     """The line of each crate in crates.txt, by its name."""
     with open(os.path.join(TOP, "crates.txt")) as file:
         return {line.partition(":")[0].split()[0]: line for line in file if ":" in line}
 
 
-def needed(lines, names, found):
+def needed(lines: dict[str, str], names: list[str], found: list[str]) -> list[str]:
     """The names of the crates that stand on these names, and of those below them, each once."""
     for name in names:
         if name in lines and name not in found:
@@ -29,14 +29,14 @@ def needed(lines, names, found):
     return found
 
 
-def copy_crate(name, folder):
+def copy_crate(name: str, folder: str) -> None:
     for part in ("src", "specs", "proofs"):
         source = os.path.join(TOP, "crates", name, part)
         if os.path.isdir(source):
             shutil.copytree(source, os.path.join(folder, "crates", name, part))
 
 
-def main():
+def main() -> None:
     folder, name, source, *libraries = sys.argv[1:]
     lines = listed()
     crates = needed(lines, libraries, [])

@@ -2,8 +2,12 @@
 
 import socket
 import threading
+from collections.abc import Callable, Iterable
 
 from bridge import HOST, exchange_bytes
+
+
+Step = Callable[["Gateway", bytes], bytes]
 
 
 class Gateway(threading.Thread):
@@ -12,15 +16,15 @@ class Gateway(threading.Thread):
     A step of the plan is a function of the request's bytes and of the gateway, which gives the bytes that the client gets.
     """
 
-    def __init__(self, office, plan=()):
+    def __init__(self, office: int, plan: Iterable[Step] = ()) -> None:
         super().__init__(daemon=True)
         self.listener = socket.create_server((HOST, 0))
         self.port = self.listener.getsockname()[1]
         self.office = office
         self.plan = list(plan)
-        self.seen = []  # the request of each connection
+        self.seen: list[bytes] = []  # the request of each connection
 
-    def run(self):
+    def run(self) -> None:
         while True:
             stream, _ = self.listener.accept()
             with stream:
@@ -30,7 +34,7 @@ class Gateway(threading.Thread):
                 stream.sendall(step(self, request))
 
 
-def whole_request(stream):
+def whole_request(stream: socket.socket) -> bytes:
     """The bytes of a POST with a length."""
     data = b""
     while b"\r\n\r\n" not in data:
@@ -46,30 +50,30 @@ def whole_request(stream):
     return head + b"\r\n\r\n" + body
 
 
-def whole(gateway, request):
+def whole(gateway: Gateway, request: bytes) -> bytes:
     return exchange_bytes(gateway.office, request)
 
 
-def unheard(gateway, request):
+def unheard(gateway: Gateway, request: bytes) -> bytes:
     """The office doesn't get the request, and the client no byte."""
     return b""
 
 
-def cut(at):
+def cut(at: int) -> Step:
     """The client gets so many bytes of the office's answer, counted from its end if that is negative."""
     return lambda gateway, request: whole(gateway, request)[:at]
 
 
-def unavailable(status, text=""):
+def unavailable(status: object, text: str = "") -> Step:
     """Answer for the gateway itself, with a text that the request didn't get from the office."""
     head = f"HTTP/1.1 {status} Nothing\r\nContent-Length: {len(text)}\r\nConnection: close\r\n\r\n"
     return lambda gateway, request: (head + text).encode()
 
 
-def instead(status, text):
+def instead(status: object, text: str) -> Step:
     """Let the office have the whole request, and answer this in place of its response."""
 
-    def answer(gateway, request):
+    def answer(gateway: Gateway, request: bytes) -> bytes:
         whole(gateway, request)
         return unavailable(status, text)(gateway, request)
 

@@ -3,6 +3,8 @@
 The checks beside this folder use it.
 """
 
+from collections.abc import Iterator
+
 MORNING = 1_741_593_600
 OF_AGE = 1_749_427_200
 READINGS = {"empty": "r 0 4", "full": "r 9170 4", "half": "r 4070 4"}
@@ -41,7 +43,7 @@ DAY = [
 ]
 
 
-def lines():
+def lines() -> Iterator[str]:
     """The lines of the trace."""
     for step in DAY:
         if step in READINGS:
@@ -54,5 +56,5 @@ def lines():
             yield from [f"o {MORNING} {step}"] * 2
 
 
-def trace():
+def trace() -> str:
     return "\n".join(lines()) + "\n"

@@ -6,6 +6,7 @@ import subprocess
 import sys
 import threading
 import time
+from collections.abc import Iterable, Iterator
 
 # The name of each, the tests of checks/trial that it has to fail, and what it does.
 ALL = {
@@ -35,12 +36,12 @@ ALL = {
 class Reading:
     """What was seen of a trace so far."""
 
-    def __init__(self, words):
+    def __init__(self, words: list[str]) -> None:
         value = dict(zip(words[1::2], words[2::2]))
         self.max = int(value["--max"]) // int(value["--interval"]) * 10
         self.last, self.shift, self.count, self.tare, self.loaded = 0, 0, 0, 0, 0
 
-    def changed(self, name, load):
+    def changed(self, name: str, load: int) -> int:
         if name == "half_down" and load % 10 == 5:
             return load - 1
         if name == "one_more" and self.max + 95 <= load < self.max + 105:
@@ -60,7 +61,7 @@ class Reading:
         return load + self.shift
 
 
-def edited(name, words, lines):
+def edited(name: str, words: list[str], lines: Iterable[str]) -> Iterator[str]:
     """The lines of a trace as the falsified program takes them."""
     seen = Reading(words)
     for line in lines:
@@ -83,7 +84,7 @@ def edited(name, words, lines):
         yield line
 
 
-def keep_a_tare(words):
+def keep_a_tare(words: list[str]) -> None:
     """Takes a tare once the service listens."""
     host, port = words[words.index("--terminal") + 1].split(":")
     import socket
@@ -99,12 +100,11 @@ def keep_a_tare(words):
             time.sleep(0.005)
 
 
-def main(program, name, words):
+def main(program: str, name: str, words: list[str]) -> int:
     if words[:1] == ["serve"]:
         if name == "kept_tare" and os.path.exists(words[words.index("--file") + 1]):
             threading.Thread(target=keep_a_tare, args=(words,)).start()
-            run = subprocess.Popen([program, *words])
-            return run.wait()
+            return subprocess.Popen([program, *words]).wait()
         os.execv(program, [program, *words])
     for option, value, at in (
         ("--window", "4", "slow_swing"),

@@ -6,13 +6,14 @@ import threading
 import time
 
 HOST = "127.0.0.1"
+Way = queue.Queue[tuple[float, bytes]]  # when to pass the bytes, and the bytes
 
 
 class Network(threading.Thread):
     """Hands on what comes to its port, `delay` seconds later in each direction, and no faster than `speed` bytes a second. While it isn't there,
     each connection stands still as on a pulled cable, and a new one gets no byte."""
 
-    def __init__(self, to):
+    def __init__(self, to: int) -> None:
         super().__init__(daemon=True)
         self.to, self.delay, self.speed = to, 0.0, 1e9
         self.is_there = threading.Event()
@@ -21,12 +22,12 @@ class Network(threading.Thread):
         self.port = self.listener.getsockname()[1]
         self.start()
 
-    def run(self):
+    def run(self) -> None:
         while True:
             client, _ = self.listener.accept()
             threading.Thread(target=self.connect, args=(client,), daemon=True).start()
 
-    def connect(self, client):
+    def connect(self, client: socket.socket) -> None:
         self.is_there.wait()
         try:
             server = socket.create_connection((HOST, self.to), 10)
@@ -35,11 +36,11 @@ class Network(threading.Thread):
             return
         server.settimeout(None)
         for here, there in ((client, server), (server, client)):
-            way = queue.Queue()
+            way: Way = queue.Queue()
             threading.Thread(target=self.take, args=(here, way), daemon=True).start()
             threading.Thread(target=self.give, args=(there, way, here), daemon=True).start()
 
-    def take(self, stream, way):
+    def take(self, stream: socket.socket, way: Way) -> None:
         free_at = 0.0
         try:
             while data := stream.recv(2048):
@@ -49,7 +50,7 @@ class Network(threading.Thread):
             pass
         way.put((time.monotonic() + self.delay, b""))
 
-    def give(self, stream, way, other):
+    def give(self, stream: socket.socket, way: Way, other: socket.socket) -> None:
         try:
             while True:
                 due, data = way.get()

@@ -22,6 +22,7 @@ import signal
 import subprocess
 import tempfile
 import time
+from collections.abc import Iterable, Mapping, Sequence
 
 import bridge
 
@@ -127,7 +128,7 @@ def formed(text: str, names: dict[str, str]) -> str:
 class Shell:
     """A shell in a folder of its own, in which commands leave what they leave for the next. `weighbridge` is the one in the folder `of`."""
 
-    def __init__(self, folder, of=TOP):
+    def __init__(self, folder: str, of: str = TOP) -> None:
         commands, self.commands = os.pipe()
         environment = {
             **os.environ,
@@ -147,9 +148,10 @@ class Shell:
         )
         os.close(commands)
 
-    def run(self, command):
+    def run(self, command: str) -> str | None:
         """What the command prints; None if it didn't end in time."""
         os.write(self.commands, command.encode() + b"\0")
+        assert self.process.stdout is not None  # it is a pipe
         until, printed = time.monotonic() + SECONDS, b""
         while not printed.endswith(b"\1"):
             left = until - time.monotonic()
@@ -161,12 +163,12 @@ class Shell:
             printed += more
         return printed[:-1].decode()
 
-    def end(self):
+    def end(self) -> None:
         """Ends the shell and what it started, which is all in one session."""
         end_session(self.process)
 
 
-def end_session(process):
+def end_session(process: subprocess.Popen[bytes]) -> None:
     """Ends a process that leads a session, and what is in it."""
     try:
         os.killpg(process.pid, signal.SIGTERM)
@@ -175,7 +177,14 @@ def end_session(process):
     process.wait()
 
 
-def check(name, page, tools, ports, names=(), programs=None):
+def check(
+    name: str,
+    page: str,
+    tools: Iterable[str],
+    ports: Iterable[int],
+    names: Mapping[str, str] | None = None,
+    programs: Sequence[str | None] | None = None,
+) -> int:
     """Run the page's commands in a new folder, in which clients/ and inspect/ are there. Free ports replace the ports that the page names, and other texts the
     names; `{here}` in such a text is the folder. Without programs the launcher is run.
     """
@@ -187,7 +196,7 @@ def check(name, page, tools, ports, names=(), programs=None):
     if not steps:
         raise SystemExit(f"{name}: {page} has no command that can be run")
     with tempfile.TemporaryDirectory() as folder:
-        known = {it: value.replace("{here}", folder) for it, value in dict(names).items()}
+        known = {it: value.replace("{here}", folder) for it, value in (names or {}).items()}
         known.update(ports_of(ports))
         shell = shell_in(folder, *(programs or []))
         try:
@@ -199,7 +208,7 @@ def check(name, page, tools, ports, names=(), programs=None):
     return 0
 
 
-def shell_in(folder, *programs):
+def shell_in(folder: str, *programs: str | None) -> Shell:
     """A shell in this folder, in which clients/ and inspect/ are there. `weighbridge` is the first of the programs, `weighbridge-converter` the second; without
     programs both are the launcher.
     """
@@ -217,7 +226,7 @@ def shell_in(folder, *programs):
     return Shell(folder, of)
 
 
-def ports_of(ports):
+def ports_of(ports: Iterable[int]) -> dict[str, str]:
     """The addresses of these ports as a page writes them, with those of free ports."""
     free = [(port, bridge.free_port()) for port in ports]
     return {
@@ -227,7 +236,15 @@ def ports_of(ports):
     }
 
 
-def check_step(name, page, step, shell, names, is_told=True, is_exact=False):
+def check_step(
+    name: str,
+    page: str,
+    step: Step,
+    shell: Shell,
+    names: dict[str, str],
+    is_told: bool = True,
+    is_exact: bool = False,
+) -> None:
     """Runs a command of the page, and fails unless it prints what the page shows: to the letter if it is exact, else but for what differs each time."""
     printed = shell.run(replaced(step.command, names))
     if printed is None:

@@ -4,7 +4,11 @@ only its contract is left. It needs python3 alone.
 import os
 import re
 import shutil
+from collections.abc import Collection, Iterable, Iterator
 
+# The type, the trait and the name of a function; the modules of each type.
+Key = tuple[str, str, str]
+Homes = dict[str, list[list[str]]]
 PARTS = ("src", "specs", "proofs")
 COMMENT_OR_TEXT = re.compile(
     r"""//[^\n]*|/\*.*?\*/|b?"(?:\\.|[^"\\])*"|b?'(?:\\[^']*|[^'\\\n])'""", re.S
@@ -12,18 +16,18 @@ COMMENT_OR_TEXT = re.compile(
 CLAUSE = re.compile(r"\b(?:requires|ensures)\s*\*?\s*\w*\s*$|\bghost\b\s*\w*\s*:?\s*\w*\s*=?\s*$")
 
 
-def read(path):
+def read(path: str) -> str:
     with open(path, encoding="utf-8") as it:
         return it.read()
 
 
-def write(path, text):
+def write(path: str, text: str) -> None:
     os.makedirs(os.path.dirname(path), exist_ok=True)
     with open(path, "w", encoding="utf-8") as it:
         it.write(text)
 
 
-def files_below(folder, parts):
+def files_below(folder: str, parts: Iterable[str]) -> list[str]:
     found = [
         f"{at}/{name}"
         for part in parts
@@ -36,20 +40,22 @@ def files_below(folder, parts):
 class Function:
     """A function of a text: where it stands, and the names under which the prover speaks of it."""
 
-    def __init__(self, name, impl, start, opening, end):
+    def __init__(
+        self, name: str, impl: tuple[str, str], start: int, opening: int, end: int
+    ) -> None:
         self.name, self.start, self.opening, self.end = name, start, opening, end
         self.type, self.trait = impl
 
-    def key(self):
+    def key(self) -> Key:
         return self.type, self.trait, self.name
 
 
-def blanked(text):
+def blanked(text: str) -> str:
     """The text with blanks in place of comments and literals, so that each place stays where it is."""
     return COMMENT_OR_TEXT.sub(lambda it: re.sub(r"[^\n]", " ", it[0]), text)
 
 
-def end_of_block(text, opening):
+def end_of_block(text: str, opening: int) -> int:
     depth = 0
     for it in re.compile(r"[{}]").finditer(text, opening):
         depth += 1 if it[0] == "{" else -1
@@ -58,7 +64,7 @@ def end_of_block(text, opening):
     return len(text)
 
 
-def body_of(text, at):
+def body_of(text: str, at: int) -> int | None:
     """Where the body of the function whose name ends at this place begins, past its clauses; none if it has no body."""
     depth = 0
     head = at
@@ -78,7 +84,7 @@ def body_of(text, at):
     return None
 
 
-def impls_of(text):
+def impls_of(text: str) -> Iterator[tuple[int, int, tuple[str, str]]]:
     """The blocks of `impl` and `trait`, each with its type and its trait, none where it has none."""
     for it in re.finditer(r"(?m)^(?:pub(?:\(\w+\))? )?(?:unsafe )?trait (\w+)[^{;]*\{", text):
         yield it.start(), end_of_block(text, it.end() - 1), ("", it[1])
@@ -93,7 +99,7 @@ def impls_of(text):
         )
 
 
-def first_line(text, at):
+def first_line(text: str, at: int) -> int:
     """Where the lines begin that belong to the function at this place, with its attributes and its comments."""
     start = text.rfind("\n", 0, at) + 1
     while start:
@@ -104,10 +110,11 @@ def first_line(text, at):
     return start
 
 
-def functions_of(text):
+def functions_of(text: str) -> list[Function]:
     """The functions of a source that have a body."""
     written, text = text, blanked(text)
-    impls, found = [*impls_of(text)], []
+    impls = [*impls_of(text)]
+    found: list[Function] = []
     for it in re.finditer(r"\bfn\s+(\w+)", text):
         opening = body_of(text, it.end())
         if opening is None or any(other.opening < it.start() < other.end for other in found):
@@ -121,16 +128,17 @@ def functions_of(text):
     return found
 
 
-def contracts_of(text):
+def contracts_of(text: str) -> str:
     """A source without comments and without the bodies of its functions: what their contracts say."""
-    parts, at = [], 0
+    parts: list[str] = []
+    at = 0
     for it in functions_of(text):
         parts.append(text[at : it.opening])
         at = it.end
     return re.sub(r"(?m)^\s*//[^\n]*\n", "", "".join([*parts, text[at:]]))
 
 
-def module_of(file):
+def module_of(file: str) -> list[str]:
     return [
         it
         for it in file.removeprefix("src/").removesuffix(".rt").split("/")
@@ -138,7 +146,7 @@ def module_of(file):
     ]
 
 
-def path_of(homes, file, key):
+def path_of(homes: Homes, file: str, key: Key) -> list[str]:
     """The path below the crate by which the prover names a plain function: a method's begins with the module of its type."""
     type_name, _, name = key
     if not type_name:
@@ -148,9 +156,9 @@ def path_of(homes, file, key):
     return [*module, type_name, name]
 
 
-def homes_of(folder):
+def homes_of(folder: str) -> Homes:
     """By the names of the crate's types, the modules in which one of that name is declared."""
-    homes = {}
+    homes: Homes = {}
     for file in files_below(folder, ["src"]):
         for it in re.finditer(
             r"(?m)^\s*(?:pub(?:\(\w+\))? )?(?:struct|enum|union) (\w+)",
@@ -160,13 +168,15 @@ def homes_of(folder):
     return homes
 
 
-def is_plain(function, text):
+def is_plain(function: Function, text: str) -> bool:
     """Whether the function has a name of its own and a body that no type is made of: it is no method of a trait or its impl, and no constant function."""
     head = text[function.start : function.opening]
     return not function.trait and not re.search(r"\bconst\s+(unsafe\s+)?fn\b|->\s*impl\b", head)
 
 
-def leave_contracts(crate, folder, keep=frozenset()):
+def leave_contracts(
+    crate: str, folder: str, keep: Collection[tuple[str, Key]] = frozenset()
+) -> None:
     """Of each plain function of the copy but those to keep, leaves the contract alone: its body does nothing, and its proof is a hole."""
     homes = homes_of(folder)
     for file in files_below(folder, ["src"]):
@@ -178,7 +188,7 @@ def leave_contracts(crate, folder, keep=frozenset()):
         write(f"{folder}/{file}", text)
 
 
-def leave_hole(crate, folder, path):
+def leave_hole(crate: str, folder: str, path: list[str]) -> None:
     """Puts a hole in place of the proof of the function at this path, and takes away its proof as one that calls itself."""
     above, name = f"{folder}/proofs/{'/'.join(path[:-1])}", path[-1]
     shutil.rmtree(f"{above}/+{name}", ignore_errors=True)
@@ -192,7 +202,7 @@ def leave_hole(crate, folder, path):
     )
 
 
-def copied(source, to):
+def copied(source: str, to: str) -> None:
     for part in PARTS:
         if os.path.isdir(f"{source}/{part}"):
             shutil.copytree(f"{source}/{part}", f"{to}/{part}")

@@ -3,16 +3,17 @@
 import socket
 import struct
 import threading
+from collections.abc import Mapping
 
 
 class RegisterModbus:
-    def __init__(self, host, registers):
+    def __init__(self, host: str, registers: Mapping[int, int]) -> None:
         self.registers = dict(registers)
         self.listener = socket.create_server((host, 0))
         self.port = self.listener.getsockname()[1]
         threading.Thread(target=self.accept, daemon=True).start()
 
-    def accept(self):
+    def accept(self) -> None:
         try:
             while True:
                 threading.Thread(
@@ -21,7 +22,7 @@ class RegisterModbus:
         except OSError:
             pass  # it was closed
 
-    def serve(self, stream):
+    def serve(self, stream: socket.socket) -> None:
         try:
             while len(question := stream.recv(12, socket.MSG_WAITALL)) == 12:
                 number, _, _, unit, function, first, count = struct.unpack(">HHHBBHH", question)
@@ -36,8 +37,8 @@ class RegisterModbus:
         except OSError:
             pass  # the reader opened another
 
-    def before(self, question):
+    def before(self, question: bytes) -> None:
         """What happens before an answer."""
 
-    def close(self):
+    def close(self) -> None:
         self.listener.close()

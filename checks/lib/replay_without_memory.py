@@ -3,6 +3,7 @@ import functools
 import os
 import subprocess
 import sys
+from collections.abc import Iterable
 
 import day
 
@@ -46,7 +47,7 @@ TRACES = {
 }
 
 
-def run(lines, number):
+def run(lines: Iterable[str], number: int) -> subprocess.CompletedProcess[bytes]:
     return subprocess.run(
         [PROGRAM, "replay"],
         input=("\n".join(lines) + "\n").encode(),
@@ -58,9 +59,10 @@ def run(lines, number):
 REFUSED = "503 refused 15 store"
 
 
-def parts_of(printed):
+def parts_of(printed: bytes) -> tuple[list[str], list[str]]:
     """The replies, and the responses: the status and the body of each."""
-    replies, responses = [], []
+    replies: list[str] = []
+    responses: list[str] = []
     for line in printed.decode().splitlines():
         if line.startswith("t "):
             replies.append(line)
@@ -72,7 +74,7 @@ def parts_of(printed):
 
 
 @functools.cache
-def without(lines, unmade):
+def without(lines: tuple[str, ...], unmade: frozenset[int]) -> tuple[list[str], list[str]]:
     """What is put out if these requests, by their places among the requests, are refused for want of memory and count as never made."""
     requests = [place for place, line in enumerate(lines) if line.startswith("o ")]
     left_out = {requests[number] for number in unmade}
@@ -84,13 +86,13 @@ def without(lines, unmade):
     return replies, responses
 
 
-def sweep(name, lines):
+def sweep(name: str, lines: list[str]) -> set[tuple[str, ...]]:
     """Refuses each allocation over these lines in turn; the answers that came up, each by its first line."""
     whole = run(lines, 0)
     allocations = int(whole.stderr.decode().split("allocations ")[1].split()[0])
     assert whole.returncode == 0 and REFUSED not in parts_of(whole.stdout)[1], name
     not_begun = refused = 0
-    answers = set()
+    answers: set[tuple[str, ...]] = set()
     for number in range(allocations + 1):
         end = run(lines, number)
         if end.returncode != 0:

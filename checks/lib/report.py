@@ -2,26 +2,36 @@
 import html as pages
 import re
 import subprocess
+from collections.abc import Iterable, Iterator, Sequence
+from typing import Any
 
 WIDTH, HEIGHT = 520, 320
+# The kind of a block, and what it has: a text, or the columns and rows of a table.
+Block = tuple[Any, ...]
 
 
 class Plot:
     """Points of an applied load and the indicated weight, in kg, with the interval of the instrument."""
 
-    def __init__(self, title, span, points, interval):
+    def __init__(
+        self,
+        title: str,
+        span: tuple[float, float],
+        points: Sequence[tuple[float, float]],
+        interval: float,
+    ) -> None:
         self.title, self.span, self.points, self.interval = title, span, points, interval
 
 
-def cell(text):
+def cell(text: str) -> str:
     return text.replace("|", "\\|") if "`" not in text else text.replace("|", "/")
 
 
-def row(cells):
+def row(cells: Iterable[str]) -> str:
     return "| " + " | ".join(cell(it) for it in cells) + " |"
 
 
-def markdown(blocks):
+def markdown(blocks: Iterable[Block]) -> str:
     """The text of blocks: headings, paragraphs, tables and an image."""
     parts = []
     for kind, *rest in blocks:
@@ -35,11 +45,11 @@ def markdown(blocks):
     return "\n\n".join(parts) + "\n"
 
 
-def marked(text):
+def marked(text: str) -> str:
     return re.sub(r"`([^`]*)`", r"<code>\1</code>", pages.escape(text, quote=False))
 
 
-def html(blocks, image):
+def html(blocks: Sequence[Block], image: str) -> str:
     """The same as a page of its own, with the image in it."""
     parts = []
     for kind, *rest in blocks:
@@ -63,7 +73,7 @@ def html(blocks, image):
     return head + "\n".join(parts) + "\n</body>\n</html>\n"
 
 
-def svg(plots):
+def svg(plots: Sequence[Plot]) -> str:
     """The plots, side by side, as gnuplot draws them."""
     words = [
         f"set terminal svg size {len(plots) * WIDTH},{HEIGHT} fixed background 'white' font 'sans-serif,11'",
@@ -81,7 +91,7 @@ def svg(plots):
     ).stdout
 
 
-def drawn(plot):
+def drawn(plot: Plot) -> Iterator[str]:
     """Gnuplot's words for a plot: half an interval on either side of the load in grey, the load itself, and the points."""
     low, high = plot.span
     half = plot.interval / 2

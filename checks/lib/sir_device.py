@@ -6,13 +6,13 @@ import time
 
 
 class SirDevice:
-    def __init__(self, host, period):
+    def __init__(self, host: str, period: float) -> None:
         self.period, self.is_on, self.asked = period, True, 0
         self.listener = socket.create_server((host, 0))
         self.port = self.listener.getsockname()[1]
         threading.Thread(target=self.accept, daemon=True).start()
 
-    def accept(self):
+    def accept(self) -> None:
         try:
             while True:
                 threading.Thread(
@@ -21,7 +21,7 @@ class SirDevice:
         except OSError:
             pass  # it was closed
 
-    def serve(self, stream):
+    def serve(self, stream: socket.socket) -> None:
         stream.settimeout(0.002)
         sends, due = False, 0.0
         try:
@@ -37,7 +37,7 @@ class SirDevice:
         except OSError:
             pass  # the reader opened another
 
-    def told_by(self, stream):
+    def told_by(self, stream: socket.socket) -> int | None:
         """How many times it is asked now; None if the reader is gone."""
         try:
             data = stream.recv(64)
@@ -45,5 +45,5 @@ class SirDevice:
             return 0
         return data.count(b"SIR\r\n") if data else None
 
-    def close(self):
+    def close(self) -> None:
         self.listener.close()

@@ -17,51 +17,53 @@ CATCHING_UP = 0.5
 class Stalls(threading.Thread):
     """Keeps the begin and the end of each stall."""
 
-    def __init__(self):
+    def __init__(self) -> None:
         super().__init__(daemon=True)
-        self.found = []
+        self.found: list[tuple[float, float]] = []
         self.watch = subprocess.Popen(
             [sys.executable, os.path.abspath(__file__)], stdout=subprocess.PIPE, text=True
         )
+        assert self.watch.stdout is not None  # it is a pipe
         self.begun = self.seen = float(self.watch.stdout.readline())
         self.start()
 
-    def run(self):
+    def run(self) -> None:
+        assert self.watch.stdout is not None  # it is a pipe
         for line in self.watch.stdout:
             now = float(line)
             if now - self.seen > LEAST:
                 self.found.append((self.seen, now))
             self.seen = now
 
-    def wait_until(self, moment):
+    def wait_until(self, moment: float) -> None:
         """Waits until the watch has seen this moment, which is past."""
         while self.seen < moment:
             if self.watch.poll() is not None:
                 raise SystemExit("the watch for stalls ended")
             time.sleep(STEP)
 
-    def touch(self, begin, end):
+    def touch(self, begin: float, end: float) -> bool:
         """Returns true if a stall touches this time, or if it ended at most half a second before."""
         self.wait_until(end)
         return any(came < end and gone + CATCHING_UP > begin for came, gone in list(self.found))
 
-    def seconds(self, begin, end):
+    def seconds(self, begin: float, end: float) -> float:
         """Returns the seconds of stalls within this time."""
         self.wait_until(end)
         return sum(max(0.0, min(gone, end) - max(came, begin)) for came, gone in list(self.found))
 
-    def running(self, begin):
+    def running(self, begin: float) -> float:
         """Returns the seconds since `begin` without stalls."""
         now = time.monotonic()
         return now - begin - self.seconds(begin, now)
 
-    def sleep(self, seconds):
+    def sleep(self, seconds: float) -> None:
         """Sleeps until the machine has run for these seconds."""
         begin = time.monotonic()
         while (left := seconds - self.running(begin)) > 0:
             time.sleep(min(left, 1.0))
 
-    def text(self):
+    def text(self) -> str:
         now = time.monotonic()
         lengths = [gone - came for came, gone in list(self.found)]
         return (
@@ -69,12 +71,12 @@ class Stalls(threading.Thread):
             f" {max(lengths, default=0):.1f} s at most"
         )
 
-    def close(self):
+    def close(self) -> None:
         self.watch.kill()
         self.watch.wait()
 
 
-def tick():
+def tick() -> None:
     while True:
         print(f"{time.monotonic():.4f}", flush=True)
         time.sleep(STEP)

@@ -1,6 +1,7 @@
 """A journal's file that is changed by hand, as an intruder at a bridge may, with digests made anew where he does so."""
 
 import sqlite3
+from typing import Any
 
 from journal import ZEROS, digest_of
 
@@ -10,10 +11,10 @@ KINDS = ("first", "second", "single", "void")
 class File:
     """The journal in a file that no service holds."""
 
-    def __init__(self, path):
+    def __init__(self, path: str) -> None:
         self.path = path
 
-    def do(self, statement, *values):
+    def do(self, statement: str, *values: object) -> list[Any]:
         """The rows that a statement shows."""
         connection = sqlite3.connect(self.path)
         rows = connection.execute(statement, values).fetchall()
@@ -21,15 +22,16 @@ class File:
         connection.close()
         return rows
 
-    def number(self, where):
+    def number(self, where: str) -> int:
         """The least number of an entry of which this holds."""
-        return self.do(f"SELECT min(number) FROM journal WHERE {where}")[0][0]
+        least: int = self.do(f"SELECT min(number) FROM journal WHERE {where}")[0][0]
+        return least
 
-    def change(self, number, what, *values):
+    def change(self, number: int, what: str, *values: object) -> None:
         """Changes an entry, and leaves its digest as it was."""
         self.do(f"UPDATE journal SET {what} WHERE number = ?", *values, number)
 
-    def forge(self, number, what=None, *values):
+    def forge(self, number: int, what: str | None = None, *values: object) -> None:
         """Changes an entry, and makes its digest anew. The entry above it still holds the digest of before."""
         if what:
             self.change(number, what, *values)
@@ -40,7 +42,7 @@ class File:
         digest = digest_of(number, key, KINDS[kind - 1], plate, moment, gross, preset, *setup)
         self.do("UPDATE journal SET digest = ? WHERE number = ?", digest, number)
 
-    def relink(self, number):
+    def relink(self, number: int) -> None:
         """Makes the entries from this number on anew, each with the digest of the one below it where that stands."""
         for (at,) in self.do(
             "SELECT number FROM journal WHERE number >= ? ORDER BY number", number
@@ -48,5 +50,5 @@ class File:
             below = self.do("SELECT digest FROM journal WHERE number = ?", at - 1)
             self.forge(at, "previous = ?", below[0][0] if below else ZEROS)
 
-    def take_out(self, where):
+    def take_out(self, where: str) -> None:
         self.do(f"DELETE FROM journal WHERE {where}")

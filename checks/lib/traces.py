@@ -10,13 +10,13 @@ TRACES = os.path.join(os.path.dirname(os.path.dirname(os.path.abspath(__file__))
 PARTS = (".trace", ".printed")
 
 
-def read(file):
+def read(file: str) -> bytes:
     with open(os.path.join(TRACES, file), "rb") as it:
         return it.read()
 
 
 @functools.cache
-def files():
+def files() -> set[str]:
     return {
         os.path.relpath(os.path.join(at, name), TRACES)
         for at, _, names in os.walk(TRACES)
@@ -24,7 +24,7 @@ def files():
     }
 
 
-def names():
+def names() -> list[str]:
     """The traces that have both of their files, in order."""
     there = files()
     return sorted(
@@ -36,19 +36,19 @@ def names():
     )
 
 
-def alone():
+def alone() -> list[str]:
     """The files that are no part of a trace with both of its files."""
     return sorted(files() - {name + part for name in names() for part in PARTS})
 
 
-def folders():
+def folders() -> set[str]:
     return {os.path.dirname(name) for name in names()} - {""}
 
 
 class Trace:
     """A trace, the options of its replay, the status that is wanted, and what is wanted of both outputs."""
 
-    def __init__(self, name):
+    def __init__(self, name: str) -> None:
         self.text, printed = read(f"{name}.trace"), read(f"{name}.printed")
         first = self.text.split(b"\n", 1)[0].decode()
         self.options = first[2:].split() if first.startswith("# --") else []

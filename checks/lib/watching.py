@@ -12,7 +12,7 @@ OLD = 1.25
 ROUND = 2_900
 
 
-def load(number):
+def load(number: int) -> int:
     """The tenths of line `number`: one interval more a line, so that each reply tells which line it was made of."""
     return 10 * (number % ROUND)
 
@@ -21,13 +21,16 @@ class Watch(threading.Thread):
     """Asks `SI` again and again, and keeps how long each reply took, how old its reading was, and how many there were of each kind. Where its connection
     is closed, since what it asked waited too long, it connects and asks again."""
 
-    def __init__(self, service, pause=0.03):
+    def __init__(self, service: bridge.Service, pause: float = 0.03) -> None:
         super().__init__(daemon=True)
         self.service, self.pause = service, pause
-        self.took, self.aged, self.kinds, self.closed = [], [], {}, 0
+        self.took: list[float] = []
+        self.aged: list[float] = []
+        self.kinds: dict[str, int] = {}
+        self.closed = 0
         self.over = threading.Event()
 
-    def run(self):
+    def run(self) -> None:
         self.terminal = bridge.Terminal(self.service, 60)
         sent = self.service.converter.sent
         while not self.over.is_set():
@@ -45,7 +48,7 @@ class Watch(threading.Thread):
             time.sleep(self.pause)
         self.terminal.close()
 
-    def reply(self):
+    def reply(self) -> str:
         while True:
             try:
                 return self.terminal.ask("SI")

@@ -2,8 +2,9 @@
 import hashlib
 import os
 import re
+from collections.abc import Iterator
 
-from rattle_sources import PARTS, blanked, contracts_of, files_below, functions_of, read
+from rattle_sources import PARTS, Key, blanked, contracts_of, files_below, functions_of, read
 
 TOP = os.path.dirname(os.path.dirname(os.path.dirname(os.path.realpath(__file__))))
 
@@ -11,7 +12,7 @@ TOP = os.path.dirname(os.path.dirname(os.path.dirname(os.path.realpath(__file__)
 class Crate:
     """A crate of the repository: its folder, and what crates.txt says of it."""
 
-    def __init__(self, name, named, is_static):
+    def __init__(self, name: str, named: list[str], is_static: bool) -> None:
         self.name, self.named, self.is_static, self.folder = (
             name,
             named,
@@ -19,11 +20,11 @@ class Crate:
             f"{TOP}/crates/{name}",
         )
 
-    def of_kit(self, crates):
+    def of_kit(self, crates: dict[str, "Crate"]) -> list[str]:
         return [it for it in self.named if it not in crates]
 
-    def below(self, crates):
-        found = []
+    def below(self, crates: dict[str, "Crate"]) -> list["Crate"]:
+        found: list[Crate] = []
         for it in self.named:
             if it in crates:
                 found += [
@@ -31,7 +32,7 @@ class Crate:
                 ]
         return found
 
-    def edit_files(self):
+    def edit_files(self) -> list[str]:
         folders = [f"{self.folder}/must-fail", f"{self.folder}/wrong-bodies"]
         return [
             f"{it}/{name}"
@@ -41,7 +42,7 @@ class Crate:
             if name.endswith(".edit")
         ]
 
-    def contracts(self):
+    def contracts(self) -> Iterator[tuple[str, str]]:
         """What the crate states: its specs, and its sources without their bodies."""
         for path in files_below(self.folder, ("src", "specs")):
             text = read(f"{self.folder}/{path}")
@@ -51,14 +52,13 @@ class Crate:
 class Edit:
     """A wrong body: the pairs of texts that make it, and the functions that are to be refused for it."""
 
-    def __init__(self, path, folder):
-        self.name, self.path, self.pairs, self.own = (
-            os.path.basename(path).removesuffix(".edit"),
-            path,
-            [],
-            set(),
-        )
-        self.is_of_bodies, self.verdict, self.copy, self.is_alone = True, None, None, False
+    def __init__(self, path: str, folder: str) -> None:
+        self.name, self.path = os.path.basename(path).removesuffix(".edit"), path
+        self.pairs: list[tuple[str, str, str]] = []
+        self.own: set[tuple[str, Key]] = set()
+        self.is_of_bodies, self.is_alone = True, False
+        self.verdict: str | None = None
+        self.copy: int | None = None
         file = old = ""
         for line in read(path).split("\n"):
             if line.startswith("file: "):
@@ -76,7 +76,7 @@ class Edit:
         except (OSError, ValueError) as error:
             self.verdict = f"BAD EDIT: {error}"
 
-    def applied(self, texts, folder):
+    def applied(self, texts: dict[str, str], folder: str) -> dict[str, str]:
         """The texts with this edit in them, beside what others changed."""
         texts = dict(texts)
         for file, old, new in self.pairs:
@@ -88,9 +88,9 @@ class Edit:
             texts[file] = text.replace(old, new)
         return texts
 
-    def find_functions(self, folder):
+    def find_functions(self, folder: str) -> None:
         """Those whose bodies it changes, and those that read a constant that it changes."""
-        texts = {}
+        texts: dict[str, str] = {}
         for file, old, new in self.pairs:
             text = texts.setdefault(file, read(f"{folder}/{file}"))
             at = text.find(old)
@@ -108,7 +108,7 @@ class Edit:
             raise ValueError("it changes no function's body and no constant that a function reads")
 
 
-def readers_of(constant, folder):
+def readers_of(constant: str, folder: str) -> set[tuple[str, Key]]:
     """The functions that a constant may be seen in: those that name it, and those that call one whose head names it."""
     texts = {file: blanked(read(f"{folder}/{file}")) for file in files_below(folder, ["src"])}
     functions = [
@@ -133,8 +133,8 @@ def readers_of(constant, folder):
     }
 
 
-def crates_listed():
-    crates = {}
+def crates_listed() -> dict[str, Crate]:
+    crates: dict[str, Crate] = {}
     for line in read(f"{TOP}/crates.txt").split("\n"):
         name, colon, named = line.split("#")[0].partition(":")
         if colon:
@@ -143,7 +143,7 @@ def crates_listed():
     return crates
 
 
-def digest_of(crate, crates):
+def digest_of(crate: Crate, crates: dict[str, Crate]) -> str:
     """SHA-256 over the contracts of the crate and of those below it, and over its edits."""
     digest = hashlib.sha256()
     for it in [*crate.below(crates), crate]:
