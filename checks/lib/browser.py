@@ -8,6 +8,7 @@ import socket
 import subprocess
 import time
 import urllib.request
+from typing import Any
 
 ELEMENT = "element-6066-11e4-a52e-4f735466cecf"
 
@@ -15,7 +16,7 @@ ELEMENT = "element-6066-11e4-a52e-4f735466cecf"
 class Browser:
     """One window. Parts of a page are named by CSS selectors."""
 
-    def __init__(self, port, folder, width, height):
+    def __init__(self, port: int, folder: str, width: int, height: int) -> None:
         self.at, self.folder = f"http://127.0.0.1:{port}", folder
         self.driver = subprocess.Popen(
             [
@@ -45,7 +46,7 @@ class Browser:
         found = self.call("POST", "/session", {"capabilities": {"alwaysMatch": wanted}})
         self.at += f"/session/{found['sessionId']}"
 
-    def wait_for_driver(self, port):
+    def wait_for_driver(self, port: int) -> None:
         until = time.monotonic() + 20
         while time.monotonic() < until:
             try:
@@ -55,7 +56,7 @@ class Browser:
                 time.sleep(0.05)
         raise SystemExit("chromedriver doesn't listen")
 
-    def call(self, method, path, body=None):
+    def call(self, method: str, path: str, body: object = None) -> Any:
         data = None if body is None else json.dumps(body).encode()
         request = urllib.request.Request(
             self.at + path, data, {"Content-Type": "application/json"}, method=method
@@ -63,44 +64,47 @@ class Browser:
         with urllib.request.urlopen(request, timeout=60) as answer:
             return json.load(answer)["value"]
 
-    def go(self, url):
+    def go(self, url: str) -> None:
         self.call("POST", "/url", {"url": url})
 
-    def reload(self):
+    def reload(self) -> None:
         self.call("POST", "/refresh", {})
 
-    def element(self, selector):
-        return self.call("POST", "/element", {"using": "css selector", "value": selector})[ELEMENT]
+    def element(self, selector: str) -> str:
+        found = self.call("POST", "/element", {"using": "css selector", "value": selector})
+        element: str = found[ELEMENT]
+        return element
 
-    def click(self, selector):
+    def click(self, selector: str) -> None:
         self.call("POST", f"/element/{self.element(selector)}/click", {})
 
-    def type(self, selector, text):
+    def type(self, selector: str, text: str) -> None:
         element = self.element(selector)
         self.call("POST", f"/element/{element}/clear", {})
         self.call("POST", f"/element/{element}/value", {"text": text})
 
-    def text(self, selector):
-        return self.call("GET", f"/element/{self.element(selector)}/text")
+    def text(self, selector: str) -> str:
+        text: str = self.call("GET", f"/element/{self.element(selector)}/text")
+        return text
 
-    def run(self, script, *words):
+    def run(self, script: str, *words: object) -> Any:
         return self.call("POST", "/execute/sync", {"script": script, "args": list(words)})
 
-    def accept_question(self):
+    def accept_question(self) -> str:
         """Agrees to the question that the page asks, and gives its text."""
-        text = self.call("GET", "/alert/text")
+        text: str = self.call("GET", "/alert/text")
         self.call("POST", "/alert/accept", {})
         return text
 
-    def tool(self, command, **parameters):
+    def tool(self, command: str, **parameters: object) -> Any:
         """A command of the browser's tools for developers."""
         return self.call("POST", "/goog/cdp/execute", {"cmd": command, "params": parameters})
 
-    def shown_as(self, medium):
+    def shown_as(self, medium: str) -> None:
         """Shows the page as on this medium, `print` or `screen`."""
         self.tool("Emulation.setEmulatedMedia", media=medium)
 
-    def look(self, width, height, is_dark=False):
+    def look(self, width: int, height: int, is_dark: bool = False) -> None:
         """Shows the page in this size, light or dark."""
         self.tool(
             "Emulation.setDeviceMetricsOverride",
@@ -114,7 +118,7 @@ class Browser:
             features=[{"name": "prefers-color-scheme", "value": "dark" if is_dark else "light"}],
         )
 
-    def keys(self, text):
+    def keys(self, text: str) -> None:
         """Types where the focus is. Keys with a name are of WebDriver's private letters."""
         actions = [
             action
@@ -125,7 +129,7 @@ class Browser:
             "POST", "/actions", {"actions": [{"type": "key", "id": "keyboard", "actions": actions}]}
         )
 
-    def key_event(self, name, is_down=True, is_repeat=False):
+    def key_event(self, name: str, is_down: bool = True, is_repeat: bool = False) -> None:
         """Send one event of the key `Enter`, `Escape` or `F1` to `F12`, as the system sends it.
 
         While a key is held, the system sends its event again and again, with `is_repeat`.
@@ -143,7 +147,7 @@ class Browser:
             **text,
         )
 
-    def hold(self, name, seconds, every=0.033):
+    def hold(self, name: str, seconds: float, every: float = 0.033) -> None:
         """Hold a key down for `seconds`. After up to half a second it repeats, as on a keyboard."""
         until = time.monotonic() + seconds
         self.key_event(name)
@@ -153,7 +157,7 @@ class Browser:
             time.sleep(every)
         self.key_event(name, is_down=False)
 
-    def hammer(self, text, pause):
+    def hammer(self, text: str, pause: float) -> None:
         """Type as `keys` does. The driver waits `pause` seconds after each key."""
         wait = {"type": "pause", "duration": round(1000 * pause)}
         actions = [
@@ -165,25 +169,25 @@ class Browser:
             "POST", "/actions", {"actions": [{"type": "key", "id": "keyboard", "actions": actions}]}
         )
 
-    def click_at(self, x, y, count=1):
+    def click_at(self, x: float, y: float, count: int = 1) -> None:
         """Click the mouse at a point of the window, `count` times at once. A double click is two."""
         for it in range(1, count + 1):
             for kind in ("mousePressed", "mouseReleased"):
                 self.mouse(kind, x, y, it)
 
-    def mouse(self, kind, x, y, count=1):
+    def mouse(self, kind: str, x: float, y: float, count: int = 1) -> None:
         self.tool("Input.dispatchMouseEvent", type=kind, x=x, y=y, button="left", clickCount=count)
 
-    def middle_of(self, selector):
+    def middle_of(self, selector: str) -> Any:
         return self.run(
             "const it = document.querySelector(arguments[0]).getBoundingClientRect(); return [it.x + it.width / 2, it.y + it.height / 2]",
             selector,
         )
 
-    def picture(self):
+    def picture(self) -> bytes:
         return base64.b64decode(self.call("GET", "/screenshot"))
 
-    def close(self):
+    def close(self) -> None:
         try:
             self.call("DELETE", "")
         except OSError:

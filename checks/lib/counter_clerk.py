@@ -17,21 +17,29 @@ ENTER, ESCAPE, TAB, SPACE, F1, F4, F6, F7, F8, F9, F10 = (
 )
 
 
-def at_of(port):
+def at_of(port: int) -> str:
     return f"http://{HOST}:{port}"
 
 
 class Clerk:
     """A clerk at the page, who has a keyboard alone."""
 
-    def __init__(self, at, folder=None, width=1280, height=800, is_dark=False, lang="en"):
+    def __init__(
+        self,
+        at: str,
+        folder: str | None = None,
+        width: int = 1280,
+        height: int = 800,
+        is_dark: bool = False,
+        lang: str = "en",
+    ) -> None:
         self.at, self.browser = at, Browser(
             free_port(), folder or tempfile.mkdtemp(prefix="browser-"), width, height
         )
         self.browser.look(width, height, is_dark)
         self.load(lang)
 
-    def load(self, lang="en"):
+    def load(self, lang: str = "en") -> None:
         self.browser.go(f"{self.at}/?lang={lang}")
         # a page that prints would wait for a dialog
         self.browser.run(
@@ -39,65 +47,79 @@ class Clerk:
             "window.print = () => window.papers.push([text('#paper .mark'), text('#paper .whole')]);"
         )
 
-    def words(self):
-        return self.browser.run("return document.getElementById('words').textContent")
+    def words(self) -> str:
+        found: str = self.browser.run("return document.getElementById('words').textContent")
+        return found
 
-    def more(self):
-        return self.browser.run("return document.getElementById('more').textContent")
+    def more(self) -> str:
+        found: str = self.browser.run("return document.getElementById('more').textContent")
+        return found
 
-    def sentence(self):
+    def sentence(self) -> list[str]:
         """What the page says is to be done now, and what stands below it, read at once."""
-        return self.browser.run(
+        found: list[str] = self.browser.run(
             "return ['words', 'more'].map(it => document.getElementById(it).textContent)"
         )
+        return found
 
-    def choose(self):
+    def choose(self) -> bool:
         """Presses the first of the choices, if it still stands there."""
-        return self.browser.run(
+        found: bool = self.browser.run(
             "const it = document.querySelector('#choices button'); if (it) it.click(); return it !== null"
         )
+        return found
 
-    def weight(self):
-        return self.browser.run("return document.getElementById('weight').textContent")
+    def weight(self) -> str:
+        found: str = self.browser.run("return document.getElementById('weight').textContent")
+        return found
 
-    def kg(self):
+    def kg(self) -> int | None:
         """The weight that is shown; None if there is none."""
         digits = re.sub(r"[^\d-]", "", self.weight().replace("\u2212", "-"))
         return int(digits) if digits else None
 
-    def plate(self):
-        return self.browser.run("return document.getElementById('plate').value")
+    def plate(self) -> str:
+        found: str = self.browser.run("return document.getElementById('plate').value")
+        return found
 
-    def focus(self):
-        return self.browser.run(
+    def focus(self) -> str:
+        found: str = self.browser.run(
             "return document.activeElement.id || document.activeElement.textContent"
         )
+        return found
 
-    def keys(self, text):
+    def keys(self, text: str) -> None:
         self.browser.keys(text)
 
-    def sees(self, words, seconds=15, what=None):
+    def sees(self, words: str, seconds: float = 15, what: str | None = None) -> None:
         becomes(what or f"the clerk sees: {words}", lambda: words in self.words(), seconds)
 
-    def is_ready(self):
+    def is_ready(self) -> bool:
         """Return True if the clerk can press the weigh button for the plate in the field."""
-        return self.browser.run("return document.getElementById('go').dataset.look === 'weighs'")
+        found: bool = self.browser.run(
+            "return document.getElementById('go').dataset.look === 'weighs'"
+        )
+        return found
 
-    def answers(self):
+    def answers(self) -> list[str]:
         """Return the answers to the page's question, with their keys."""
-        return self.browser.run(
+        found: list[str] = self.browser.run(
             "return [...document.querySelectorAll('#hint .answer')].map(it => it.textContent)"
         )
+        return found
 
-    def kept(self):
-        return self.browser.run("return localStorage.getItem('weighbridge.request')")
+    def kept(self) -> str | None:
+        found: str | None = self.browser.run("return localStorage.getItem('weighbridge.request')")
+        return found
 
-    def papers(self):
-        return self.browser.run("return window.papers")
+    def papers(self) -> list[list[str]]:
+        found: list[list[str]] = self.browser.run("return window.papers")
+        return found
 
-    def alarms(self):
-        return self.browser.run("return document.getElementById('alarms').textContent")
+    def alarms(self) -> str:
+        found: str = self.browser.run("return document.getElementById('alarms').textContent")
+        return found
 
-    def close(self):
+    def close(self) -> None:
         self.browser.close()
         shutil.rmtree(self.browser.folder, ignore_errors=True)

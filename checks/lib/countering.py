@@ -13,6 +13,8 @@ import threading
 import time
 import urllib.parse
 from collections import deque
+from collections.abc import Callable, Iterable, Mapping
+from typing import Any, TypeVar
 
 import bridge
 from bridge import HOST, free_port
@@ -20,21 +22,24 @@ from bridge import HOST, free_port
 TOP = os.path.dirname(os.path.dirname(os.path.dirname(os.path.abspath(__file__))))
 COUNTER = os.path.join(TOP, "counter", "weighbridge-counter")
 INTERVAL = 20  # kg; a load is in tenths of it
-failures = []
+failures: list[str] = []
+Found = TypeVar("Found")
+# The last line of the reply to one command, or one such line for each command. It is None if none came.
+Said = str | list[str | None] | None
 
 
-def holds(what, is_so, more=""):
+def holds(what: str, is_so: object, more: object = "") -> None:
     """A line for each thing that is shown."""
     if not is_so:
         failures.append(what)
     print(f"{what}: {'ok' if is_so else 'FAILED'}{f' ({more})' if more else ''}", flush=True)
 
 
-def same(what, wanted, found):
+def same(what: str, wanted: object, found: object) -> None:
     holds(what, wanted == found, "" if wanted == found else f"wanted {wanted!r}, found {found!r}")
 
 
-def becomes(what, look, seconds=15):
+def becomes(what: str, look: Callable[[], Found], seconds: float = 15) -> Found:
     """Looks again and again until it holds."""
     until = time.monotonic() + seconds
     while not (found := look()) and time.monotonic() < until:
@@ -43,23 +48,23 @@ def becomes(what, look, seconds=15):
     return found
 
 
-def kg_of(load):
+def kg_of(load: int) -> int:
     return (load + 5) // 10 * INTERVAL
 
 
 class Converter(threading.Thread):
     """Sends the load that is on the bridge, to whoever connects. It remembers what it sent, and when."""
 
-    def __init__(self, pace):
+    def __init__(self, pace: float) -> None:
         super().__init__(daemon=True)
         self.pace, self.load, self.is_silent, self.is_over = pace, 0, False, False
         self.sway = 0  # how much more every second line has
         self.listener = socket.create_server((HOST, 0))
         self.port = self.listener.getsockname()[1]
-        self.sent = deque(maxlen=200_000)
+        self.sent: deque[tuple[float, int]] = deque(maxlen=200_000)
         self.start()
 
-    def run(self):
+    def run(self) -> None:
         while not self.is_over:
             try:
                 stream, _ = self.listener.accept()
@@ -68,7 +73,7 @@ class Converter(threading.Thread):
             except OSError:
                 pass
 
-    def feed(self, stream):
+    def feed(self, stream: socket.socket) -> None:
         due = time.monotonic()
         while not self.is_over:
             if not self.is_silent:
@@ -84,20 +89,21 @@ class Bridge:
 
     def __init__(
         self,
-        program,
-        pace=10,
-        ports=("till", "other", "display"),
-        settings="",
-        options=(),
-        patch=None,
-        capacity=100_000,
-    ):
+        program: str,
+        pace: float = 10,
+        ports: Iterable[str] = ("till", "other", "display"),
+        settings: str = "",
+        options: Iterable[str] = (),
+        patch: Callable[[str], str] | None = None,
+        capacity: int = 100_000,
+    ) -> None:
         self.program, self.pace, self.options, self.capacity = program, pace, options, capacity
         self.folder = tempfile.mkdtemp(prefix="counter-")
         self.converter = Converter(pace)
         self.terminal, self.office, self.http = free_port(), free_port(), free_port()
         self.ports = {name: free_port() for name in ports}
-        self.service = self.counter = None
+        self.service: subprocess.Popen[bytes] | None = None
+        self.counter: subprocess.Popen[bytes] | None = None
         self.executable = patch(self.folder) if patch else COUNTER
         self.setup = os.path.join(self.folder, "counter.toml")
         with open(self.setup, "w") as file:
@@ -113,7 +119,7 @@ class Bridge:
 
     # ---- the service
 
-    def start_service(self):
+    def start_service(self) -> None:
         words = [
             self.program,
             "serve",
@@ -139,7 +145,7 @@ class Bridge:
             self.service = subprocess.Popen(words, stdin=subprocess.DEVNULL, stdout=log, stderr=log)
         self._wait_for(self.office, self.service)
 
-    def _wait_for(self, port, process):
+    def _wait_for(self, port: int, process: subprocess.Popen[bytes]) -> None:
         until = time.monotonic() + 20
         while time.monotonic() < until:
             try:
@@ -147,19 +153,19 @@ class Bridge:
                 return
             except OSError:
                 if process.poll() is not None:
-                    raise SystemExit(
-                        f"counter: {process.args[0]} ended: see {self.folder}"
-                    ) from None
+                    words: Any = process.args
+                    raise SystemExit(f"counter: {words[0]} ended: see {self.folder}") from None
                 time.sleep(0.01)
         raise SystemExit(f"counter: nobody listens on {port}")
 
-    def kill_service(self):
+    def kill_service(self) -> None:
+        assert self.service is not None  # it was started
         self.service.kill()
         self.service.wait()
 
     # ---- the counter
 
-    def start_counter(self, is_waited_for=True):
+    def start_counter(self, is_waited_for: bool = True) -> "Bridge":
         with open(f"{self.folder}/counter.log", "ab") as log:
             self.counter = subprocess.Popen(
                 [self.executable, self.setup], stdin=subprocess.DEVNULL, stdout=log, stderr=log
@@ -169,7 +175,7 @@ class Bridge:
             self.wait_until_up()
         return self
 
-    def wait_until_up(self):
+    def wait_until_up(self) -> None:
         until = time.monotonic() + 15
         while time.monotonic() < until:
             state = self.health()["state"]
@@ -178,16 +184,17 @@ class Bridge:
             time.sleep(0.02)
         raise SystemExit(f"counter: it doesn't come up: {self.health()}")
 
-    def kill_counter(self):
+    def kill_counter(self) -> None:
+        assert self.counter is not None  # it was started
         self.counter.kill()
         self.counter.wait()
 
-    def hold(self, process, seconds):
+    def hold(self, process: subprocess.Popen[bytes], seconds: float) -> None:
         process.send_signal(signal.SIGSTOP)
         time.sleep(seconds)
         process.send_signal(signal.SIGCONT)
 
-    def close(self):
+    def close(self) -> None:
         for it in (self.counter, self.service):
             if it is not None and it.poll() is None:
                 it.send_signal(signal.SIGCONT)
@@ -199,7 +206,16 @@ class Bridge:
 
     # ---- asking
 
-    def ask(self, method, target, form=None, port=None, within=20, body=None, **fields):
+    def ask(
+        self,
+        method: str,
+        target: str,
+        form: Mapping[str, object] | None = None,
+        port: int | None = None,
+        within: float = 20,
+        body: str | None = None,
+        **fields: str,
+    ) -> tuple[int, str, dict[str, str]]:
         """The status, the body and the fields of an answer; a status of 0 where there was none."""
         if body is None and form is not None:
             body = urllib.parse.urlencode(form)
@@ -231,10 +247,10 @@ class Bridge:
             return 0, "", {}
         return int(lines[0].split()[1]), text, found
 
-    def json(self, method, target, **how):
+    def json(self, method: str, target: str, **how: Any) -> Any:
         return json.loads(self.ask(method, target, **how)[1])
 
-    def events(self, seconds):
+    def events(self, seconds: float) -> list[tuple[str, Any]]:
         """The events of a stream in so many seconds, each by its name."""
         found, until = b"", time.monotonic() + seconds
         with socket.create_connection((HOST, self.http), 5) as stream:
@@ -250,22 +266,31 @@ class Bridge:
             for name, text in re.findall(r"event: (\w+)\ndata: (.*)\n\n", found.decode())
         ]
 
-    def health(self):
+    def health(self) -> Any:
         return self.json("GET", "/health")
 
-    def weigh(self, key, kind, plate, tare=None, port=None, within=20):
-        form = {"key": key, "kind": kind, "plate": plate} | ({"tare": tare} if tare else {})
+    def weigh(
+        self,
+        key: str,
+        kind: str,
+        plate: str,
+        tare: object = None,
+        port: int | None = None,
+        within: float = 20,
+    ) -> tuple[int, str]:
+        form: dict[str, object] = {"key": key, "kind": kind, "plate": plate}
+        form |= {"tare": tare} if tare else {}
         return self.ask("POST", "/weighings", form, port, within)[:2]
 
-    def entries(self):
+    def entries(self) -> list[list[str]]:
         """The rows of the journal, as lists of fields."""
         text = self.ask("GET", "/journal.csv", port=self.office)[1]
         return [it.split(",") for it in text.strip().split("\n")[1:]]
 
-    def has_key(self, key):
+    def has_key(self, key: str) -> bool:
         return any(it[1] == key for it in self.entries())
 
-    def put(self, load, seconds=10):
+    def put(self, load: int, seconds: float = 10) -> None:
         """Puts a load on the bridge, and waits until it is indicated as stable."""
         self.converter.load = load
         wanted = f"STABLE G {kg_of(load):10} kg"
@@ -276,14 +301,14 @@ class Bridge:
             time.sleep(0.3 / self.pace)
         raise SystemExit(f"counter: not indicated: {wanted}")
 
-    def next_vehicle(self, load):
+    def next_vehicle(self, load: int) -> None:
         self.put(0)
         self.put(load)
 
-    def tare(self):
+    def tare(self) -> Said:
         return self.terminal_says("till", "TA")
 
-    def terminal_says(self, port, *lines):
+    def terminal_says(self, port: str, *lines: str) -> Said:
         with Client(self.ports[port]) as client:
             found = [client.ask(it) for it in lines]
         return found[0] if len(found) == 1 else found
@@ -292,15 +317,15 @@ class Bridge:
 class Client:
     """A till or a display."""
 
-    def __init__(self, port, timeout=6):
+    def __init__(self, port: int, timeout: float = 6) -> None:
         self.stream = socket.create_connection((HOST, port), timeout)
         self.stream.setsockopt(socket.IPPROTO_TCP, socket.TCP_NODELAY, 1)
         self.rest = b""
 
-    def send(self, line):
+    def send(self, line: str) -> None:
         self.stream.sendall(line.encode() + b"\r\n")
 
-    def line(self):
+    def line(self) -> str:
         while b"\r\n" not in self.rest:
             more = self.stream.recv(4096)
             if not more:
@@ -309,7 +334,7 @@ class Client:
         line, _, self.rest = self.rest.partition(b"\r\n")
         return line.decode()
 
-    def ask(self, line):
+    def ask(self, line: str) -> str | None:
         """The last line of the reply; None where the connection ended or nothing came."""
         try:
             self.send(line)
@@ -319,33 +344,34 @@ class Client:
         except (OSError, EOFError):
             return None
 
-    def close(self):
+    def close(self) -> None:
         self.stream.close()
 
-    def __enter__(self):
+    def __enter__(self) -> "Client":
         return self
 
-    def __exit__(self, *fault):
+    def __exit__(self, *fault: object) -> None:
         self.close()
 
 
 class Meanwhile(threading.Thread):
     """Does something beside, and keeps what it gave."""
 
-    def __init__(self, act, *words, **more):
+    def __init__(self, act: Callable[..., Any], *words: Any, **more: Any) -> None:
         super().__init__(daemon=True)
-        self.act, self.words, self.more, self.result = act, words, more, None
+        self.act, self.words, self.more = act, words, more
+        self.result: Any = None
         self.start()
 
-    def run(self):
+    def run(self) -> None:
         self.result = self.act(*self.words, **self.more)
 
-    def get(self, seconds=60):
+    def get(self, seconds: float = 60) -> Any:
         self.join(seconds)
         return self.result
 
 
-def without_reset(folder):
+def without_reset(folder: str) -> str:
     """A copy of the counter that ends its connections by an ordinary close, in place of a reset: what comes of it has to be seen by the tests."""
     shutil.copytree(
         os.path.join(TOP, "counter"),
