@@ -14,7 +14,7 @@ from countering import TOP
 class Nginx:
     """A real nginx, set up by the commands of docs/counter.md below a folder of its own, and changed as the comments of its setup say."""
 
-    def __init__(self, counter_port):
+    def __init__(self, counter_port: int) -> None:
         self.folder, self.port, plain = tempfile.mkdtemp(prefix="nginx-"), free_port(), free_port()
         os.chmod(self.folder, 0o755)
         os.makedirs(f"{self.folder}/etc/nginx/conf.d")
@@ -69,7 +69,7 @@ class Nginx:
         )
         time.sleep(0.7)
 
-    def ask(self, target, *words):
+    def ask(self, target: str, *words: str) -> str:
         it = subprocess.run(
             [
                 "curl",
@@ -88,13 +88,13 @@ class Nginx:
         )
         return it.stdout
 
-    def close(self):
+    def close(self) -> None:
         self.process.terminate()
         self.process.wait(20)
         shutil.rmtree(self.folder, ignore_errors=True)
 
 
-def replaced(name, text, old, new):
+def replaced(name: str, text: str, old: str, new: str) -> str:
     if old not in text:
         raise SystemExit(f"counter: {name} doesn't have: {old}")
     return text.replace(old, new)

@@ -5,12 +5,15 @@ length between. The witness beside a journal is never synced: of all that was wr
 """
 
 import os
+import random
 import re
 
 CALLS = "pwrite64,fdatasync,fsync,ftruncate"
 LINE = re.compile(r"(pwrite64|fdatasync|fsync|ftruncate)\(\d+<([^>]*)>(?:, (.*))?\)\s+= (\d+)")
 WRITTEN = re.compile(r'"([^"]*)", (\d+), (\d+)')
 RUNS = [1, 1, 8, 512, 4096]
+# A call: its kind, the file, the place in it, and the bytes.
+Call = tuple[str, str, int, bytes]
 
 
 # The files of a journal, by what their names end with.
@@ -21,20 +24,17 @@ class Recording:
     """A program that runs this one and records its writes: `program`; and the calls so far in their order: what was done, to which of the files, where,
     and with which bytes."""
 
-    def __init__(self, folder, program):
-        self.folder, self.program, self.calls, self.read = (
-            folder,
-            os.path.join(folder, "recorded"),
-            [],
-            {},
-        )
+    def __init__(self, folder: str, program: str) -> None:
+        self.folder, self.program = folder, os.path.join(folder, "recorded")
+        self.calls: list[Call] = []
+        self.read: dict[str, int] = {}
         with open(self.program, "w") as it:
             it.write(
                 f'#!/bin/sh\nexec strace -D -qq -y -xx -s 50000000 -o "{folder}/trace.$(date +%s%N)" -e trace={CALLS} "{program}" "$@"\n'
             )
         os.chmod(self.program, 0o755)
 
-    def count(self):
+    def count(self) -> int:
         """How many calls there are by now."""
         for name in sorted(it for it in os.listdir(self.folder) if it.startswith("trace.")):
             with open(os.path.join(self.folder, name), "rb") as it:
@@ -50,29 +50,31 @@ class Recording:
         return len(self.calls)
 
 
-def bytes_of(text):
+def bytes_of(text: str) -> bytes:
     return bytes.fromhex(text.replace("\\x", ""))
 
 
-def call_of(what, path, words, result):
+def call_of(what: str, path: str, words: str, result: str) -> Call | None:
     path = bytes_of(path).decode() if path.startswith("\\x") else path
     which = next((name for name, end in FILES.items() if path.endswith(end)), None)
     if which is None:
         return None
     if what == "pwrite64":
-        data, _, at = WRITTEN.match(words).groups()
+        written = WRITTEN.match(words)
+        assert written, words
+        data, _, at = written.groups()
         return "write", which, int(at), bytes_of(data)[: int(result)]
     if what == "ftruncate":
         return "cut", which, int(words), b""
     return "sync", which, 0, b""
 
 
-def put(data, at, new):
+def put(data: bytearray, at: int, new: bytes) -> None:
     data.extend(bytes(max(0, at + len(new) - len(data))))
     data[at : at + len(new)] = new
 
 
-def cut(data, length):
+def cut(data: bytearray, length: int) -> None:
     del data[length:]
     data.extend(bytes(length - len(data)))
 
@@ -80,11 +82,11 @@ def cut(data, length):
 class Disk:
     """The files: what was synced of each, and what was done since."""
 
-    def __init__(self, file=b"", log=b"", witness=b""):
+    def __init__(self, file: bytes = b"", log: bytes = b"", witness: bytes = b"") -> None:
         self.synced = {"file": file, "log": log, "witness": witness}
-        self.since = {"file": [], "log": [], "witness": []}
+        self.since: dict[str, list[Call]] = {"file": [], "log": [], "witness": []}
 
-    def take(self, call):
+    def take(self, call: Call) -> None:
         what, which, _, _ = call
         self.since[which].append(call)
         if what == "sync":
@@ -93,14 +95,14 @@ class Disk:
                 done(whole, it)
             self.synced[which], self.since[which] = bytes(whole), []
 
-    def whole(self, which):
+    def whole(self, which: str) -> bytes:
         """All that was written."""
         data = bytearray(self.synced[which])
         for it in self.since[which]:
             done(data, it)
         return bytes(data)
 
-    def torn(self, which, chance):
+    def torn(self, which: str, chance: random.Random) -> bytes:
         """What a power cut leaves now, in one of many ways."""
         data = bytearray(self.synced[which])
         for what, _, at, new in self.since[which]:
@@ -111,7 +113,7 @@ class Disk:
         return bytes(data)
 
 
-def done(data, call):
+def done(data: bytearray, call: Call) -> None:
     what, _, at, new = call
     if what == "write":
         put(data, at, new)
@@ -119,7 +121,7 @@ def done(data, call):
         cut(data, at)
 
 
-def tear(data, at, new, chance):
+def tear(data: bytearray, at: int, new: bytes, chance: random.Random) -> None:
     """Writes all, nothing or a part."""
     way = chance.random()
     if way < 0.15:
@@ -136,7 +138,7 @@ def tear(data, at, new, chance):
     put(data, at, mixed(old, new[:end], mask))
 
 
-def mixed(old, new, mask):
+def mixed(old: bytes, new: bytes, mask: bytes) -> bytes:
     """The bytes of the one where the mask is 0, of the other where it is 255."""
     before, after, which = (int.from_bytes(it, "big") for it in (old, new, mask))
     return (before ^ ((before ^ after) & which)).to_bytes(len(old), "big")

@@ -14,6 +14,8 @@ import urllib.parse
 import urllib.request
 
 from countering import failures
+from collections.abc import Callable, Iterable, Mapping
+from typing import IO, Any
 
 TOP = os.path.dirname(os.path.dirname(os.path.dirname(os.path.abspath(__file__))))
 STARTS_WITHIN = 60  # seconds
@@ -21,7 +23,13 @@ WEIGHS_AFTER = 1.5  # seconds for which a vehicle stands; the window is a second
 NO_DESKTOP = {"DISPLAY": "", "WAYLAND_DISPLAY": ""}
 
 
-def asked(method, address, form=None, body=None, **fields):
+def asked(
+    method: str,
+    address: str,
+    form: Mapping[str, object] | None = None,
+    body: bytes | None = None,
+    **fields: str,
+) -> tuple[int, str]:
     """Return the status and the body of an answer. The status is 0 if there was none."""
     data = urllib.parse.urlencode(form).encode() if form is not None else body
     if method == "POST" and data is None:
@@ -36,9 +44,9 @@ def asked(method, address, form=None, body=None, **fields):
         return 0, ""
 
 
-def processes_of(*folders):
+def processes_of(*folders: str) -> dict[int, str]:
     """Return the words of each other process that names one of the folders or works in it, by its number."""
-    found = {}
+    found: dict[int, str] = {}
     for name in filter(str.isdigit, os.listdir("/proc")):
         try:
             with open(f"/proc/{name}/cmdline", "rb") as file:
@@ -59,13 +67,13 @@ class Running:
 
     def __init__(
         self,
-        programs,
-        *words,
-        command=None,
-        environment=None,
-        before=(),
-        hangup=signal.SIG_DFL,
-    ):
+        programs: Iterable[str],
+        *words: str,
+        command: str | None = None,
+        environment: Mapping[str, str] | None = None,
+        before: Iterable[str] = (),
+        hangup: signal.Handlers = signal.SIG_DFL,
+    ) -> None:
         self.begun = time.monotonic()
         self.process = subprocess.Popen(
             [*before, command or f"{TOP}/weighbridge-demo", *programs, *words],
@@ -80,7 +88,9 @@ class Running:
                 signal.signal(signal.SIGINT, signal.SIG_DFL),
             ),
         )
-        self.out, self.err = [], []
+        self.out: list[str] = []
+        self.err: list[str] = []
+        assert self.process.stdout is not None and self.process.stderr is not None  # pipes
         self.readers = [
             threading.Thread(target=self.read, args=it, daemon=True)
             for it in ((self.process.stdout, self.out), (self.process.stderr, self.err))
@@ -88,11 +98,11 @@ class Running:
         for it in self.readers:
             it.start()
 
-    def read(self, stream, into):
+    def read(self, stream: IO[str], into: list[str]) -> None:
         for line in stream:
             into.append(line.rstrip("\n"))
 
-    def wait_until_up(self):
+    def wait_until_up(self) -> "Running":
         until = time.monotonic() + STARTS_WITHIN
         while not any("Ctrl-C" in it for it in self.out):
             if self.process.poll() is not None or time.monotonic() > until:
@@ -100,21 +110,23 @@ class Running:
             time.sleep(0.02)
         found = re.findall(r"http://127\.0\.0\.1:\d+/", "\n".join(self.out))
         self.clerk, self.page = found[0], found[1]
-        self.folder = re.search(r"The folder +(\S+)", "\n".join(self.out))[1]
+        folder = re.search(r"The folder +(\S+)", "\n".join(self.out))
+        assert folder, self.out
+        self.folder = folder[1]
         return self
 
-    def printed(self):
+    def printed(self) -> str:
         return "\n".join(self.out)
 
     # ---- its pages
 
-    def state(self):
+    def state(self) -> Any:
         return json.loads(asked("GET", f"{self.page}state")[1])
 
-    def push(self, route, what=None):
+    def push(self, route: str, what: object = None) -> tuple[int, str]:
         return asked("POST", self.page + route, body=json.dumps(what).encode() if what else None)
 
-    def becomes(self, what, seconds=20):
+    def becomes(self, what: Callable[[Any], object], seconds: float = 20) -> Any:
         """Return the state once `what` holds of it, or None if it doesn't in time."""
         until = time.monotonic() + seconds
         while time.monotonic() < until:
@@ -124,11 +136,12 @@ class Running:
             time.sleep(0.03)
         return None
 
-    def weigh(self, key, plate, kind, tare=None):
-        form = {"key": key, "plate": plate, "kind": kind} | ({"tare": tare} if tare else {})
+    def weigh(self, key: str, plate: str, kind: str, tare: object = None) -> tuple[int, str]:
+        form: dict[str, object] = {"key": key, "plate": plate, "kind": kind}
+        form |= {"tare": tare} if tare else {}
         return asked("POST", f"{self.clerk}weighings", form)
 
-    def next_weighing(self, number):
+    def next_weighing(self, number: int) -> tuple[int, str]:
         """Weigh the vehicle of the day 1.5 s after it stands. Return the answer."""
         state = self.becomes(
             lambda it: it["phase"] == "stands"
@@ -144,7 +157,7 @@ class Running:
         self.becomes(lambda it: it["stay"] is None or it["stay"]["weighed"], 5)
         return answer
 
-    def readings(self):
+    def readings(self) -> tuple[int, float]:
         """Return the number of values that the counter has had, and the moment."""
         text = asked("GET", f"{self.clerk}metrics")[1]
         found = re.findall(r'readings_total\{state="[^"]*"\} (\d+)', text)
@@ -152,7 +165,7 @@ class Running:
 
     # ---- its end
 
-    def process_of(self, name):
+    def process_of(self, name: str) -> int | None:
         """Return the number of the process of a part."""
         word = {"the service": " serve ", "the converter": " run ", "the counter": "counter.toml"}
         found = [
@@ -162,14 +175,16 @@ class Running:
         ]
         return found[0] if len(found) == 1 else None
 
-    def ends(self, number=signal.SIGINT, within=10):
+    def ends(
+        self, number: int | None = signal.SIGINT, within: float = 10
+    ) -> tuple[int | None, float]:
         """Send a signal, and wait for the end: the status, and how long that took."""
         since = time.monotonic()
         if number is not None:
             self.process.send_signal(number)
         return self.wait(within), time.monotonic() - since
 
-    def wait(self, within=10):
+    def wait(self, within: float = 10) -> int | None:
         try:
             status = self.process.wait(within)
         except subprocess.TimeoutExpired:
@@ -178,14 +193,14 @@ class Running:
             it.join(2)
         return status
 
-    def left(self, seconds=0.5):
+    def left(self, seconds: float = 0.5) -> dict[int, str]:
         """Return the processes that are left of it a moment after its end."""
         until = time.monotonic() + seconds
         while (found := processes_of(self.folder)) and time.monotonic() < until:
             time.sleep(0.05)
         return found
 
-    def close(self):
+    def close(self) -> None:
         """End all of it, whatever happened."""
         if self.process.poll() is None:
             self.process.terminate()
@@ -206,17 +221,17 @@ class Running:
 class Busy:
     """Loops that keep processors busy, below everything else."""
 
-    def __init__(self, number):
+    def __init__(self, number: int) -> None:
         self.loops = [
             subprocess.Popen(["nice", "-n", "19", "sh", "-c", "while :; do :; done"])
             for _ in range(number)
         ]
 
-    def end(self):
+    def end(self) -> None:
         for it in self.loops:
             it.kill()
             it.wait()
 
 
-def new_folder():
+def new_folder() -> str:
     return tempfile.mkdtemp(prefix="demo-check-")

@@ -88,7 +88,7 @@ JobRetryInterval 1
 
 
 class Cups:
-    def __init__(self):
+    def __init__(self) -> None:
         self.folder, self.port = tempfile.mkdtemp(prefix="cups-"), free_port()
         self.address, self.made = f"{HOST}:{self.port}", f"{self.folder}/made"
         os.chmod(self.folder, 0o755)
@@ -98,10 +98,10 @@ class Cups:
             file.write(FILES.format(folder=self.folder))
         with open(f"{self.folder}/cupsd.conf", "w") as file:
             file.write(SETUP.format(host=HOST, port=self.port))
-        self.scheduler = None
+        self.scheduler: subprocess.Popen[bytes] | None = None
         self.start()
 
-    def start(self):
+    def start(self) -> None:
         words = [
             "cupsd",
             "-f",
@@ -119,7 +119,7 @@ class Cups:
             time.sleep(0.1)
         raise SystemExit(f"paper: cupsd doesn't begin: see {self.folder}/error_log")
 
-    def tell(self, program, *words):
+    def tell(self, program: str, *words: str) -> str:
         return subprocess.run(
             [program, "-h", self.address, *words],
             capture_output=True,
@@ -127,7 +127,7 @@ class Cups:
             env={**os.environ, "LC_ALL": "C"},
         ).stdout
 
-    def queue(self, name):
+    def queue(self, name: str) -> None:
         """A queue that puts what it gets, through the filters of the distribution, into a file."""
         with open(f"{self.folder}/file.ppd", "w") as file:
             file.write(PPD)
@@ -135,10 +135,11 @@ class Cups:
             "lpadmin", "-p", name, "-E", "-v", f"file:{self.made}", "-P", f"{self.folder}/file.ppd"
         )
 
-    def stop(self):
+    def stop(self) -> None:
+        assert self.scheduler is not None  # it was started
         self.scheduler.terminate()
         self.scheduler.wait()
 
-    def close(self):
+    def close(self) -> None:
         self.stop()
         shutil.rmtree(self.folder, ignore_errors=True)
