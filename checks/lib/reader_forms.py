@@ -260,6 +260,8 @@ BAD_WORDS = (
     ("modbus", "--tcp h --serial d --address 0", "not allowed"),
     ("modbus", "--tcp h", "--address"),
     ("modbus", "--tcp h --address x", "--address"),
+    ("modbus", "--tcp h:x --address 0", "--tcp"),
+    ("modbus", "--tcp h:65536 --address 0", "--tcp"),
     ("modbus", "--tcp h --address 0 --bits 20", "--bits"),
     ("modbus", "--tcp h --address 0 --status 3", "--status"),
     ("modbus", "--tcp h --address 0 --faulty 3", "--status"),
