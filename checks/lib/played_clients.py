@@ -34,8 +34,8 @@ SILENT, DRIPPING = "silent", "dripping"
 AGAIN = " Asking again with the same key"
 REFUSED = "connection refused: is the service running?"
 NOTHING_SENT = "nothing was sent to the office, so the weighing is not stored"
-UNKNOWN = "no answer for 2 s, so it isn't known whether the weighing is stored"
-LOOKING = "no answer for 2 s; looking for the key in the journal"
+UNKNOWN = "no answer for 3 s, so it isn't known whether the weighing is stored"
+LOOKING = "no answer for 3 s; looking for the key in the journal"
 BUSY_WORDS = "counter busy Another weighing is under way."
 
 
@@ -109,7 +109,7 @@ class Run:
         path = os.path.join(TOP, "clients", client)
         dropped = ("_proxy", "ssl_cert_file", "ssl_cert_dir")
         kept = {name: it for name, it in os.environ.items() if not name.lower().endswith(dropped)}
-        set_here = {"WEIGHBRIDGE": address, "WEIGHBRIDGE_SECONDS": "2", **environment}
+        set_here = {"WEIGHBRIDGE": address, "WEIGHBRIDGE_SECONDS": "3", **environment}
         began = time.monotonic()
         it = subprocess.run(
             [path, *(words or ("first", "AB-12"))],
@@ -401,7 +401,7 @@ def nobody(client):
     it = Run(client, address)
     said = ["key K", f"{address}: {REFUSED}{AGAIN}", f"{address}: {REFUSED}", NOTHING_SENT]
     same(f"{client}: nobody listens", (1, "", said), (it.status, it.out, few(it.said)))
-    same(f"{client}: it gave up in time: {it.took:.1f} s", True, 1 <= it.took <= 6)
+    same(f"{client}: it gave up in time: {it.took:.1f} s", True, 2 <= it.took <= 8)
     it = Run(client, address, "first", "AB-12", "K1")
     said = ["key K", f"{address}: {REFUSED}{AGAIN}", *unknown(address, REFUSED, is_asked=False)]
     same(f"{client}: nobody listens, a given key", (3, said), (it.status, few(it.said)))
@@ -417,7 +417,7 @@ def held_up(client):
         place = Place([answer])
         it = Run(client, place.address())
         same(f"{client}: {answer}", (3, ""), it.all()[:2])
-        same(f"{client}: {answer}: in time: {it.took:.1f} s", True, 7 <= it.took <= 14)
+        same(f"{client}: {answer}: in time: {it.took:.1f} s", True, 8 <= it.took <= 16)
         words = f"{place.address()}: no whole answer came."
         same(f"{client}: {answer}: its words", True, words in it.said)
 
@@ -426,7 +426,7 @@ def held_up_to_the_end(client):
     """Show that a client waits for 40 seconds more if the place doesn't answer about the key either."""
     it = Run(client, Place([SILENT], SILENT).address())
     same(f"{client}: silent to the end", (3, ""), it.all()[:2])
-    same(f"{client}: silent to the end: in time: {it.took:.1f} s", True, 46 <= it.took <= 55)
+    same(f"{client}: silent to the end: in time: {it.took:.1f} s", True, 47 <= it.took <= 58)
 
 
 CASES = (
