@@ -1,6 +1,7 @@
 """Clients that send no request, or half of one: each is one line of the log, and a mistake of the counter keeps its traceback."""
 
 import asyncio
+import collections
 import contextlib
 import io
 import socket
@@ -8,10 +9,13 @@ import struct
 import tempfile
 import unittest
 from pathlib import Path
+from unittest import mock
 
 from aiohttp import web
-from weighbridge_counter.connections import LONGEST_CAUSE, cause_of, listen
+from weighbridge_counter import connections, places
+from weighbridge_counter.connections import LONGEST_CAUSE, Connections, cause_of, listen
 from weighbridge_counter.counter import Counter
+from weighbridge_counter.places import Lines, Places
 from weighbridge_counter.routes import Routes
 from weighbridge_counter.setup import Setup
 
@@ -68,15 +72,18 @@ SILENT = {
 }
 
 
-class Clients(unittest.IsolatedAsyncioTestCase):
+class Served(unittest.IsolatedAsyncioTestCase):
     async def serve(self, application):
         # a busy machine's slow turns are no lines of the counter
         asyncio.get_running_loop().slow_callback_duration = 60
-        server = await listen(application, ("127.0.0.1", 0))
+        self.connections = Connections(collections.Counter())
+        server = await listen(application, ("127.0.0.1", 0), self.connections)
         self.addAsyncCleanup(server.wait_closed)
         self.addCleanup(server.close)
         self.port = server.sockets[0].getsockname()[1]
 
+
+class Clients(Served):
     async def serve_counter(self):
         folder = tempfile.TemporaryDirectory()
         self.addCleanup(folder.cleanup)
@@ -87,10 +94,10 @@ class Clients(unittest.IsolatedAsyncioTestCase):
         self.pages = counter.pages
 
     async def log_of(self, pieces, ends="closes"):
-        """Return the log's lines, the client's address and its answer after a client sent the pieces and ended."""
+        """Return the log's lines and the client's answer after a client sent the pieces and ended."""
+        self.connections.lines = Lines()
         with contextlib.redirect_stderr(io.StringIO()) as said:
             reader, writer = await asyncio.open_connection("127.0.0.1", self.port)
-            address = writer.get_extra_info("sockname")
             for piece in pieces:
                 writer.write(piece)
                 await asyncio.sleep(0.02)
@@ -106,13 +113,13 @@ class Clients(unittest.IsolatedAsyncioTestCase):
             writer.close()
             for _ in range(5):
                 await asyncio.sleep(0.01)
-        return said.getvalue(), f"{address[0]}:{address[1]}", answer
+        return said.getvalue(), answer
 
-    def is_one_line(self, said, address, cause, what):
+    def is_one_line(self, said, cause, what):
         self.assertEqual(1, said.count("\n"), f"{what}: {said}")
         line = said.removesuffix("\n")
         self.assertTrue(line.isprintable() and line.isascii(), f"{what}: {said!r}")
-        self.assertTrue(line.startswith(f"counter: {address} sent no whole request: "), said)
+        self.assertTrue(line.startswith("counter: 127.0.0.1: sent no whole request: "), said)
         self.assertIn(cause, line, what)
         self.assertLess(len(line), 80 + LONGEST_CAUSE, what)
 
@@ -120,8 +127,8 @@ class Clients(unittest.IsolatedAsyncioTestCase):
         await self.serve_counter()
         for what, (pieces, cause) in NO_REQUESTS.items():
             for ends in ("closes", "resets", "waits"):
-                said, address, answer = await self.log_of(pieces, ends)
-                self.is_one_line(said, address, cause, f"{what}, {ends}")
+                said, answer = await self.log_of(pieces, ends)
+                self.is_one_line(said, cause, f"{what}, {ends}")
                 if ends == "waits" and "address" not in what and "WebSocket" not in what:
                     self.assertRegex(answer, rb"^HTTP/1\.[01] 400 ", what)
 
@@ -129,8 +136,8 @@ class Clients(unittest.IsolatedAsyncioTestCase):
         await self.serve_counter()
         for what, pieces in CUT_REQUESTS.items():
             for ends in ("closes", "resets"):
-                said, address, _ = await self.log_of(pieces, ends)
-                self.is_one_line(said, address, "ConnectionResetError", f"{what}, {ends}")
+                said, _ = await self.log_of(pieces, ends)
+                self.is_one_line(said, "ConnectionResetError", f"{what}, {ends}")
 
     async def test_what_ends_before_it_is_a_request_or_after_its_answer_is_no_line(self):
         await self.serve_counter()
@@ -144,6 +151,17 @@ class Clients(unittest.IsolatedAsyncioTestCase):
             await asyncio.sleep(0.01)
         self.assertEqual(set(), self.pages.open)
 
+    async def test_a_line_that_repeats_is_told_once(self):
+        await self.serve_counter()
+        said = []
+        with mock.patch.object(connections, "tell", said.append):
+            for _ in range(20):
+                reader, writer = await asyncio.open_connection("127.0.0.1", self.port)
+                writer.write(b"GARBAGE\r\n\r\n")
+                await asyncio.wait_for(reader.read(), 5)
+                writer.close()
+        self.assertEqual(1, len(said), said)
+
     async def test_a_mistake_of_the_counter_keeps_its_traceback(self):
         faults = [KeyError("x"), OSError(5, "y"), ConnectionResetError("of another connection")]
 
@@ -154,17 +172,237 @@ class Clients(unittest.IsolatedAsyncioTestCase):
         application.router.add_get("/", breaks)
         await self.serve(application)
         while faults:
-            said, _, answer = await self.log_of((b"GET / HTTP/1.1\r\n" + HOST + b"\r\n",), "waits")
+            said, answer = await self.log_of((b"GET / HTTP/1.1\r\n" + HOST + b"\r\n",), "waits")
             self.assertIn("Traceback", said)
             self.assertIn("in breaks", said)
             self.assertIn(type(faults.pop(0)).__name__, said)
             self.assertRegex(answer, rb"^HTTP/1\.1 500 ")
+
+    async def test_no_descriptor_is_one_line(self):
+        await self.serve_counter()
+        loop, said = asyncio.get_running_loop(), []
+        context = {"message": "x", "exception": OSError(24, "Too many open files"), "socket": None}
+        with mock.patch.object(connections, "tell", said.append):
+            for _ in range(1000):
+                loop.call_exception_handler(dict(context))
+        self.assertEqual(["this machine: accepts no connection: Too many open files"], said)
+        with mock.patch.object(loop, "default_exception_handler") as default:
+            for other in ({"exception": KeyError()}, {"exception": OSError(5, "x")}, {}):
+                loop.call_exception_handler({"message": "y", **other})
+        self.assertEqual(3, default.call_count)
 
     def test_a_cause_is_bounded_and_printable(self):
         for fault in (ValueError("\x1b[2J\n" * 1000), ValueError("ä\u2028" * 1000), ValueError()):
             cause = cause_of(fault)
             self.assertLessEqual(len(cause), LONGEST_CAUSE)
             self.assertTrue(cause.isprintable() and cause.isascii())
+
+
+REQUEST = POST + b"Content-Length: 5\r\n\r\nkey=A"
+SHORT = {doing: (0.2, why) for doing, (_, why) in places.WITHIN.items()}
+
+
+class Slow(Served):
+    """Clients that are slow, silent, too many, or gone. Their times are short here."""
+
+    def setUp(self):
+        for it in (
+            mock.patch.dict(places.WITHIN, SHORT),
+            mock.patch.object(places, "ANSWERED_WITHIN", 0.3),
+            mock.patch.object(connections, "LOOK_EVERY", 0.02),
+            mock.patch.object(connections, "tell", self.tell),
+        ):
+            it.start()
+            self.addCleanup(it.stop)
+        self.said, self.taken, self.may_go = [], [], asyncio.Event()
+
+    def tell(self, line):
+        self.said.append(line)
+
+    async def serve_weighings(self, most=400, most_refused=64):
+        async def weigh(request):
+            self.taken.append((await request.read()).decode())
+            await self.may_go.wait()
+            return web.Response(text="stored\n")
+
+        async def stream(request):
+            response = web.StreamResponse()
+            await response.prepare(request)
+            await asyncio.sleep(60)
+            return response
+
+        async def much(request):
+            return web.Response(body=b"x" * 30_000_000)
+
+        application = web.Application()
+        application.add_routes(
+            [
+                web.post("/weighings", weigh),
+                web.get("/weighings", weigh),
+                web.get("/events", stream),
+                web.get("/much", much),
+            ]
+        )
+        await self.serve(application)
+        self.connections.places = Places(most, most_refused)
+
+    async def client(self, sent, **more):
+        reader, writer = await asyncio.open_connection("127.0.0.1", self.port, **more)
+        self.addCleanup(writer.close)
+        writer.write(sent)
+        await asyncio.sleep(0.02)
+        return reader, writer
+
+    async def end_of(self, reader):
+        """Return what came until the connection ended."""
+        try:
+            return await asyncio.wait_for(reader.read(), 3)
+        except ConnectionError:
+            return b""
+
+    async def all_are_gone(self):
+        for _ in range(100):
+            if not self.connections.of and not self.connections.places.clients:
+                return
+            await asyncio.sleep(0.02)
+        self.fail(f"{len(self.connections.of)} connections are left")
+
+    async def test_a_slow_client_is_cut_and_the_line_says_why(self):
+        await self.serve_weighings()
+        for sent, why in (
+            (b"", "it sent no request"),
+            (b"GET /weighings HTTP/1.1\r\nHost:", "it sent no whole head"),
+            (POST + b"Content-Length: 50\r\n\r\nkey=", "it sent no whole body"),
+        ):
+            self.said.clear()
+            reader, writer = await self.client(sent)
+            for _ in range(10):  # a byte now and then wins no time
+                await asyncio.sleep(0.03)
+                if sent and not writer.is_closing():
+                    writer.write(b"x")
+            self.assertEqual(b"", await self.end_of(reader))
+            self.assertIn(why, self.said[0])
+        self.assertEqual(3, self.connections.counts["clients_cut"])
+        await self.all_are_gone()
+        self.assertEqual([], self.taken)
+
+    async def test_one_that_takes_no_response_is_cut(self):
+        await self.serve_weighings()
+        await self.client(b"GET /much HTTP/1.1\r\n" + HOST + b"\r\n", limit=1000)
+        (connection,) = self.connections.of.values()
+        await self.all_are_gone()
+        self.assertIn("it didn't take its whole response", self.said[0])
+        self.assertEqual(0, connection.wire.get_write_buffer_size(), "what waits is let go")
+
+    async def test_a_request_that_is_worked_on_has_its_time(self):
+        await self.serve_weighings()
+        reader, writer = await self.client(REQUEST)
+        await asyncio.sleep(0.5)
+        self.may_go.set()
+        self.assertTrue((await reader.read(200)).endswith(b"stored\n"))
+        self.assertEqual(["key=A"], self.taken)
+        self.assertEqual([], self.said)
+        writer.close()
+        await self.all_are_gone()
+
+    async def test_a_connection_may_ask_again_and_then_be_silent_for_its_time(self):
+        await self.serve_weighings()
+        self.may_go.set()
+        reader, writer = await self.client(REQUEST)
+        for _ in range(4):
+            self.assertTrue((await reader.read(200)).endswith(b"stored\n"))
+            await asyncio.sleep(0.12)
+            writer.write(REQUEST)
+        self.assertTrue((await reader.read(200)).endswith(b"stored\n"))
+        self.assertEqual(b"", await self.end_of(reader))
+        self.assertEqual(5, len(self.taken))
+
+    async def test_a_client_that_ended_its_half_gets_its_response(self):
+        await self.serve_weighings()
+        for is_late in (False, True):
+            self.may_go.clear()
+            reader, writer = await self.client(b"")
+            writer.write(REQUEST)
+            if is_late:
+                await asyncio.sleep(0.02)
+            writer.write_eof()
+            await asyncio.sleep(0.1)
+            self.may_go.set()
+            self.assertTrue((await self.end_of(reader)).endswith(b"stored\n"), is_late)
+        self.assertEqual((["key=A"] * 2, []), (self.taken, self.said))
+
+    async def test_a_client_that_ended_its_half_is_not_waited_for_without_end(self):
+        await self.serve_weighings()
+        reader, writer = await self.client(REQUEST)
+        writer.write_eof()
+        self.assertEqual(b"", await self.end_of(reader))
+        self.assertIn("it ended its half", self.said[0])
+
+    async def test_half_a_request_before_the_end_of_a_half_is_none(self):
+        await self.serve_weighings()
+        self.may_go.set()
+        for cut in (1, 10, len(POST) - 1, len(REQUEST) - 6, len(REQUEST) - 1):
+            reader, writer = await self.client(b"")
+            writer.write(REQUEST[:cut])
+            writer.write_eof()
+            self.assertEqual(b"", await self.end_of(reader), cut)
+        self.assertEqual([], self.taken)
+        self.assertEqual([], [it for it in self.said if "is cut" in it], "it is told at once")
+
+    async def test_a_request_whose_client_reset_the_connection_is_not_taken(self):
+        await self.serve_weighings()
+        self.may_go.set()
+        for sent in (REQUEST, b"GET /weighings HTTP/1.1\r\n" + HOST + b"\r\n"):
+            client = socket.create_connection(("127.0.0.1", self.port))
+            client.setsockopt(socket.SOL_SOCKET, socket.SO_LINGER, struct.pack("ii", 1, 0))
+            client.send(sent)
+            client.close()  # the counter reads both at once, because it has not had its turn yet
+            await asyncio.sleep(0.1)
+        self.assertEqual([""], self.taken, "what only reads may be taken")
+        self.assertIn("its client reset it before it was taken", self.said[0])
+
+    async def test_one_too_many_gets_a_503_and_another_address_a_place(self):
+        await self.serve_weighings(4, 2)
+        readers = [await self.client(REQUEST) for _ in range(4)]
+        for other in ("127.0.0.1", "127.0.0.2"):
+            reader, _ = await self.client(REQUEST, local_addr=(other, 0))
+            answer = await self.end_of(reader)
+            self.assertTrue(answer.startswith(b"HTTP/1.1 503 "), answer)
+            self.assertIn(b"\r\nRetry-After: 1\r\n", answer)
+            self.assertIn(b"\r\nX-Counter: not_sent\r\n", answer)
+            self.assertTrue(answer.endswith(b"\r\n\r\ncounter too_many\n"))
+        self.assertEqual((4, 2), (len(self.taken), self.connections.counts["clients_refused"]))
+        self.may_go.set()
+        for reader, _ in readers:
+            self.assertTrue((await reader.read(200)).endswith(b"stored\n"))
+
+    async def test_streams_of_one_address_keep_no_other_out(self):
+        await self.serve_weighings(6, 2)
+        events = b"GET /events HTTP/1.1\r\n" + HOST + b"\r\n"
+        for _ in range(6):
+            await self.client(events, local_addr=("127.0.0.2", 0))
+        self.may_go.set()
+        reader, _ = await self.client(REQUEST)
+        self.assertTrue((await reader.read(200)).endswith(b"stored\n"))
+        self.assertIn("another client needs its place", self.said[0])
+        refused, _ = await self.client(events, local_addr=("127.0.0.2", 0))
+        self.assertEqual(6, self.connections.places.count())
+
+    async def test_a_flood_of_half_heads_takes_no_place_from_a_request(self):
+        await self.serve_weighings(20, 4)
+        self.may_go.set()
+        flood = [
+            await asyncio.open_connection("127.0.0.1", self.port, local_addr=("127.0.0.2", 0))
+            for _ in range(100)
+        ]
+        for _, writer in flood:
+            self.addCleanup(writer.close)
+            writer.write(b"POST /weigh")
+        for _ in range(5):
+            reader, _ = await self.client(REQUEST)
+            self.assertTrue((await reader.read(200)).endswith(b"stored\n"))
+        self.assertLessEqual(len(self.connections.of), 24)
+        self.assertLessEqual(len(self.said), 3, self.said)
 
 
 if __name__ == "__main__":

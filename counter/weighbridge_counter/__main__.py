@@ -12,7 +12,7 @@ from pathlib import Path
 from weighbridge_paper.reader import Address, SetupFault, trouble_of_folder
 
 from .boards import Sender, open_board
-from .connections import listen
+from .connections import Connections, listen
 from .counter import Counter
 from .ports import open_port
 from .routes import Routes
@@ -71,8 +71,8 @@ async def run_all(counter: Counter, senders: Sequence[Sender]) -> None:
 async def serve(setup: Setup) -> None:
     counter = Counter(setup)
     with of_address("listen", setup.listen):
-        # a name holds the server until the end
-        server = await listen(Routes(counter, FOLDER).application(), setup.listen)  # noqa: F841
+        connections = Connections(counter.counts)
+        await listen(Routes(counter, FOLDER).application(), setup.listen, connections)
     ports = []
     for port in setup.ports:
         with of_address(f"port {port.name}", port.listen):

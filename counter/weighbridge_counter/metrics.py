@@ -67,6 +67,13 @@ COUNTED = {
     "exports_not_understood": Counted(
         "exports_not_understood_total", "Exports that the counter could not read."
     ),
+    "clients_refused": Counted(
+        "connections_refused_total", "Connections that had no place, and got a 503 or nothing."
+    ),
+    "clients_cut": Counted(
+        "connections_cut_total",
+        "Connections that the counter cut: too slow, silent, or in another's place.",
+    ),
     "lists_begun_again": Counted(
         "lists_begun_again_total", "Times that the lists started again because of another journal."
     ),
