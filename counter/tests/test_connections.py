@@ -347,7 +347,7 @@ class Slow(Served):
             writer.write_eof()
             self.assertEqual(b"", await self.end_of(reader), cut)
         self.assertEqual([], self.taken)
-        self.assertEqual([], [it for it in self.said if "is cut" in it], "it is told at once")
+        self.assertEqual([], [it for it in self.said if "is cut" in it], "no wait")
 
     async def test_a_request_whose_client_reset_the_connection_is_not_taken(self):
         await self.serve_weighings()

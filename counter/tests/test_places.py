@@ -1,4 +1,4 @@
-"""Who gives way to a newcomer, whose time is over, and which lines are told of clients."""
+"""Tests which client gives way to a newcomer, when a client's time is over, and which lines the log has of clients."""
 
 import random
 import unittest
@@ -24,7 +24,7 @@ class WhoGivesWay(unittest.TestCase):
         self.places, self.now = Places(4, 2), 0.0
 
     def comes(self, address, doing=Doing.NOTHING):
-        """Return the newcomer, what it does from now on, and who gave way to it."""
+        """Return the newcomer, which does `doing` from then on, and the client that gave way to it."""
         self.now += 1
         newcomer = Client(address, self.now)
         gives_way = self.places.take(newcomer)
@@ -42,7 +42,7 @@ class WhoGivesWay(unittest.TestCase):
         second, _ = self.comes("A", Doing.SENDING_BODY)
         third, _ = self.comes("A")
         self.comes("A", Doing.ASKING)
-        first.does(Doing.NOTHING, 50.0)  # its wait begins anew
+        first.does(Doing.NOTHING, 50.0)  # its wait starts again
         for wanted in (second, third, first):
             newcomer, gives_way = self.comes("A", Doing.ASKING)
             self.assertIs(wanted, gives_way)
@@ -118,7 +118,7 @@ class WhoGivesWay(unittest.TestCase):
                     self.places.leave(chance.choice(list(self.places.clients)))
 
     def test_the_bounds_leave_descriptors_for_everything_else(self):
-        # those of the unit, less those of the terminal, the office, ten ports and displays with five clients each, files and the program's own
+        # the unit has 1,024, less those of the terminal, the office, ten ports and displays with five clients each, files and the program's own
         self.assertLess(MOST + MOST_REFUSED, 1024 - 10 * 6 - 64)
 
 
