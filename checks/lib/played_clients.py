@@ -281,12 +281,15 @@ def refusals(client):
 def words_of_counter():
     """Return what the counter itself may answer, from its code."""
     folder = os.path.join(TOP, "counter", "weighbridge_counter")
-    with open(os.path.join(folder, "acts.py")) as acts, open(
-        os.path.join(folder, "routes.py")
-    ) as routes:
-        return set(re.findall(r'not_sent\(\d+, "(\w+)"\)', acts.read())) | set(
-            re.findall(r'b"counter (\w+)\\n"', routes.read())
-        )
+    names = set()
+    for module, pattern in (
+        ("acts.py", r'not_sent\(\d+, "(\w+)"\)'),
+        ("routes.py", r'"counter (\w+)\\n"'),
+        ("connections.py", r'"counter (\w+)\\n"'),
+    ):
+        with open(os.path.join(folder, module)) as code:
+            names |= set(re.findall(pattern, code.read()))
+    return names
 
 
 def counters(client):
@@ -296,7 +299,8 @@ def counters(client):
             it.split()[1]: it.rstrip("\n") for it in lines.readlines() if it.startswith("counter ")
         }
     same("each answer of the counter has its words", words_of_counter(), set(known))
-    asked_again = ["busy", "late", "no_terminal", "no_file", "no_answer", "of_a_later_version"]
+    asked_again = ["busy", "late", "no_terminal", "no_file", "no_answer", "too_many"]
+    asked_again.append("of_a_later_version")
     known["of_a_later_version"] = "counter of_a_later_version"
     place = Place(
         [*((503, f"counter {it}\n") for it in asked_again), (503, "refused 15 store\n"), STORED]
