@@ -80,7 +80,7 @@ OF_A_PROGRAM = (
 )
 
 
-def ended(words, folder, lines=3):
+def ended(words: list[str], folder: str | None, lines: int = 3) -> tuple[int, list[str], str]:
     """Return the status of a reader, what it printed and what it logged. End it after this number of lines."""
     reader = subprocess.Popen(
         [os.path.join(READERS, words[0]), *words[1:], "--pace", "50"],
@@ -90,7 +90,8 @@ def ended(words, folder, lines=3):
         text=True,
         env={**os.environ, **({"PYTHONPATH": folder} if folder else {})},
     )
-    printed = []
+    assert reader.stdout is not None
+    printed = list[str]()
     while len(printed) < lines and (line := reader.stdout.readline()):
         printed.append(line.strip())
     if len(printed) == lines:
@@ -99,7 +100,7 @@ def ended(words, folder, lines=3):
     return reader.returncode, printed, said
 
 
-def played(folder, library, at_connect="pass", at_question="pass"):
+def played(folder: str, library: str, at_connect: str = "pass", at_question: str = "pass") -> str:
     """Write a library that raises these errors, and return its folder."""
     path = os.path.join(folder, str(len(os.listdir(folder))))
     text = {"pymodbus": PYMODBUS, "serial": SERIAL}[library]
@@ -121,19 +122,19 @@ def played(folder, library, at_connect="pass", at_question="pass"):
     return path
 
 
-def loses(what, words, folder, has):
+def loses(what: str, words: list[str], folder: str | None, has: str) -> None:
     status, printed, said = ended(words, folder)
     found = printed, len(said.splitlines()), has in said
     same(f"{what}: the readings are lost, with one line", (["lost"] * 3, 1, True), found)
 
 
-def ends(what, words, folder, name):
+def ends(what: str, words: list[str], folder: str | None, name: str) -> None:
     status, printed, said = ended(words, folder)
     found = status, printed, "Traceback" in said, name in said.splitlines()[-1]
     same(f"{what}: the reader ends, with its traceback", (1, [], True, True), found)
 
 
-def of_modbus(folder):
+def of_modbus(folder: str) -> None:
     words = ["modbus", "--tcp", "127.0.0.1:5", "--address", "0"]
     for it in OF_THE_DEVICE:
         loses(f"modbus: {it}", words, played(folder, "pymodbus", at_question=it), "lost: no ")
@@ -152,7 +153,7 @@ def of_modbus(folder):
     )
 
 
-def of_text(folder):
+def of_text(folder: str) -> None:
     words = ["text", "--serial", "d", "--preset", "continuous"]
     for it in ("raise SerialException('gone')", "raise OSError('gone')", "raise termios.error(5)"):
         loses(f"text: {it}", words, played(folder, "serial", at_question=it), "doesn't answer")
@@ -170,19 +171,19 @@ def of_text(folder):
     )
 
 
-def of_iio(folder):
+def of_iio(folder: str) -> None:
     loses(
         "iio: no such folder", ["iio", "--folder", f"{folder}/none", "--channel", "c"], None, "none"
     )
 
 
-def garbled():
+def garbled() -> None:
     """Show that an answer that the installed pymodbus can't take apart is lost: this one raises struct.error there."""
     device, line = pty.openpty()
     for it in (device, line):
         tty.setraw(it)
 
-    def answer():
+    def answer() -> None:
         while question := os.read(device, 300):
             if len(question) == 8:
                 os.write(device, bytes.fromhex("012b0e0100000005"))
@@ -192,14 +193,14 @@ def garbled():
     loses("modbus: an answer that is cut", words, None, "no whole answer")
 
 
-def wrong_ports():
+def wrong_ports() -> None:
     for port in ("x", "0", "65536", ""):
         status, printed, said = ended(["modbus", "--tcp", f"h:{port}", "--address", "0"], None)
         found = status, printed, "argument --tcp" in said
         same(f"modbus: the port {port!r}", (2, [], True), found)
 
 
-def show():
+def show() -> None:
     with tempfile.TemporaryDirectory() as folder:
         of_modbus(folder)
         of_text(folder)
