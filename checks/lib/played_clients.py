@@ -14,8 +14,10 @@ import sys
 import tempfile
 import threading
 import time
+from collections.abc import Callable, Iterable, Sequence
 from concurrent.futures import ThreadPoolExecutor
 from http.server import BaseHTTPRequestHandler, ThreadingHTTPServer
+from typing import Any
 
 TOP = os.path.dirname(os.path.dirname(os.path.dirname(os.path.abspath(__file__))))
 sys.path.insert(0, os.path.join(TOP, "checks", "lib"))
@@ -37,22 +39,29 @@ NOTHING_SENT = "nothing was sent to the office, so the weighing is not stored"
 UNKNOWN = "no answer for 3 s, so it isn't known whether the weighing is stored"
 LOOKING = "no answer for 3 s; looking for the key in the journal"
 BUSY_WORDS = "counter busy Another weighing is under way."
+Fields = dict[str, str]
+Whole = tuple[int, str] | tuple[int, str, Fields]  # the status, the text, perhaps fields
+Answer = Whole | str  # SILENT or DRIPPING, if it isn't whole
 
 
 class Place:
     """An office, a counter, a gateway or a proxy. It answers one POST after another by its plan, whose last answer stays, and each other request by `other`."""
 
-    def __init__(self, plan, other=NO_ROUTE, certificate=None):
-        self.plan, self.other, self.seen = list(plan), other, []
+    def __init__(
+        self, plan: Iterable[Answer], other: Answer = NO_ROUTE, certificate: str | None = None
+    ) -> None:
+        self.plan, self.other = list(plan), other
+        # of each request its method, target, body and moment
+        self.seen: list[tuple[str, str, str, float]] = []
         place = self
 
         class Handler(BaseHTTPRequestHandler):
             protocol_version = "HTTP/1.1"
 
-            def log_message(self, *_):
+            def log_message(self, *_: object) -> None:
                 pass
 
-            def do(self):
+            def do(self) -> None:
                 body = self.rfile.read(int(self.headers.get("Content-Length", 0))).decode()
                 place.seen.append((self.command, self.path, body, time.monotonic()))
                 is_post = self.command == "POST"
@@ -66,7 +75,8 @@ class Place:
                 self.close_connection = True
                 if answer == SILENT:
                     return time.sleep(60)
-                status, text, *fields = answer if answer != DRIPPING else STORED
+                whole: Whole = STORED if isinstance(answer, str) else answer
+                status, text, *fields = whole
                 self.send_response(status, "X")
                 for name, value in {**(fields[0] if fields else {})}.items():
                     self.send_header(name, value)
@@ -82,7 +92,7 @@ class Place:
         class Server(ThreadingHTTPServer):
             daemon_threads = True
 
-            def handle_error(self, *_):
+            def handle_error(self, *_: object) -> None:
                 pass
 
         self.server = Server((HOST, 0), Handler)
@@ -95,17 +105,17 @@ class Place:
         self.port = self.server.server_address[1]
         threading.Thread(target=self.server.serve_forever, daemon=True).start()
 
-    def address(self, scheme="http", host=HOST):
+    def address(self, scheme: str = "http", host: str = HOST) -> str:
         return f"{scheme}://{host}:{self.port}"
 
-    def methods(self):
+    def methods(self) -> list[str]:
         return [it[0] for it in self.seen]
 
 
 class Run:
     """One run of a client. Its messages have K for its key, and CLIENT for its path."""
 
-    def __init__(self, client, address, *words, **environment):
+    def __init__(self, client: str, address: str, *words: str, **environment: str) -> None:
         path = os.path.join(TOP, "clients", client)
         dropped = ("_proxy", "ssl_cert_file", "ssl_cert_dir")
         kept = {name: it for name, it in os.environ.items() if not name.lower().endswith(dropped)}
@@ -125,11 +135,11 @@ class Run:
         self.key = said[0].removeprefix("key ") if said and said[0].startswith("key ") else None
         self.said = [line.replace(self.key, "K") if self.key else line for line in said]
 
-    def all(self):
+    def all(self) -> tuple[int, str, list[str]]:
         return self.status, self.out, self.said
 
 
-def unknown(address, why, is_asked=True):
+def unknown(address: str, why: str, is_asked: bool = True) -> list[str]:
     """Return the last lines of a client that doesn't know whether the weighing is stored."""
     return [
         f"{address}: {why}",
@@ -140,7 +150,7 @@ def unknown(address, why, is_asked=True):
     ]
 
 
-def texts(client):
+def texts(client: str) -> None:
     for words, text in (
         (("first", "AB-12"), SLIP),
         (("second", "AB-12"), TICKET),
@@ -154,14 +164,14 @@ def texts(client):
         same(f"{client}: its target of {words[0]}", target, place.seen[0][1])
 
 
-def no_proxy(client):
+def no_proxy(client: str) -> None:
     office, proxy = Place([(409, "refused 4 no_load\n")]), Place([STORED], STORED)
     names = ("http_proxy", "https_proxy", "all_proxy", "HTTPS_PROXY", "ALL_PROXY")
     it = Run(client, office.address(), **dict.fromkeys(names, proxy.address()))
     same(f"{client}: no proxy is asked", (1, "", []), (it.status, it.out, proxy.seen))
 
 
-def addresses(client):
+def addresses(client: str) -> None:
     for end, target in (
         ("/", "/weighings"),
         ("/a", "/a/weighings"),
@@ -185,20 +195,20 @@ def addresses(client):
         )
 
 
-def key_asked_below(client):
+def key_asked_below(client: str) -> str:
     place = Place([NO_ANSWER], (503, "{}"))
     Run(client, place.address() + "/a/", "first", "AB-12", "K1", WEIGHBRIDGE_SECONDS="1")
     return place.seen[-1][1]
 
 
-def seconds(client):
+def seconds(client: str) -> None:
     for it in ("0", "x", "-1", "1.5", "08", "10000", "1 2"):
         said = f"WEIGHBRIDGE_SECONDS: {it} is no time, because it isn't a whole number from 1 to 9999; set it as in 30"
         found = Run(client, "http://127.0.0.1:1", WEIGHBRIDGE_SECONDS=it).all()
         same(f"{client}: {it!r} seconds", (2, "", [said]), found)
 
 
-def tls(client):
+def tls(client: str) -> None:
     if not shutil.which("openssl"):
         return print(f"{client}: https: left out, since openssl is not installed")
     with tempfile.TemporaryDirectory() as folder:
@@ -214,10 +224,11 @@ def tls(client):
         same(
             f"{client}: https", (0, SLIP), Run(client, place.address("https"), **trusted).all()[:2]
         )
-        for address, why, more in (
+        wrong: tuple[tuple[str, str, Fields], ...] = (
             (place.address("https"), "self-signed certificate", {}),
             (place.address("https", "localhost"), "it is of another host", trusted),
-        ):
+        )
+        for address, why, more in wrong:
             it = Run(client, address, **more)
             words = f"its certificate isn't trusted: {why}. Name its authority in SSL_CERT_FILE."
             said = ["key K", f"{address}: {words}{AGAIN}", f"{address}: {words}", NOTHING_SENT]
@@ -229,12 +240,12 @@ def tls(client):
         same(f"{client}: https to a port without it", (1, words), (it.status, it.said[1]))
 
 
-def few(said):
+def few(said: list[str]) -> list[str]:
     """Return what was said, each line that was repeated once."""
     return list(dict.fromkeys(said))
 
 
-def strangers(client):
+def strangers(client: str) -> None:
     """Show that no answer of another program counts as the office's, even if it has the office's status."""
     plan = [
         (201, "<html>Welcome to our network</html>"),
@@ -263,7 +274,7 @@ def strangers(client):
     )
 
 
-def refusals(client):
+def refusals(client: str) -> None:
     for answer, words in (
         ((409, "refused 4 no_load\n"), "4 no_load There is no weight."),
         ((410, "refused 2 gone\n"), "2 gone This weighing"),
@@ -278,10 +289,10 @@ def refusals(client):
     same(f"{client}: 17 damaged", (3, ""), it.all()[:2])
 
 
-def words_of_counter():
+def words_of_counter() -> set[str]:
     """Return what the counter itself may answer, from its code."""
     folder = os.path.join(TOP, "counter", "weighbridge_counter")
-    names = set()
+    names = set[str]()
     for module, pattern in (
         ("acts.py", r'not_sent\(\d+, "(\w+)"\)'),
         ("routes.py", r'"counter (\w+)\\n"'),
@@ -292,7 +303,7 @@ def words_of_counter():
     return names
 
 
-def counters(client):
+def counters(client: str) -> None:
     """Show that a client says each answer of the counter's own in words, and asks again."""
     with open(os.path.join(TOP, "clients", "refusals.txt")) as lines:
         known = {
@@ -311,7 +322,7 @@ def counters(client):
     same(f"{client}: 15 store", True, "15 store The journal" in it.said[-1])
 
 
-def other_host(client):
+def other_host(client: str) -> None:
     for name, status in (("other_host", 421), ("other_site", 403)):
         place = Place([(status, f"counter {name}\n"), STORED], (200, '{"found": false}'))
         it = Run(client, place.address())
@@ -327,20 +338,21 @@ def other_host(client):
 class Remembering(Place):
     """A counter that answers each weighing with `before` until a client asks about the key, and then with `later`."""
 
-    def __init__(self, found, later, before=NO_ANSWER):
+    def __init__(self, found: bool, later: Answer, before: Answer = NO_ANSWER) -> None:
         super().__init__([before], (200, json.dumps({"found": found})))
         self.later = later
         asked = self.seen
 
-        class Plan(list):
-            def __getitem__(self, at):
+        class Plan(list[Answer]):
+            def __getitem__(self, at: object) -> Any:
                 return later if any(it[0] == "GET" for it in asked) else before
 
         self.plan = Plan([before])
 
 
-def stored_unseen(client):
-    for before in (NO_ANSWER, SILENT):
+def stored_unseen(client: str) -> None:
+    befores: tuple[Answer, ...] = (NO_ANSWER, SILENT)
+    for before in befores:
         place = Remembering(True, STORED, before)
         it = Run(client, place.address())
         same(f"{client}: stored, after {before}", (0, SLIP, LOOKING), (*it.all()[:2], it.said[-1]))
@@ -357,9 +369,9 @@ def stored_unseen(client):
     same(f"{client}: stored and purged", (1, "2 gone"), (it.status, it.said[-1][:6]))
 
 
-def not_stored(client):
+def not_stored(client: str) -> None:
     said = "the weighing is not stored: the journal has no key K"
-    place = Remembering(False, STORED)
+    place: Place = Remembering(False, STORED)
     it = Run(client, place.address())
     same(f"{client}: not stored", (1, "", said), (*it.all()[:2], it.said[-1]))
     same(f"{client}: nothing is sent after it looked", "GET", place.methods()[-1])
@@ -371,7 +383,7 @@ def not_stored(client):
     same(f"{client}: not sent the last time", (1, "GET"), (it.status, place.methods()[-1]))
 
 
-def not_known(client):
+def not_known(client: str) -> None:
     for other in (
         NO_ROUTE,
         (503, '{"found": null}'),
@@ -387,7 +399,7 @@ def not_known(client):
         same(f"{client}: it sends nothing more, by {other}", "GET", place.methods()[-1])
 
 
-def nothing_sent(client):
+def nothing_sent(client: str) -> None:
     place = Place([BUSY], (200, '{"found": true}'))
     it = Run(client, place.address())
     said = [
@@ -400,7 +412,7 @@ def nothing_sent(client):
     same(f"{client}: so it doesn't look", {"POST"}, set(place.methods()))
 
 
-def nobody(client):
+def nobody(client: str) -> None:
     address = f"http://{HOST}:{free_port()}"
     it = Run(client, address)
     said = ["key K", f"{address}: {REFUSED}{AGAIN}", f"{address}: {REFUSED}", NOTHING_SENT]
@@ -415,7 +427,7 @@ def nobody(client):
     same(f"{client}: no such host", (1, words), (it.status, it.said[1]))
 
 
-def held_up(client):
+def held_up(client: str) -> None:
     """Show that a client gives up in time if a place is silent, or sends a byte now and then."""
     for answer in (SILENT, DRIPPING):
         place = Place([answer])
@@ -426,7 +438,7 @@ def held_up(client):
         same(f"{client}: {answer}: its words", True, words in it.said)
 
 
-def held_up_to_the_end(client):
+def held_up_to_the_end(client: str) -> None:
     """Show that a client waits for 40 seconds more if the place doesn't answer about the key either."""
     it = Run(client, Place([SILENT], SILENT).address())
     same(f"{client}: silent to the end", (3, ""), it.all()[:2])
@@ -453,7 +465,7 @@ CASES = (
 )
 
 
-def show(clients, wanted=CASES):
+def show(clients: Sequence[str], wanted: Sequence[Callable[[str], None]] = CASES) -> None:
     """Run each case with each client, eight at once because most of their time is waiting."""
     with ThreadPoolExecutor(8) as pool:
         runs = [pool.submit(case, client) for case in wanted for client in clients]
