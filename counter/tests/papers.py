@@ -5,7 +5,20 @@ import hashlib
 ZEROS = "0" * 64
 
 
-def entry(number, kind, plate, moment, at, gross, preset, interval, most, serial, previous, key):
+def entry(
+    number: int,
+    kind: str,
+    plate: str,
+    moment: int,
+    at: str,
+    gross: int | None,
+    preset: int | None,
+    interval: int,
+    most: int,
+    serial: str,
+    previous: str,
+    key: str,
+) -> tuple[str, str]:
     text = (
         f"version 2\nnumber {number}\nkey {key}\nkind {kind}\nplate {plate}\nmoment {moment}\ngross {gross or '-'}\npreset {preset or '-'}\n"
         f"interval {interval}\nmax {most}\nserial {serial}\nprevious {previous}\n"
@@ -21,20 +34,22 @@ class Sample:
 
     def __init__(
         self,
-        kind,
-        plate="AB-12",
-        serial="WB01",
-        interval=20,
-        most=60000,
-        first=18340,
-        own=8140,
-        number=2,
-    ):
+        kind: str,
+        plate: str = "AB-12",
+        serial: str = "WB01",
+        interval: int = 20,
+        most: int = 60000,
+        first: int = 18340,
+        own: int = 8140,
+        number: int = 2,
+    ) -> None:
         self.keys = {number - 1: "K1", number: "K2"}
         moment, at = 1741593600, "2025-03-10 08:00:00"
         self.digests = {number - 2: "1" * 64, number - 1: "2" * 64} if number > 2 else {}
         previous = self.digests.get(number - 2, ZEROS)
         blocks, net = "", ""
+        gross: int | None
+        preset: int | None
         if kind == "second":
             before, blocks = entry(
                 number - 1,

@@ -20,10 +20,10 @@ from weighbridge_counter.places import (
 
 
 class WhoGivesWay(unittest.TestCase):
-    def setUp(self):
+    def setUp(self) -> None:
         self.places, self.now = Places(4, 2), 0.0
 
-    def comes(self, address, doing=Doing.NOTHING):
+    def comes(self, address: str, doing: Doing = Doing.NOTHING) -> tuple[Client, Client | None]:
         """Return the newcomer, which does `doing` from then on, and the client that gave way to it."""
         self.now += 1
         newcomer = Client(address, self.now)
@@ -31,13 +31,13 @@ class WhoGivesWay(unittest.TestCase):
         newcomer.does(doing, self.now)
         return newcomer, gives_way
 
-    def test_nobody_gives_way_while_there_is_a_place(self):
+    def test_nobody_gives_way_while_there_is_a_place(self) -> None:
         for it in range(4):
             newcomer, gives_way = self.comes("A")
             self.assertEqual((None, False), (gives_way, newcomer.is_refused), it)
         self.assertEqual(4, self.places.count())
 
-    def test_who_has_waited_longest_without_a_whole_request_gives_way(self):
+    def test_who_has_waited_longest_without_a_whole_request_gives_way(self) -> None:
         first, _ = self.comes("A", Doing.SENDING)
         second, _ = self.comes("A", Doing.SENDING_BODY)
         third, _ = self.comes("A")
@@ -49,14 +49,14 @@ class WhoGivesWay(unittest.TestCase):
             self.assertFalse(newcomer.is_refused)
         self.assertEqual(4, self.places.count())
 
-    def test_a_request_that_is_worked_on_never_gives_way(self):
+    def test_a_request_that_is_worked_on_never_gives_way(self) -> None:
         for doing in (Doing.ASKING, Doing.TAKING, Doing.ASKING, Doing.TAKING):
             self.comes("A", doing)
         for address in ("A", "B"):
             newcomer, gives_way = self.comes(address)
             self.assertEqual((None, True), (gives_way, newcomer.is_refused))
 
-    def test_an_address_with_many_makes_room_and_one_with_few_keeps_its_own(self):
+    def test_an_address_with_many_makes_room_and_one_with_few_keeps_its_own(self) -> None:
         clerk, _ = self.comes("B")
         many = [self.comes("A")[0] for _ in range(3)]
         self.assertIs(many[0], self.comes("A")[1])
@@ -64,21 +64,21 @@ class WhoGivesWay(unittest.TestCase):
         self.assertIn(clerk, self.places.clients)
         self.assertIs(many[2], self.comes("D")[1])
 
-    def test_an_address_takes_no_place_from_one_that_has_fewer(self):
+    def test_an_address_takes_no_place_from_one_that_has_fewer(self) -> None:
         self.comes("B")
         for _ in range(3):
             self.comes("A", Doing.ASKING)
         newcomer, gives_way = self.comes("A")
         self.assertEqual((None, True), (gives_way, newcomer.is_refused))
 
-    def test_event_streams_of_one_address_keep_no_other_out(self):
+    def test_event_streams_of_one_address_keep_no_other_out(self) -> None:
         streams = [self.comes("A", Doing.LISTENING)[0] for _ in range(4)]
         self.assertIs(streams[3], self.comes("B", Doing.LISTENING)[1], "the newest")
         self.assertIs(streams[2], self.comes("C", Doing.LISTENING)[1])
         self.assertIs(streams[1], self.comes("D", Doing.ASKING)[1])
         self.assertTrue(self.comes("A", Doing.LISTENING)[0].is_refused)
 
-    def test_those_without_a_place_are_bounded_too(self):
+    def test_those_without_a_place_are_bounded_too(self) -> None:
         for _ in range(4):
             self.comes("A", Doing.ASKING)
         for _ in range(2):
@@ -89,7 +89,7 @@ class WhoGivesWay(unittest.TestCase):
         self.assertNotIn(newcomer, self.places.clients)
         self.assertEqual((4, 6), (self.places.count(), len(self.places.clients)))
 
-    def test_a_place_that_is_left_is_free(self):
+    def test_a_place_that_is_left_is_free(self) -> None:
         left, _ = self.comes("A", Doing.ASKING)
         for _ in range(3):
             self.comes("A", Doing.ASKING)
@@ -99,7 +99,7 @@ class WhoGivesWay(unittest.TestCase):
         self.assertEqual((None, False), (gives_way, newcomer.is_refused))
         self.assertTrue(self.comes("A")[0].is_refused)
 
-    def test_random_clients_stay_within_the_bounds_and_each_address_gets_its_share(self):
+    def test_random_clients_stay_within_the_bounds_and_each_address_gets_its_share(self) -> None:
         chance = random.Random(7)
         for _ in range(300):
             self.setUp()
@@ -117,13 +117,13 @@ class WhoGivesWay(unittest.TestCase):
                 if chance.random() < 0.3 and self.places.clients:
                     self.places.leave(chance.choice(list(self.places.clients)))
 
-    def test_the_bounds_leave_descriptors_for_everything_else(self):
+    def test_the_bounds_leave_descriptors_for_everything_else(self) -> None:
         # the unit has 1,024, less those of the terminal, the office, ten ports and displays with five clients each, files and the program's own
         self.assertLess(MOST + MOST_REFUSED, 1024 - 10 * 6 - 64)
 
 
 class WhoseTimeIsOver(unittest.TestCase):
-    def test_each_has_its_time_and_an_event_stream_has_no_end(self):
+    def test_each_has_its_time_and_an_event_stream_has_no_end(self) -> None:
         places = Places()
         for doing, within in (
             (Doing.NOTHING, SILENT_FOR),
@@ -142,28 +142,30 @@ class WhoseTimeIsOver(unittest.TestCase):
             self.assertEqual([client] if within else [], [it for it, _ in found], doing)
             places.leave(client)
 
-    def test_who_goes_on_with_the_same_wins_no_time(self):
+    def test_who_goes_on_with_the_same_wins_no_time(self) -> None:
         client = Client("A", 0.0)
         for it in range(6):
             client.does(Doing.SENDING, float(it))
         self.assertIsNone(client.overdue(HEAD_WITHIN))
-        self.assertIn("no whole head within 5 seconds", client.overdue(HEAD_WITHIN + 0.1))
+        self.assertIn("no whole head within 5 seconds", client.overdue(HEAD_WITHIN + 0.1) or "")
 
-    def test_who_ended_its_half_is_waited_for_five_seconds(self):
+    def test_who_ended_its_half_is_waited_for_five_seconds(self) -> None:
         client = Client("A", 0.0)
         client.does(Doing.ASKING, 1.0)
         client.ended = 2.0
         self.assertIsNone(client.overdue(2.0 + ANSWERED_WITHIN))
-        self.assertIn("ended its half", client.overdue(2.1 + ANSWERED_WITHIN))
+        self.assertIn("ended its half", client.overdue(2.1 + ANSWERED_WITHIN) or "")
 
-    def test_one_that_is_refused_waits_only_for_its_head(self):
+    def test_one_that_is_refused_waits_only_for_its_head(self) -> None:
         client = Client("A", 0.0, is_refused=True)
         self.assertIsNone(client.overdue(HEAD_WITHIN))
-        self.assertIn("it sent no request within 5 seconds", client.overdue(HEAD_WITHIN + 0.1))
+        self.assertIn(
+            "it sent no request within 5 seconds", client.overdue(HEAD_WITHIN + 0.1) or ""
+        )
 
 
 class LinesOfClients(unittest.TestCase):
-    def test_a_line_that_repeats_is_told_once_and_then_counted(self):
+    def test_a_line_that_repeats_is_told_once_and_then_counted(self) -> None:
         lines = Lines()
         self.assertEqual(["A: x"], lines.put("A", "x", 0.0))
         for it in range(20000):
@@ -174,7 +176,7 @@ class LinesOfClients(unittest.TestCase):
         self.assertEqual([], lines.end(TOLD_AGAIN_AFTER + 0.2))
         self.assertEqual(["A: x"], lines.put("A", "x", TOLD_AGAIN_AFTER + 0.3))
 
-    def test_a_line_after_the_minute_tells_what_repeated_before(self):
+    def test_a_line_after_the_minute_tells_what_repeated_before(self) -> None:
         lines = Lines()
         for it in (0.0, 1.0, 2.0):
             lines.put("A", "x", it)
@@ -182,8 +184,8 @@ class LinesOfClients(unittest.TestCase):
             ["A: x: 2 more in 60 seconds", "A: y"], lines.put("A", "y", TOLD_AGAIN_AFTER + 1)
         )
 
-    def test_different_lines_are_bounded_too(self):
-        lines, told = Lines(), []
+    def test_different_lines_are_bounded_too(self) -> None:
+        lines, told = Lines(), list[str]()
         for it in range(1000):
             told += lines.put(f"10.0.0.{it}", f"cause {it}", 1.0)
         self.assertEqual(MOST_LINES + 1, len(told))
