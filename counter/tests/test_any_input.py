@@ -12,15 +12,16 @@ import unittest
 from collections import Counter as Counts
 from pathlib import Path
 from types import SimpleNamespace
+from typing import cast
 
-from weighbridge_counter.acts import Acts
+from weighbridge_counter.acts import Acts, Told
 from weighbridge_counter.counter import Counter
 from weighbridge_counter.files import Files
 from weighbridge_counter.health import health_of
 from weighbridge_counter.metrics import metrics_of
-from weighbridge_counter.office import Answer
+from weighbridge_counter.office import Answer, Office
 from weighbridge_counter.setup import Setup, read_setup
-from weighbridge_counter.terminal import Connection
+from weighbridge_counter.terminal import Connection, Terminal
 from weighbridge_counter.values import reply_of, value_of
 from weighbridge_paper.export import COLUMNS, HEADER, NoExport, rows_of
 from weighbridge_paper.reader import SetupFault
@@ -73,7 +74,7 @@ ANY_JSON = some.recursive(
 
 
 @some.composite
-def changed(draw, texts):
+def changed(draw: some.DrawFn, texts: list[str]) -> str:
     """Return a text of which a piece is removed, doubled, or replaced by any letters."""
     text = draw(some.sampled_from(texts))
     for _ in range(draw(some.integers(1, 3))):
@@ -83,9 +84,9 @@ def changed(draw, texts):
     return text
 
 
-class Terminal(unittest.TestCase):
+class LinesOfTheTerminal(unittest.TestCase):
     @given(some.text(alphabet="SDI+- 0123456789kg\r\n²٣", max_size=24) | some.text(max_size=24))
-    def test_a_line_is_a_value_only_as_the_terminal_writes_it(self, line):
+    def test_a_line_is_a_value_only_as_the_terminal_writes_it(self, line: str) -> None:
         value = value_of(line, 1.0)
         if value is not None:
             wanted = line.removesuffix("\n")
@@ -94,16 +95,19 @@ class Terminal(unittest.TestCase):
             )
 
     @given(some.lists(some.binary(max_size=12), max_size=8), some.data())
-    def test_lines_are_the_same_however_their_bytes_are_cut(self, lines, data):
+    def test_lines_are_the_same_however_their_bytes_are_cut(
+        self, lines: list[bytes], data: some.DataObject
+    ) -> None:
         sent = b"\n".join(lines)
         cuts = sorted(data.draw(some.lists(some.integers(0, len(sent)), max_size=6)))
-        whole, pieces = [], []
+        whole, pieces = list[str](), list[str]()
         for took, parts in (
             (whole, [sent]),
             (pieces, [sent[a:b] for a, b in zip([0, *cuts], [*cuts, len(sent)])]),
         ):
             connection = Connection.__new__(Connection)
-            connection.terminal, connection.rest = SimpleNamespace(take=took.extend), b""
+            connection.terminal = cast(Terminal, SimpleNamespace(take=took.extend))
+            connection.rest = b""
             for it in parts:
                 connection.data_received(it)
         self.assertEqual(whole, pieces)
@@ -111,7 +115,7 @@ class Terminal(unittest.TestCase):
 
 class TextsAndExports(unittest.TestCase):
     @given(changed(TEXTS) | some.text(max_size=600))
-    def test_a_text_is_read_only_as_the_office_writes_it(self, letters):
+    def test_a_text_is_read_only_as_the_office_writes_it(self, letters: str) -> None:
         try:
             found = read_text(letters)
         except NoText as fault:
@@ -126,7 +130,7 @@ class TextsAndExports(unittest.TestCase):
             max_size=4,
         )
     )
-    def test_an_export_is_read_or_refused(self, lines):
+    def test_an_export_is_read_or_refused(self, lines: list[str]) -> None:
         self.is_read_or_refused("".join(f"{it}\n" for it in [HEADER, *lines]))
 
     @given(
@@ -136,10 +140,10 @@ class TextsAndExports(unittest.TestCase):
             ]
         )
     )
-    def test_a_changed_export_is_read_or_refused(self, export):
+    def test_a_changed_export_is_read_or_refused(self, export: str) -> None:
         self.is_read_or_refused(export)
 
-    def is_read_or_refused(self, export):
+    def is_read_or_refused(self, export: str) -> None:
         last = 0
         try:
             for row in rows_of(export):
@@ -159,18 +163,21 @@ class Requests(unittest.TestCase):
             max_size=6,
         ).map(lambda parts: "&".join(parts).encode())
     )
-    def test_a_body_reaches_the_office_without_what_is_not_for_it(self, body):
-        asked = []
+    def test_a_body_reaches_the_office_without_what_is_not_for_it(self, body: bytes) -> None:
+        asked = list[bytes | None]()
 
-        class Office:
-            async def ask(self, method, target, body=None, within=15.0):
+        class Refusing(Office):
+            async def ask(
+                self, method: str, target: str, body: bytes | None = None, within: float = 15.0
+            ) -> Answer:
                 asked.append(body)
                 return Answer(409, "text/plain", b"refused 11 not_cleared\n")
 
-        async def act():
+        async def act() -> Told:
             with tempfile.TemporaryDirectory() as folder:
-                terminal = SimpleNamespace(clock=lambda: 0.0, fanout=SimpleNamespace(tare=None))
-                acts = Acts(terminal, Office(), Files(Path(folder)), 20, Counts())
+                untared = SimpleNamespace(clock=lambda: 0.0, fanout=SimpleNamespace(tare=None))
+                terminal, office = cast(Terminal, untared), Refusing(("127.0.0.1", 1))
+                acts = Acts(terminal, office, Files(Path(folder)), 20, Counts())
                 return await acts.carry_out("/weighings", body)
 
         told = asyncio.run(act())
@@ -196,8 +203,8 @@ class OwnFiles(unittest.IsolatedAsyncioTestCase):
         )
     )
     @settings(max_examples=50)
-    def test_the_counter_starts(self, files):
-        async def start():
+    def test_the_counter_starts(self, files: dict[str, bytes]) -> None:
+        async def start() -> None:
             with tempfile.TemporaryDirectory() as name:
                 folder = Path(name)
                 for it, content in files.items():
@@ -235,7 +242,7 @@ class OwnFiles(unittest.IsolatedAsyncioTestCase):
             max_size=6,
         )
     )
-    def test_a_setup_is_read_or_each_mistake_is_named(self, keys):
+    def test_a_setup_is_read_or_each_mistake_is_named(self, keys: dict[str, str]) -> None:
         with tempfile.TemporaryDirectory() as folder:
             path = Path(folder) / "setup.toml"
             path.write_text("".join(f"{key} = {value}\n" for key, value in keys.items()))
