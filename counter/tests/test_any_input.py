@@ -38,7 +38,12 @@ except ImportError:
 FOLDER = Path(__file__).resolve().parent.parent
 TEXTS = [it.text for it in USUAL.values()]
 settings.register_profile(
-    "here", max_examples=200, deadline=None, suppress_health_check=list(HealthCheck)
+    "here",
+    max_examples=200,
+    deadline=None,
+    database=None,
+    derandomize=True,
+    suppress_health_check=list(HealthCheck),
 )
 settings.load_profile("here")
 FIELDS = {
@@ -175,8 +180,8 @@ class Requests(unittest.TestCase):
 
         async def act() -> Told:
             with tempfile.TemporaryDirectory() as folder:
-                untared = SimpleNamespace(clock=lambda: 0.0, fanout=SimpleNamespace(tare=None))
-                terminal, office = cast(Terminal, untared), Refusing(("127.0.0.1", 1))
+                tared = SimpleNamespace(clock=lambda: 0.0, fanout=SimpleNamespace(tare=5))
+                terminal, office = cast(Terminal, tared), Refusing(("127.0.0.1", 1))
                 acts = Acts(terminal, office, Files(Path(folder)), 20, Counts())
                 return await acts.carry_out("/weighings", body)
 
