@@ -7,6 +7,7 @@ import asyncio
 import contextlib
 import io
 import json
+import os
 import tempfile
 import unittest
 from collections import Counter as Counts
@@ -29,7 +30,9 @@ from weighbridge_paper.text import NoText, read_text, written
 
 from .papers import USUAL
 
+SCRATCH = tempfile.TemporaryDirectory()
 try:
+    os.environ["HYPOTHESIS_STORAGE_DIRECTORY"] = SCRATCH.name
     from hypothesis import HealthCheck, given, settings
     from hypothesis import strategies as some
 except ImportError:

@@ -4,13 +4,16 @@ import asyncio
 import collections
 import contextlib
 import io
+import os
 import socket
 import struct
 import tempfile
+import time
 import unittest
 from pathlib import Path
 from unittest import mock
 
+import aiohttp
 from aiohttp import web
 from weighbridge_counter import connections, places
 from weighbridge_counter.connections import LONGEST_CAUSE, Connections, cause_of, listen
@@ -202,6 +205,38 @@ REQUEST = POST + b"Content-Length: 5\r\n\r\nkey=A"
 SHORT = {doing: (0.2, why) for doing, (_, why) in places.WITHIN.items()}
 
 
+async def answer_at_once(request):
+    return web.Response(text="zero\n")
+
+
+class Files(Served):
+    async def test_a_file_comes_whole_and_not_again(self):
+        folder = tempfile.TemporaryDirectory()
+        self.addCleanup(folder.cleanup)
+        counter = Counter(Setup(state=Path(folder.name)), lambda address: None)
+        self.addCleanup(counter.printing.notes.shutdown)
+        await self.serve(Routes(counter, FOLDER).application())
+        for path, kind in (
+            ("/", "text/html"),
+            ("/web/style.css", "text/css"),
+            ("/web/page.js", "text/javascript"),
+            ("/openapi.json", "application/json"),
+        ):
+            async with aiohttp.ClientSession() as session:
+                url, fields = f"http://127.0.0.1:{self.port}{path}", {}
+                for status in (200, 304):
+                    async with session.get(url, headers=fields) as answer:
+                        body = await answer.read()
+                        self.assertEqual(status, answer.status, path)
+                        self.assertEqual("no-cache", answer.headers["Cache-Control"])
+                        self.assertEqual(status == 200, body != b"", path)
+                        if status == 200:
+                            self.assertIn(answer.content_type.split("/")[1][-4:], kind)
+                        fields = {"If-None-Match": answer.headers["ETag"]}
+                async with session.get(url, headers={"If-None-Match": '"x"'}) as answer:
+                    self.assertEqual((200, body or None), (answer.status, body or None))
+
+
 class Slow(Served):
     """Clients that are slow, silent, too many, or gone. Their times are short here."""
 
@@ -239,6 +274,7 @@ class Slow(Served):
             [
                 web.post("/weighings", weigh),
                 web.get("/weighings", weigh),
+                web.post("/zero", answer_at_once),
                 web.get("/events", stream),
                 web.get("/much", much),
             ]
@@ -352,14 +388,73 @@ class Slow(Served):
     async def test_a_request_whose_client_reset_the_connection_is_not_taken(self):
         await self.serve_weighings()
         self.may_go.set()
-        for sent in (REQUEST, b"GET /weighings HTTP/1.1\r\n" + HOST + b"\r\n"):
+        client = socket.create_connection(("127.0.0.1", self.port))
+        client.setsockopt(socket.SOL_SOCKET, socket.SO_LINGER, struct.pack("ii", 1, 0))
+        client.send(REQUEST)
+        client.close()  # the counter finds both in one turn, because it hasn't had its turn yet
+        await asyncio.sleep(0.1)
+        self.assertEqual([], self.taken)
+        self.assertIn("its connection ended before it was taken", self.said[0])
+
+    async def test_a_reset_is_seen_before_asyncio_reads_it(self):
+        await self.serve_weighings()
+        for linger, is_reset in ((0, False), (1, True)):
             client = socket.create_connection(("127.0.0.1", self.port))
-            client.setsockopt(socket.SOL_SOCKET, socket.SO_LINGER, struct.pack("ii", 1, 0))
-            client.send(sent)
-            client.close()  # the counter reads both at once, because it has not had its turn yet
+            await asyncio.sleep(0.02)
+            (connection,) = self.connections.of.values()
+            self.assertFalse(connection.is_reset())
+            client.setsockopt(socket.SOL_SOCKET, socket.SO_LINGER, struct.pack("ii", linger, 0))
+            client.close()
+            time.sleep(0.02)  # no turn of the loop
+            self.assertEqual(is_reset, connection.is_reset())
+            await self.all_are_gone()
+
+    async def test_a_request_whose_client_was_cut_before_is_not_taken(self):
+        await self.serve_weighings()
+        self.may_go.set()
+        reader, _ = await self.client(b"")
+        (connection,) = self.connections.of.values()
+        connection.data_received(REQUEST)
+        self.connections.cut(connection.client, "another client needs its place")
+        self.assertEqual(b"", await self.end_of(reader))
+        await asyncio.sleep(0.05)
+        self.assertEqual([], self.taken)
+
+    async def test_a_body_that_comes_after_its_response_is_no_new_request(self):
+        await self.serve_weighings()
+        reader, writer = await self.client(REQUEST.replace(b"weighings", b"zero")[:-5])
+        self.assertIn(b" 200 ", await reader.read(200))
+        writer.write(b"key=A")
+        for _ in range(3):
+            await asyncio.sleep(0.15)
+            writer.write(b"POST /zero HTTP/1.1\r\n" + HOST + b"\r\n")
+            self.assertIn(b" 200 ", await reader.read(200))
+        self.assertEqual([], self.said)
+
+    async def test_a_look_that_fails_is_not_the_last(self):
+        await self.serve_weighings()
+        faults, loop = [], asyncio.get_running_loop()
+        with mock.patch.object(loop, "call_exception_handler", faults.append), mock.patch.object(
+            self.connections, "look", side_effect=OSError(28, "No space left on device")
+        ):
             await asyncio.sleep(0.1)
-        self.assertEqual([""], self.taken, "what only reads may be taken")
-        self.assertIn("its client reset it before it was taken", self.said[0])
+        self.assertTrue(faults)
+        reader, _ = await self.client(b"GET")
+        self.assertEqual(b"", await self.end_of(reader))
+
+    async def test_a_flood_of_connections_takes_few_descriptors_at_once(self):
+        await self.serve_weighings(20, 4)
+        clients = [socket.socket() for _ in range(300)]
+        for it in clients:
+            self.addCleanup(it.close)
+            it.setblocking(False)
+            it.connect_ex(("127.0.0.1", self.port))
+        most = 0
+        for _ in range(40):
+            await asyncio.sleep(0)
+            most = max(most, len(os.listdir("/proc/self/fd")) - len(clients))
+        await asyncio.sleep(0.1)
+        self.assertLess(most, 24 + 4 * connections.ACCEPTED_AT_ONCE + 40)
 
     async def test_one_too_many_gets_a_503_and_another_address_a_place(self):
         await self.serve_weighings(4, 2)

@@ -11,6 +11,7 @@ from weighbridge_counter.places import (
     MOST_REFUSED,
     SILENT_FOR,
     TAKEN_WITHIN,
+    TAKES_SLOWLY,
     TOLD_AGAIN_AFTER,
     Client,
     Doing,
@@ -50,8 +51,8 @@ class WhoGivesWay(unittest.TestCase):
         self.assertEqual(4, self.places.count())
 
     def test_a_request_that_is_worked_on_never_gives_way(self) -> None:
-        for doing in (Doing.ASKING, Doing.TAKING, Doing.ASKING, Doing.TAKING):
-            self.comes("A", doing)
+        for _ in range(4):
+            self.comes("A", Doing.ASKING)
         for address in ("A", "B"):
             newcomer, gives_way = self.comes(address)
             self.assertEqual((None, True), (gives_way, newcomer.is_refused))
@@ -77,6 +78,22 @@ class WhoGivesWay(unittest.TestCase):
         self.assertIs(streams[2], self.comes("C", Doing.LISTENING)[1])
         self.assertIs(streams[1], self.comes("D", Doing.ASKING)[1])
         self.assertTrue(self.comes("A", Doing.LISTENING)[0].is_refused)
+
+    def test_slow_readers_of_one_address_keep_no_other_out(self) -> None:
+        slow = [self.comes("A", Doing.TAKING)[0] for _ in range(4)]
+        self.assertIs(slow[0], self.comes("B", Doing.LISTENING)[1], "the slowest, before a stream")
+        self.assertTrue(self.comes("A")[0].is_refused)
+        self.now += 10
+        self.assertIs(slow[1], self.comes("C", Doing.ASKING)[1])
+
+    def test_a_reader_has_two_seconds_before_it_gives_way(self) -> None:
+        for _ in range(4):
+            self.comes("A", Doing.ASKING)
+        for it in self.places.clients:
+            it.does(Doing.TAKING, self.now)
+        self.now += TAKES_SLOWLY - 1
+        self.assertTrue(self.comes("B")[0].is_refused)
+        self.assertIsNotNone(self.comes("B")[1])
 
     def test_those_without_a_place_are_bounded_too(self) -> None:
         for _ in range(4):
@@ -113,7 +130,7 @@ class WhoGivesWay(unittest.TestCase):
                     held = sum(it.address == gives_way.address for it in before)
                     own = sum(it.address == address for it in before)
                     self.assertGreaterEqual(held, own)
-                    self.assertNotIn(gives_way.doing, (Doing.ASKING, Doing.TAKING))
+                    self.assertIsNot(gives_way.doing, Doing.ASKING)
                 if chance.random() < 0.3 and self.places.clients:
                     self.places.leave(chance.choice(list(self.places.clients)))
 

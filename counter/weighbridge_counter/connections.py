@@ -19,10 +19,10 @@ from .files import tell
 from .places import Client, Doing, Lines, Places
 
 WAITING = 512  # connections that the system accepts before the counter does
+ACCEPTED_AT_ONCE = 32  # more would take all descriptors, until those that have no place are closed
 LONGEST_CAUSE = 160  # characters
 LOOK_EVERY = 0.5  # seconds
 EVENTS = "/events"
-SAFE = ("GET", "HEAD")
 TCP_CLOSE = 7  # the state in Linux of a connection that its client reset
 NO_DESCRIPTOR = (errno.EMFILE, errno.ENFILE, errno.ENOBUFS, errno.ENOMEM)
 Handler = Callable[[web.Request], Awaitable[web.StreamResponse]]
@@ -59,9 +59,9 @@ class Connections:
 
     def cut(self, client: Client, why: str) -> None:
         self.counts["clients_cut"] += 1
-        self.tell(client.address, f"its connection is cut, because {why}")
         self.places.leave(client)
         self.of.pop(client).wire.abort()
+        self.tell(client.address, f"its connection is cut, because {why}")
 
     def tell(self, address: str, what: str) -> None:
         for line in self.lines.put(address, what, self.loop.time()):
@@ -80,7 +80,11 @@ class Connections:
     async def look_while(self, server: asyncio.Server) -> None:
         while server.is_serving():
             await asyncio.sleep(LOOK_EVERY)
-            self.look()
+            try:
+                self.look()
+            except Exception as fault:  # such as a log that takes no line
+                what = {"message": "the look at connections failed", "exception": fault}
+                self.loop.call_exception_handler(what)
 
     def on_fault(self, loop: asyncio.AbstractEventLoop, context: dict[str, Any]) -> None:
         """Log once, and not at each try, that the system gives no more descriptors."""
@@ -137,6 +141,9 @@ class Connection(web.RequestHandler):
     async def attended(self, request: web.Request, handler: Handler) -> web.StreamResponse:
         """Have a request handled whose head came, and note what its client does. Raises NotTaken."""
         self.is_answered = False
+        if self.wire.is_closing() or self.is_reset():
+            self.force_close()
+            raise NotTaken("its connection ended before it was taken")
         self.client.does(Doing.SENDING_BODY, self.now())
         request.content.on_eof(self.has_body)
         if self.client.is_refused:
@@ -144,9 +151,6 @@ class Connection(web.RequestHandler):
         if self.client.ended is not None and self.client.doing is Doing.SENDING_BODY:
             self.force_close()
             raise NotTaken("it ended before the body was whole")
-        if request.method not in SAFE and self.is_reset():
-            self.force_close()
-            raise NotTaken("its client reset it before it was taken")
         if request.path == EVENTS:
             self.client.does(Doing.LISTENING, self.now())
         try:
@@ -157,6 +161,8 @@ class Connection(web.RequestHandler):
     def has_body(self) -> None:
         if self.client.doing is Doing.SENDING_BODY:
             self.client.does(Doing.ASKING, self.now())
+        elif self.client.doing is Doing.SENDING:  # the rest of a body that nobody waited for
+            self.client.does(Doing.NOTHING, self.now())
 
     def log_access(self, *args: Any, **more: Any) -> None:
         """aiohttp calls this once it has written a response."""
@@ -171,14 +177,17 @@ class Connection(web.RequestHandler):
 
     def is_reset(self) -> bool:
         """Return True if the client reset the connection, even if asyncio hasn't read that yet."""
-        info = self.wire.get_extra_info("socket").getsockopt(socket.IPPROTO_TCP, socket.TCP_INFO, 1)
-        return bool(info[0] == TCP_CLOSE)
+        stream = self.wire.get_extra_info("socket")
+        try:
+            return bool(stream.getsockopt(socket.IPPROTO_TCP, socket.TCP_INFO, 1)[0] == TCP_CLOSE)
+        except OSError:  # it is closed here too
+            return True
 
     def log_exception(self, *args: Any, **more: Any) -> None:
         fault = more.get("exc_info")
         if isinstance(fault, (HttpProcessingError, web.RequestPayloadError)):
             self.log_client(fault)
-        elif isinstance(fault, ConnectionError) and self.is_gone():
+        elif isinstance(fault, (ConnectionError, AssertionError)) and self.is_gone():
             self.log_client(fault)
         else:
             super().log_exception(*args, **more)
@@ -219,7 +228,11 @@ async def listen(
     await runner.setup()
     assert runner.server is not None
     connection = functools.partial(Connection, runner.server, connections, access_log=None)
-    server = await connections.loop.create_server(connection, *address, backlog=WAITING)
+    listener = socket.create_server(address, family=socket.AF_INET)
+    server = await connections.loop.create_server(
+        connection, sock=listener, backlog=ACCEPTED_AT_ONCE
+    )
+    listener.listen(WAITING)
     connections.loop.set_exception_handler(connections.on_fault)
     connections.looking = connections.loop.create_task(connections.look_while(server))
     return server

@@ -1,6 +1,7 @@
 """Decides which client gives way to a newcomer, and whose time is over. Has no clock and no sockets.
 
-An address is a client's IP address without its port. So one address with many connections can't keep the others out.
+An address is a client's IP address without its port. An address with many connections keeps the others out only while the counter works on a request
+of each.
 """
 
 import enum
@@ -15,6 +16,7 @@ HEAD_WITHIN = 5.0  # seconds from a request's first byte to the end of its head
 BODY_WITHIN = 5.0  # seconds from there to the end of its body
 ANSWERED_WITHIN = 5.0  # seconds from the end of a client's half to the end of its response
 TAKEN_WITHIN = 30.0  # seconds that a client may take for its response
+TAKES_SLOWLY = 2.0  # seconds after which it may have to give way
 SILENT_FOR = 75.0  # seconds between two requests
 
 
@@ -79,7 +81,7 @@ class Places:
         """
         gives_way = None
         if self.count() >= self.most:
-            gives_way = self.who_gives_way(newcomer.address)
+            gives_way = self.who_gives_way(newcomer.address, newcomer.since)
             newcomer.is_refused = gives_way is None
         if newcomer.is_refused and len(self.clients) - self.count() >= self.most_refused:
             return newcomer
@@ -95,23 +97,26 @@ class Places:
         """Return how many clients have a place."""
         return sum(not it.is_refused for it in self.clients)
 
-    def who_gives_way(self, address: str) -> Client | None:
+    def who_gives_way(self, address: str, now: float) -> Client | None:
         """Return who gives way to a newcomer of an address, or None if nobody does.
 
-        It is the one that has waited longest without a whole request, of the address that has most places. If nobody waits, it is the newest event
-        stream of the address that has most places, if that has more than the newcomer's will have. A request that is worked on never gives way. Nor
-        does anybody whose address has fewer places than the newcomer's.
+        It is the one that has waited longest without a whole request, of the address that has most places. If nobody waits, it is a slow reader, and
+        then the newest event stream, of the address that has most places, if that has more than the newcomer's will have. A request that is worked on
+        never gives way. Nor does anybody whose address has fewer places than the newcomer's.
         """
         placed = [it for it in self.clients if not it.is_refused]
         places = Counter(it.address for it in placed)
         own = places[address]
-
-        def of(doings: tuple[Doing, ...], at_least: int) -> list[Client]:
-            return [it for it in placed if it.doing in doings and places[it.address] >= at_least]
-
-        if waiting := of(WITHOUT_REQUEST, own):
+        if waiting := [
+            it for it in placed if it.doing in WITHOUT_REQUEST and places[it.address] >= own
+        ]:
             return max(waiting, key=lambda it: (places[it.address], -it.since))
-        if listening := of((Doing.LISTENING,), own + 2):
+        of_many = [it for it in placed if places[it.address] >= own + 2]
+        if slow := [
+            it for it in of_many if it.doing is Doing.TAKING and now - it.since > TAKES_SLOWLY
+        ]:
+            return max(slow, key=lambda it: (places[it.address], -it.since))
+        if listening := [it for it in of_many if it.doing is Doing.LISTENING]:
             return max(listening, key=lambda it: (places[it.address], it.since))
         return None
 

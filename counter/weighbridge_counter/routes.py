@@ -2,7 +2,9 @@
 
 import asyncio
 import functools
+import hashlib
 import json
+import mimetypes
 import socket
 import sys
 import urllib.parse
@@ -60,6 +62,22 @@ def as_text(
     return web.Response(
         status=status, body=body, headers={"Content-Type": kind, **NO_STORE, **fields}
     )
+
+
+def file_of(request: web.Request, path: Path) -> web.Response:
+    """Return a file of the page.
+
+    aiohttp's own response sends a file by sendfile. If the client is cut meanwhile, that keeps a descriptor, and breaks the next connection that gets its number.
+    """
+    content = path.read_bytes()
+    digest = hashlib.sha256(content).hexdigest()
+    is_known = any(it.value == digest for it in request.if_none_match or ())
+    fields = {"ETag": f'"{digest}"', **NO_CACHE}
+    response = web.Response(status=304 if is_known else 200, headers=fields)
+    if not is_known:
+        response.body = content
+        response.content_type = mimetypes.guess_type(path.name)[0] or "application/octet-stream"
+    return response
 
 
 class Routes:
@@ -165,16 +183,16 @@ class Routes:
     # ---- the page
 
     async def page(self, request: web.Request) -> web.StreamResponse:
-        return web.FileResponse(self.folder / "web" / "index.html", headers=NO_CACHE)
+        return file_of(request, self.folder / "web" / "index.html")
 
     async def page_file(self, request: web.Request) -> web.StreamResponse:
         path = self.folder / "web" / request.match_info["name"]
         if not path.is_file():
             raise web.HTTPNotFound
-        return web.FileResponse(path, headers=NO_CACHE)
+        return file_of(request, path)
 
     async def openapi(self, request: web.Request) -> web.StreamResponse:
-        return web.FileResponse(self.folder / "openapi.json", headers=NO_CACHE)
+        return file_of(request, self.folder / "openapi.json")
 
     async def time(self, request: web.Request) -> web.StreamResponse:
         return as_json({"now": self.counter.milliseconds()})
