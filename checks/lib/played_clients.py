@@ -8,6 +8,7 @@ import json
 import os
 import re
 import shutil
+import socket
 import ssl
 import subprocess
 import sys
@@ -21,7 +22,7 @@ from typing import Any
 
 TOP = os.path.dirname(os.path.dirname(os.path.dirname(os.path.abspath(__file__))))
 sys.path.insert(0, os.path.join(TOP, "checks", "lib"))
-from bridge import HOST, free_port  # noqa: E402
+from bridge import HOST  # noqa: E402
 from showing import same  # noqa: E402
 
 END = "AT 2025-03-10 08:00:00\nG      18340 kg\nE 20 kg MAX 60000 kg SERIAL WB01\nDIGEST a9\n"
@@ -413,12 +414,14 @@ def nothing_sent(client: str) -> None:
 
 
 def nobody(client: str) -> None:
-    address = f"http://{HOST}:{free_port()}"
-    it = Run(client, address)
-    said = ["key K", f"{address}: {REFUSED}{AGAIN}", f"{address}: {REFUSED}", NOTHING_SENT]
-    same(f"{client}: nobody listens", (1, "", said), (it.status, it.out, few(it.said)))
-    same(f"{client}: it gave up in time: {it.took:.1f} s", True, 2 <= it.took <= 8)
-    it = Run(client, address, "first", "AB-12", "K1")
+    with socket.socket() as held:  # bound and not listening, so that no other check gets its port
+        held.bind((HOST, 0))
+        address = f"http://{HOST}:{held.getsockname()[1]}"
+        it = Run(client, address)
+        said = ["key K", f"{address}: {REFUSED}{AGAIN}", f"{address}: {REFUSED}", NOTHING_SENT]
+        same(f"{client}: nobody listens", (1, "", said), (it.status, it.out, few(it.said)))
+        same(f"{client}: it gave up in time: {it.took:.1f} s", True, 2 <= it.took <= 8)
+        it = Run(client, address, "first", "AB-12", "K1")
     said = ["key K", f"{address}: {REFUSED}{AGAIN}", *unknown(address, REFUSED, is_asked=False)]
     same(f"{client}: nobody listens, a given key", (3, said), (it.status, few(it.said)))
     address = "http://no-such-host.invalid"
