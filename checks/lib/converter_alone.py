@@ -268,6 +268,10 @@ def leaves_points(folder, path, points, finish):
 
 
 def hands_on_loads(folder):
+    undisturbed("lines of counts", hands_on_each_load, folder)
+
+
+def hands_on_each_load(folder):
     running = Running(folder)
     client = running.client()
     time.sleep(0.2)

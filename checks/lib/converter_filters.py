@@ -4,12 +4,13 @@ import math
 import os
 import random
 import shutil
+import tempfile
 import threading
 import time
 from fractions import Fraction
 
 import bridge
-from converting import PROGRAM, TOP, Running, calibrate, holds, ran, same
+from converting import PROGRAM, TOP, Running, calibrate, holds, ran, same, undisturbed
 from devices import wait_for
 
 
@@ -46,35 +47,39 @@ def filters(folder):
         ("mean", 8),
         ("mean", 32),
     ):
-        same(
-            f"the filter {kind} {number}",
-            0,
-            ran(
-                "finish", "--calibration", "calibration", "--filter", kind, str(number), folder=own
-            )[0],
-        )
         readings = [
             None
             if made.random() < 0.02
             else made.choice([made.randrange(-50, 50), made.randrange(-900_000, 900_000)])
             for _ in range(400)
         ]
-        running = Running(own)
-        client = running.client()
-        time.sleep(0.2)
-        for at in range(0, 400, 4):
-            running.write(
-                "".join("lost\n" if it is None else f"{it}\n" for it in readings[at : at + 4])
-            )
-            wait_for("the lines", lambda at=at: len(client.lines) >= at + 4)
-        same(
-            f"{kind} of {number}",
-            ["lost" if it is None else str(it) for it in filtered(kind, number, readings)],
-            client.texts(),
-        )
-        client.close()
-        running.close()
+        undisturbed(f"{kind} of {number}", goes_through_a_filter, own, kind, number, readings)
     print("3,200 lines through eight filters, as computed: ok", flush=True)
+
+
+def goes_through_a_filter(folder, kind, number, readings):
+    same(
+        f"the filter {kind} {number}",
+        0,
+        ran("finish", "--calibration", "calibration", "--filter", kind, str(number), folder=folder)[
+            0
+        ],
+    )
+    running = Running(folder)
+    client = running.client()
+    time.sleep(0.2)
+    for at in range(0, 400, 4):
+        running.write(
+            "".join("lost\n" if it is None else f"{it}\n" for it in readings[at : at + 4])
+        )
+        wait_for("the lines", lambda at=at: len(client.lines) >= at + 4)
+    same(
+        f"{kind} of {number}",
+        ["lost" if it is None else str(it) for it in filtered(kind, number, readings)],
+        client.texts(),
+    )
+    client.close()
+    running.close()
 
 
 def steady(loads, kind, number, window=10, band=2):
@@ -127,6 +132,8 @@ class Swinging(threading.Thread):
             None,
             threading.Event(),
         )
+        # How many readings the converter got since the load was let go.
+        self.readings = 0
         self.start()
 
     def run(self):
@@ -137,6 +144,8 @@ class Swinging(threading.Thread):
                 age = due - self.since
                 swing = 60 * math.exp(-age / 1.5) * math.cos(2 * math.pi * self.frequency * age)
             self.running.write(f"{10_004 + round(swing)}\n")
+            if self.since is not None:
+                self.readings += 1
             due += 0.1
             time.sleep(max(0, due - time.monotonic()))
 
@@ -146,25 +155,31 @@ class Swinging(threading.Thread):
 
 
 def stable_equilibrium(folder):
-    """A load is pushed and let go, and `S` sent once half of a filter's readings have seen it, since a median shows none of it before: in the five
-    seconds after its answer no more than two adjacent weights are indicated, one of them the answer's. The window has a second.
+    """A load is pushed and let go. This sends `S` once more than half of a filter's readings have seen it, because a median shows none of it before.
+    In the five seconds after its answer no more than two adjacent weights are indicated, one of them the answer's. The window has a second.
     """
     cases = [
         (kind, number, frequency)
         for kind, number in (("median", 5), ("mean", 8))
         for frequency in (0.4, 1.0, 1.5)
     ]
-    tried = [threading.Thread(target=comes_to_rest, args=(folder, *case)) for case in cases]
+    tried = [
+        threading.Thread(target=undisturbed, args=(swing_of(*case), comes_to_rest, folder, *case))
+        for case in cases
+    ]
     for it in tried:
         it.start()
     for it in tried:
         it.join()
 
 
+def swing_of(kind, number, frequency):
+    return f"{kind} of {number}, a swing of {frequency} a second"
+
+
 def comes_to_rest(folder, kind, number, frequency):
-    name = f"{kind} of {number}, a swing of {frequency} a second"
-    own = os.path.join(folder, f"rest_{kind}_{frequency}")
-    os.makedirs(own)
+    name = swing_of(kind, number, frequency)
+    own = tempfile.mkdtemp(dir=folder)
     shutil.copy(os.path.join(folder, "even", "calibration"), own)
     ran("finish", "--calibration", "calibration", "--filter", kind, str(number), folder=own)
     running = Running(own)
@@ -175,7 +190,8 @@ def comes_to_rest(folder, kind, number, frequency):
     terminal = bridge.Terminal(service)
     time.sleep(4)
     swinging.since = time.monotonic()
-    time.sleep(0.2 + number / 20)
+    wait_for(f"{name}: readings", lambda: swinging.readings >= 2 + number / 2)
+    time.sleep(0.05)
     answer = terminal.ask("S")
     waited = time.monotonic() - swinging.since
     weights = set()

@@ -33,8 +33,13 @@ failures = []
 # In each thread that makes an attempt, the failures of that attempt.
 attempts = threading.local()
 ATTEMPTS = 4
-# Of what a part tries, the least share that has to be judged because no stall touched it.
-JUDGED = 0.8
+# Of the time of this check, the least share in which each processor has to run.
+RUNNING = 0.8
+# Of the lines of the seconds that no stall touches, the least share that is judged. The others were on their way when a
+# stall began.
+JUDGED = 0.9
+# A run ends after so many times its seconds, even if stalls touched too many of them.
+LONGEST = 2.5
 # How old a reading may be when it comes.
 NEW = 0.25
 stalls = Stalls()
@@ -66,6 +71,8 @@ def undisturbed(name, attempt, *given):
         attempts.failed, begin = [], time.monotonic()
         try:
             attempt(*given)
+        except SystemExit as fault:  # what it waited for didn't come
+            attempts.failed.append(str(fault))
         finally:
             failed, attempts.failed = attempts.failed, None
         is_disturbed = bool(failed) and stalls.touch(begin, time.monotonic())
@@ -82,10 +89,20 @@ def undisturbed(name, attempt, *given):
         holds(what, False)
 
 
-def is_judged_enough(name, judged, count):
+def is_judged_enough(name, judged, wanted):
     holds(
-        f"{name}: {judged} of {count} lines are judged, because a stall touched the others",
-        judged >= JUDGED * count,
+        f"{name}: only {judged} lines are judged, of {wanted:.0f} in the seconds that no stall touches",
+        judged >= JUDGED * wanted,
+    )
+
+
+def lasts_long_enough(name, begin, seconds):
+    """Lets a part run on until no stall has touched these seconds of it. Stalls that leave too few are a failure."""
+    stalls.sleep(seconds, LONGEST * seconds)
+    untouched = stalls.untouched(begin)
+    holds(
+        f"{name}: stalls touched all but {untouched:.0f} of {time.monotonic() - begin:.0f} s",
+        untouched >= seconds,
     )
 
 
