@@ -38,7 +38,7 @@ RUNNING = 0.8
 # Of the lines of the seconds that no stall touches, the least share that is judged. The others were on their way when a
 # stall began.
 JUDGED = 0.9
-# A run ends after so many times its seconds, even if stalls touched too many of them.
+# A run ends at the latest after LONGEST times its seconds, even if stalls touched too many of them.
 LONGEST = 2.5
 # How old a reading may be when it comes.
 NEW = 0.25

@@ -1,4 +1,4 @@
-"""What the readers make of faults, for checks/converters: of each by itself, of odd answers, of devices that were off, and of faults at random."""
+"""Shows what the readers make of faults, for checks/converters: single ones, odd answers, devices that were off, faults at random."""
 
 import os
 import random
@@ -389,7 +389,7 @@ def stores_what_stood(name, device, folder, seconds):
         len(stored) >= seconds / 20,
     )
     holds(
-        f"{name}: {excused} of {len(stored)} weighings, at stalls, are of a load that didn't stand there",
+        f"{name}: {excused} of {len(stored)} weighings, at stalls, are of a load that wasn't there",
         excused <= len(stored) / 4,
     )
     same(

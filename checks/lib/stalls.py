@@ -64,7 +64,7 @@ class Stalls:
 
     @property
     def found(self) -> list[tuple[float, float]]:
-        """The begin and the end of each time in which a processor stood still."""
+        """Returns the begin and the end of each time in which a processor was stopped."""
         return joined(stall for it in self.watches for stall in list(it.found))
 
     def wait_until(self, moment: float) -> None:
