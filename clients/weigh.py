@@ -5,8 +5,11 @@ A weighing has a key of its own. If none is given, this program makes one. It se
 30 seconds, or WEIGHBRIDGE_SECONDS. So the weighing is stored once, however often the connection is cut, and no other vehicle is weighed in its place.
 If this program is stopped earlier, call it again with the key that it printed on standard error, as long as the vehicle is on the bridge.
 
-WEIGHBRIDGE is the address of the office or the counter, http://127.0.0.1:8080 if it isn't set: http or https, a host, and optionally a port and a
-path. No proxy is used. With https the certificate must be trusted by the system, or by the file that SSL_CERT_FILE names.
+With --tare, a single weighing has this tare in kg. Only the counter sets it, weighs, and clears it again in one request. The office refuses it.
+
+WEIGHBRIDGE is the address of the office or the counter: http or https, a host, and optionally a port and a path. If it isn't set, the copy of the
+package asks the counter at http://127.0.0.1:882 if its package is installed, and otherwise the office at http://127.0.0.1:880. Any other copy asks
+http://127.0.0.1:8080. No proxy is used. With https the certificate must be trusted by the system, or by the file that SSL_CERT_FILE names.
 
 Only the office's own judgement settles the request: a slip or ticket of this plate, a refusal, or `fault 422 bad_field`. Any other response doesn't,
 because it says nothing of an earlier attempt. Examples are nginx's 401 or 429, and a `counter ..` of the counter.
@@ -23,7 +26,7 @@ The status is one of these:
 - 3: It isn't known whether the weighing is stored, because no answer came in time, this program was stopped, or the entry under its key is
   damaged. Or it is stored, but its text didn't come. Standard error says which.
 
-Since version 2.1.1: https, and a path in the address. Wrong addresses end with status 2. A 201 without a slip or ticket
+Since version 2.1.1: --tare, https, and a path in the address. The copy of the package asks the package's own ports. Wrong addresses end with status 2. A 201 without a slip or ticket
 doesn't mean that the weighing is stored. This program asks the counter about the key, and status 1 also means that nothing was sent or stored.
 """
 
@@ -43,7 +46,9 @@ import urllib.parse
 from collections.abc import Mapping
 from typing import NamedTuple, NoReturn
 
-REFUSALS = os.path.join(os.path.dirname(os.path.abspath(__file__)), "refusals.txt")
+FOLDER = os.path.dirname(os.path.realpath(__file__))
+REFUSALS = os.path.join(FOLDER, "refusals.txt")
+TARE = "[1-9][0-9]{0,6}"
 HOST = r"([A-Za-z0-9_-]{1,63}(\.[A-Za-z0-9_-]{1,63})*\.?|\[[0-9A-Fa-f:.]+\])"
 ADDRESS = re.compile(rf"(https?)://({HOST}(:[1-9][0-9]{{0,4}})?)((/[A-Za-z0-9._~%-]+)*)/?")
 NOT_WITHIN_THE_OFFICE = 6.0  # seconds, after which no request waits in the office any more
@@ -67,6 +72,15 @@ def say(words: str) -> None:
 def wrong(words: str) -> NoReturn:
     say(words)
     sys.exit(2)
+
+
+def own_address() -> str:
+    """Return the address that is asked if none is given."""
+    if FOLDER != "/usr/share/weighbridge/clients":
+        return "http://127.0.0.1:8080"
+    if os.path.exists("/usr/bin/weighbridge-counter"):
+        return "http://127.0.0.1:882"
+    return "http://127.0.0.1:880"
 
 
 def cause_of(error: ssl.SSLError) -> str:
@@ -188,17 +202,26 @@ def end_unsettled(is_reached: bool, is_sent: bool) -> NoReturn:
     sys.exit(3)
 
 
-parser = argparse.ArgumentParser(description=(__doc__ or "").splitlines()[0])
+parser = argparse.ArgumentParser(description=(__doc__ or "").splitlines()[0], allow_abbrev=False)
+parser.add_argument("--tare", metavar="KG", help="weigh with this tare, only at a counter")
 parser.add_argument("kind", choices=["first", "second", "single", "void"])
 parser.add_argument("plate")
 parser.add_argument("key", nargs="?", default="")
 form = vars(parser.parse_args())
+tare = form.pop("tare")
+if tare is not None:
+    if not re.fullmatch(TARE, tare, re.ASCII):
+        wrong(f"--tare: {tare} is no tare, because it isn't a whole number of kg from 1 to 9999999")
+    if form["kind"] != "single":
+        wrong(f"--tare: {form['kind']} takes no tare; only single does")
+    form["tare"] = tare
 is_given = form["key"] != ""
 form["key"] = form["key"] or secrets.token_hex(10)
 target = "/voids" if form["kind"] == "void" else "/weighings"
-again = f"{sys.argv[0]} {form['kind']} {form['plate']} {form['key']}"
+with_tare = f"--tare {tare} " if tare else ""
+again = f"{sys.argv[0]} {with_tare}{form['kind']} {form['plate']} {form['key']}"
 
-address = os.environ.get("WEIGHBRIDGE") or "http://127.0.0.1:8080"
+address = os.environ.get("WEIGHBRIDGE") or own_address()
 parts = ADDRESS.fullmatch(address)
 if parts is None or int((parts[5] or ":80")[1:]) not in range(1, 65536):
     wrong(

@@ -1,15 +1,19 @@
 #!/bin/sh
 # Weighs the vehicle that is on the bridge, or voids the open weighing of a plate, and prints the ticket or slip.
 #
-# Usage: weigh.sh first|second|single|void PLATE [KEY]
+# Usage: weigh.sh [--tare KG] first|second|single|void PLATE [KEY]
 #
 # A weighing has a key of its own. If none is given, this program makes one. It sends the request again with this key until it is answered, for
 # at most 30 seconds, or WEIGHBRIDGE_SECONDS. So the weighing is stored once, however often the connection is cut, and no other vehicle is
 # weighed in its place. If this program is stopped earlier, call it again with the key that it printed on standard error, as long as the vehicle
 # is on the bridge.
 #
-# WEIGHBRIDGE is the address of the office or the counter, http://127.0.0.1:8080 if it isn't set: http or https, a host, and optionally a port
-# and a path. No proxy is used. With https the certificate must be trusted by the system, or by the file that SSL_CERT_FILE names. Needs curl.
+# With --tare, a single weighing has this tare in kg. Only the counter sets it, weighs, and clears it again in one request. The office refuses it.
+#
+# WEIGHBRIDGE is the address of the office or the counter: http or https, a host, and optionally a port and a path. If it isn't set, the copy of
+# the package asks the counter at http://127.0.0.1:882 if its package is installed, and otherwise the office at http://127.0.0.1:880. Any other
+# copy asks http://127.0.0.1:8080. No proxy is used. With https the certificate must be trusted by the system, or by the file that
+# SSL_CERT_FILE names. Needs curl.
 #
 # Only the office's own judgement settles the request: a slip or ticket of this plate, a refusal, or `fault 422 bad_field`. Any other response
 # doesn't, because it says nothing of an earlier attempt. Examples are nginx's 401 or 429, and a `counter ..` of the counter.
@@ -26,23 +30,41 @@
 # - 3: It isn't known whether the weighing is stored, because no answer came in time, this program was stopped, or the entry under its key is
 #   damaged. Or it is stored, but its text didn't come. Standard error says which.
 #
-# Since version 2.1.1: no proxy, and only an address of the form above. Wrong addresses end with status 2. A 201 without a slip or ticket
+# Since version 2.1.1: --tare, no proxy, and only an address of the form above. The copy of the package asks the package's own ports. Wrong addresses end with status 2. A 201 without a slip or ticket
 # doesn't mean that the weighing is stored. This program asks the counter about the key, and status 1 also means that nothing was sent or stored.
 set -eu
 LC_ALL=C # the words of curl, and the letters of an address
 export LC_ALL
+has_tare=no tare=
+if [ "${1-}" = --tare ] && [ $# -gt 1 ]; then
+    has_tare=yes tare=$2
+    shift 2
+fi
 case "${1-} $#" in
     first\ [23] | second\ [23] | single\ [23] | void\ [23]) ;;
     *)
-        echo "usage: weigh.sh first|second|single|void PLATE [KEY]" >&2
+        echo "usage: weigh.sh [--tare KG] first|second|single|void PLATE [KEY]" >&2
         exit 2
         ;;
 esac
 kind=$1 plate=$2 given=${3-}
+if [ "$has_tare" = yes ]; then
+    case "$tare" in
+        '' | 0* | *[!0-9]* | ????????*)
+            echo "--tare: $tare is no tare, because it isn't a whole number of kg from 1 to 9999999" >&2
+            exit 2
+            ;;
+    esac
+    if [ "$kind" != single ]; then
+        echo "--tare: $kind takes no tare; only single does" >&2
+        exit 2
+    fi
+fi
+folder=$(dirname "$(readlink -f "$0")")
 key=${given:-$(od -A n -N 10 -t x1 /dev/urandom | tr -d ' \n')}
 target=weighings
 [ "$kind" != void ] || target=voids
-again="$0 $kind $plate $key"
+again="$0 ${tare:+--tare $tare }$kind $plate $key"
 
 # Whether this is an address that both clients take.
 is_address() {
@@ -53,7 +75,18 @@ is_address() {
     [ "${port:-80}" -le 65535 ]
 }
 
-address=${WEIGHBRIDGE:-http://127.0.0.1:8080}
+# Prints the address that is asked if none is given.
+own_address() {
+    if [ "$folder" != "/usr/share/weighbridge/clients" ]; then
+        echo "http://127.0.0.1:8080"
+    elif [ -e "/usr/bin/weighbridge-counter" ]; then
+        echo "http://127.0.0.1:882"
+    else
+        echo "http://127.0.0.1:880"
+    fi
+}
+
+address=${WEIGHBRIDGE:-$(own_address)}
 if ! is_address "$address"; then
     echo "WEIGHBRIDGE: $address is no address of an office, because it isn't http:// or https:// with a host, and at most a port and a path; set it as in http://127.0.0.1:8080" >&2
     exit 2
@@ -98,7 +131,7 @@ ask() {
 
 # Sends the weighing once. The argument is the most seconds.
 weigh() {
-    ask "$1" "$target" --data-urlencode "key=$key" --data-urlencode "plate=$plate" --data-urlencode "kind=$kind"
+    ask "$1" "$target" --data-urlencode "key=$key" --data-urlencode "plate=$plate" --data-urlencode "kind=$kind" ${tare:+--data-urlencode "tare=$tare"}
 }
 
 # Sets why no whole answer came, by what curl says of it.
@@ -128,7 +161,7 @@ reason() {
     if [ -z "$begin" ]; then
         why="its answer with status $status isn't one of the office."
     else
-        why=$(grep "^$begin" "$(dirname "$0")/refusals.txt" || printf '%s\n' "$text" | head -n 1)
+        why=$(grep "^$begin" "$folder/refusals.txt" || printf '%s\n' "$text" | head -n 1)
     fi
 }
 

@@ -241,6 +241,75 @@ def tls(client: str) -> None:
         same(f"{client}: https to a port without it", (1, words), (it.status, it.said[1]))
 
 
+def tares(client: str) -> None:
+    """Show that a tare goes with a Single only, in the same request each time, and in the words that repeat it."""
+    place = Place([NO_ANSWER, (201, TICKET)])
+    it = Run(client, place.address(), "--tare", "5000", "single", "AB-12", "K1")
+    same(f"{client}: a tare", (0, TICKET), it.all()[:2])
+    bodies = [set(body.split("&")) for _, _, body, _ in place.seen]
+    same(
+        f"{client}: the request with a tare",
+        [{"key=K1", "plate=AB-12", "kind=single", "tare=5000"}] * 2,
+        bodies,
+    )
+    place = Place([NO_ANSWER])
+    it = Run(client, place.address(), "--tare", "5000", "single", "AB-12")
+    said = "if the vehicle is still on the bridge: CLIENT --tare 5000 single AB-12 K"
+    same(f"{client}: the words that repeat it", (3, said), (it.status, it.said[-2]))
+    it = Run(client, Place([STORED]).address())
+    same(f"{client}: no tare", (0, SLIP), it.all()[:2])
+    place = Place([STORED])
+    said = "--tare: {} is no tare, because it isn't a whole number of kg from 1 to 9999999"
+    for tare in ("0", "x", "-1", "1.5", "05000", "10000000", "", "1 2", "5\n"):
+        it = Run(client, place.address(), "--tare", tare, "single", "AB-12")
+        found = (*it.all()[:2], "\n".join(it.said))
+        same(f"{client}: the tare {tare!r}", (2, "", said.format(tare)), found)
+    for kind in ("first", "second", "void"):
+        it = Run(client, place.address(), "--tare", "5000", kind, "AB-12")
+        said = f"--tare: {kind} takes no tare; only single does"
+        same(f"{client}: a tare for {kind}", (2, "", [said]), it.all())
+    same(f"{client}: nothing was sent with a wrong tare", [], place.seen)
+
+
+def own_address(client: str) -> None:
+    """Show which address is asked if none is given: of a package's copy the counter's if that is installed, and else the office's."""
+    counter, office, started = Place([STORED]), Place([STORED]), Place([STORED])
+    with tempfile.TemporaryDirectory() as folder:
+        packaged = os.path.join(folder, "clients")
+        shutil.copytree(os.path.join(TOP, "clients"), packaged)
+        path, program = os.path.join(packaged, client), os.path.join(folder, "counter")
+        with open(path) as code:
+            text = code.read()
+        for was, now in (
+            ("/usr/share/weighbridge/clients", packaged),
+            ("/usr/bin/weighbridge-counter", program),
+            ("http://127.0.0.1:882", counter.address()),
+            ("http://127.0.0.1:880", office.address()),
+        ):
+            same(f"{client}: its code has {was}", True, was in text)
+            text = text.replace(was + "'", now + "'").replace(was + '"', now + '"')
+        text = text.replace("http://127.0.0.1:8080", started.address())
+        with open(path, "w") as code:
+            code.write(text)
+        same(f"{client}: a package's copy", 0, Run(path, "").status)
+        seen = [len(it.seen) for it in (office, counter, started)]
+        same(f"{client}: it asks the office", [1, 0, 0], seen)
+        with open(program, "w"):
+            pass
+        same(f"{client}: a package's copy, with a counter", 0, Run(path, "").status)
+        seen = [len(it.seen) for it in (office, counter, started)]
+        same(f"{client}: it asks the counter", [1, 1, 0], seen)
+        link = os.path.join(folder, client)
+        os.symlink(path, link)
+        same(f"{client}: by a link to it", 0, Run(link, "").status)
+        seen = [len(it.seen) for it in (office, counter, started)]
+        same(f"{client}: by a link it asks the counter", [1, 2, 0], seen)
+        other = shutil.copytree(packaged, os.path.join(folder, "other"))
+        same(f"{client}: another copy", 0, Run(os.path.join(other, client), "").status)
+        seen = [len(it.seen) for it in (office, counter, started)]
+        same(f"{client}: another copy asks a service of the sources", [1, 2, 1], seen)
+
+
 def few(said: list[str]) -> list[str]:
     """Return what was said, each line that was repeated once."""
     return list(dict.fromkeys(said))
@@ -453,6 +522,8 @@ CASES = (
     texts,
     no_proxy,
     addresses,
+    own_address,
+    tares,
     seconds,
     tls,
     strangers,
