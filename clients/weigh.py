@@ -8,7 +8,7 @@ If this program is stopped earlier, call it again with the key that it printed o
 With --tare, a single weighing has this tare in kg. Only the counter sets it, weighs, and clears it again in one request. The office refuses it.
 
 WEIGHBRIDGE is the address of the office or the counter: http or https, a host, and optionally a port and a path. If it isn't set, the copy of the
-package asks the counter at http://127.0.0.1:882 if its package is installed, and otherwise the office at http://127.0.0.1:880. Any other copy asks
+package asks the counter at http://127.0.0.1:882. Without the counter's package it asks the office at http://127.0.0.1:880. Any other copy asks
 http://127.0.0.1:8080. No proxy is used. With https the certificate must be trusted by the system, or by the file that SSL_CERT_FILE names.
 
 Only the office's own judgement settles the request: a slip or ticket of this plate, a refusal, or `fault 422 bad_field`. Any other response doesn't,
