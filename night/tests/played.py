@@ -1,4 +1,4 @@
-"""What the tests play: the clock, other programs, the office, a host with sftp, and a journal."""
+"""Plays the clock, other programs, the office, a host with sftp, and a journal."""
 
 import fnmatch
 import os
@@ -25,7 +25,7 @@ EMPTY = "STABLE G          0 kg N          0 kg"
 
 
 class Clock:
-    """A clock that moves only when it is told to."""
+    """A clock that moves only when a test moves it."""
 
     def __init__(self) -> None:
         self.now = BEGIN

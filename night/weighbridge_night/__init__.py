@@ -6,7 +6,7 @@ needn't have typed anything, and needn't have been there.
 
 The night never writes the journal. It reads its files, and works on a copy. A purge is the office's own request, as a person would send it.
 
-The modules: `setup` reads the file of the setup; `keep` has the names of copies, and the rule which of them stay; `copying` reads the journal while it is
-served; `programs` runs other programs, each with its time; `office` asks the service; `files` makes each change of a disk; `folder` and `remote` are the
-places of copies; `last` is the file that the morning reads; `night` does one after the other.
+`night` does one step after the other. `setup` reads the file of the setup. `keep` has the names of copies, and the rule which of them stay. `copying` reads
+the journal while it is served. `programs` runs other programs, each with its time. `office` asks the service. `files` makes each change of a disk. `folder`
+and `remote` are the places of copies. `last` is the file that the morning reads.
 """

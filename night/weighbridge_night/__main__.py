@@ -15,7 +15,7 @@ from .programs import RealPrograms
 from .setup import PATH, Refused, Setup, read_setup
 
 STATE = "/var/lib/weighbridge-night"
-# What the system's journal shows of a line that begins so: an error, a notice.
+# The system's journal shows a line that begins so as an error, or as a notice.
 ERROR, NOTICE = "<3>", "<5>"
 
 

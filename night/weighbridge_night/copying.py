@@ -5,7 +5,7 @@ It would also have to write a `-shm` file into the journal's folder, and the nig
 
 So the night reads the bytes of all files, and then reads all of them again. It takes the first reading only if the second has the same bytes. Then these
 bytes were in all files at one moment, which is the one between the two readings. A byte can't have changed and changed back. The log only grows until it
-begins again, and then its header has other salts. `journal.db` changes only when the log is brought over, which lies between two changes of the log. The
+begins again, and then its header has other salts. `journal.db` changes only at a checkpoint, which lies between two changes of the log. The
 files at one moment are what a kill of the service at that moment would have left, and the service promises that a kill loses nothing that it answered.
 
 A reading takes no lock and writes nothing, so the service doesn't notice it.
@@ -31,7 +31,7 @@ READING = (
 
 @dataclass(frozen=True)
 class Seen:
-    """What a reading found of a file."""
+    """A file, as a reading found it."""
 
     inode: int
     size: int

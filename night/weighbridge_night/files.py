@@ -1,4 +1,4 @@
-"""Each change that the night makes on a disk. What is written has a temporary name until the disk has it."""
+"""Each change that the night makes on a disk. A new file has a temporary name until the disk has it."""
 
 import hashlib
 import json
@@ -11,7 +11,7 @@ CHUNK = 1 << 20
 
 
 class Fault(Exception):
-    """What failed, in the words that the morning reads."""
+    """A failure, in the words that the morning reads."""
 
 
 def fault_of(path: str, error: OSError, todo: str) -> Fault:
@@ -86,7 +86,7 @@ def read_json(path: str) -> dict[str, Any]:
 
 
 def remove_folder(path: str) -> None:
-    """Remove a folder of the night's own. What a kill leaves of it is removed by the next night."""
+    """Remove a folder of the night's own. The next night removes the rest after a kill."""
     if os.path.islink(path) or not os.path.isdir(path):
         os.unlink(path)
     else:

@@ -21,7 +21,7 @@ def shown(moment: datetime) -> str:
 
 @dataclass
 class Step:
-    """What became of a step."""
+    """A step, and how it ended."""
 
     step: str
     state: str

@@ -1,7 +1,7 @@
 """One night: each step after the other, and what each needs of those before.
 
-A kill between any two steps, or within one, does no harm. The journal is only read. What is made has a temporary name until it is whole, and the next night
-removes what is left of it. The next night copies the journal again, so it makes up for all that this one missed.
+A kill between any two steps, or within one, does no harm. The night only reads the journal. A copy has a temporary name until it is whole, and the next
+night removes one that isn't. The next night copies the journal again, so it makes up for all that this one missed.
 """
 
 import csv
@@ -52,7 +52,7 @@ class Keeper(Protocol):
 
 @dataclass
 class World:
-    """What a night asks: the clock, other programs, the office."""
+    """The clock, other programs and the office, as a night asks them."""
 
     now: Callable[[], datetime]
     sleep: Callable[[float], None]
@@ -241,7 +241,7 @@ class Night:
         return f"{len(kept)} copies of {size} bytes stay, {len(gone)} were removed"
 
     def purge(self) -> None:
-        """Ask for a purge, if a sound copy of this night is kept. What a purge removes is then in that copy."""
+        """Ask for a purge, if a sound copy of this night is kept. That copy then has each entry that the purge removes."""
         if not self.setup.purge:
             self.note("purge", DONE, "not wanted, by the setup")
         elif not (self.stored and self.is_sound):

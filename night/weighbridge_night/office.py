@@ -1,4 +1,4 @@
-"""What the night asks of the service's office, and what it makes of an indication."""
+"""Asks the service's office for an indication and for a purge."""
 
 import http.client
 import re
@@ -9,7 +9,7 @@ from .files import Fault
 INDICATED = re.compile(r"STABLE G +(-?\d+) kg N +-?\d+ kg")
 PURGED = re.compile(r"PURGED (\d+)")
 LOOKING, PURGING = 20.0, 300.0  # seconds
-# Below so many intervals the bridge counts as cleared.
+# In intervals; below it the bridge counts as cleared.
 MIN = 20
 
 

@@ -12,7 +12,7 @@ from .files import Fault
 
 @dataclass(frozen=True)
 class Ran:
-    """What a program ended with."""
+    """A program's status and output."""
 
     status: int
     out: str
@@ -25,7 +25,7 @@ class Ran:
 
 
 class Programs(Protocol):
-    """What runs a program."""
+    """Runs programs."""
 
     def run(
         self, words: Sequence[str], seconds: float, given: str = "", to: str | None = None
@@ -47,11 +47,7 @@ class RealPrograms:
 
     def __init__(self, scratch: str) -> None:
         self.scratch = scratch
-        self.before = (
-            ["/usr/bin/setpriv", "--ambient-caps=-all", "--inh-caps=-all", "--"]
-            if holds_rights()
-            else []
-        )
+        self.before = ["/usr/bin/setpriv", "--ambient-caps=-all", "--"] if holds_rights() else []
 
     def run(
         self, words: Sequence[str], seconds: float, given: str = "", to: str | None = None

@@ -1,6 +1,7 @@
 """Copies on another host, by sftp of the distribution's OpenSSH.
 
-A batch of sftp ends at the first command that fails, unless a `-` is before it. The host's key must be known, and nobody is asked for a password.
+A batch of sftp ends at the first command that fails, unless a `-` is before it. sftp accepts only a known key of the host.
+It asks nobody for a password.
 """
 
 import os

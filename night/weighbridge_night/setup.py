@@ -12,7 +12,7 @@ ADDRESS = re.compile(r"127(?:\.\d{1,3}){3}:\d{1,5}")
 LABEL = re.compile(r"[A-Za-z0-9_-]{1,16}")
 HOST = re.compile(r"[A-Za-z0-9][A-Za-z0-9.:-]{0,252}")
 USER = re.compile(r"[a-z_][a-z0-9_-]{0,31}")
-# What needs no quoting in a batch of sftp.
+# Paths that need no quotes in a batch of sftp.
 REMOTE = re.compile(r"/?[A-Za-z0-9_][A-Za-z0-9_.-]*(?:/[A-Za-z0-9_][A-Za-z0-9_.-]*)*")
 KINDS = {
     "folder": {"path"},
@@ -52,7 +52,7 @@ class Place:
 
 @dataclass(frozen=True)
 class Setup:
-    """What the night does."""
+    """The whole setup of a night."""
 
     bridge: str
     purge: bool
