@@ -28,7 +28,7 @@ LIBRARIES = ["-lsqlite3", "-lcrypto"]
 SEED, ROUNDS = 20261130, 420
 ENDINGS = ("", "-wal", "-newest")
 KINDS = ("first", "second", "single", "void")
-# What is wrong with a number by the check too, and the texts of a journal that the check refuses.
+# These lines of the verifiers name a number that the check finds faulty, or a journal that it refuses.
 MISSING = re.compile(r"numbers? ([0-9]+)(?: to [0-9]+)? (?:is|are) missing$")
 DAMAGED = re.compile(
     r"number ([0-9]+) (?:doesn't fit its digest|isn't chained to number [0-9]+|has no First)$"
