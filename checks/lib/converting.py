@@ -37,7 +37,7 @@ ATTEMPTS = 4
 RUNNING = 0.8
 # Of the lines of the seconds that no stall touches, the least share that is judged. The others were on their way when a
 # stall began.
-JUDGED = 0.9
+JUDGED = 0.8
 # A run ends at the latest after LONGEST times its seconds, even if stalls touched too many of them.
 LONGEST = 2.5
 # How old a reading may be when it comes.
