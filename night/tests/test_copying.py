@@ -125,7 +125,7 @@ class CopyingTest(NightCase):
 
     def test_a_file_that_cannot_be_read(self) -> None:
         error = PermissionError(13, "Permission denied", self.journal)
-        with mock.patch.object(copying, "chunks", side_effect=error):
+        with mock.patch("os.open", side_effect=error):
             with self.assertRaisesRegex(Fault, "Permission denied; the night's user must be able"):
                 self.copied()
 

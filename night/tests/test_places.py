@@ -16,7 +16,7 @@ from weighbridge_night.programs import Ran
 from weighbridge_night.remote import Remote
 from weighbridge_night.setup import GB, Place
 
-COPY = Copy(BEGIN, "sound", 3, 30)
+COPY = Copy(BEGIN, "sound", 3, 34_000)
 SERVERS = (
     os.environ.get("WEIGHBRIDGE_SFTP_SERVER", ""),
     "/usr/lib/openssh/sftp-server",

@@ -99,7 +99,7 @@ class SetupTest(unittest.TestCase):
                 )
                 self.assertEqual((it.returncode, it.stdout), (2, ""))
                 self.assertEqual(it.stderr.count(f"weighbridge-night: {path}: "), 3)
-            self.assertEqual(os.listdir(folder), ["setup.toml"])
+            self.assertEqual(sorted(os.listdir(folder)), ["last.json", "setup.toml"])
             it = subprocess.run([program], capture_output=True, text=True)
             self.assertEqual(it.returncode, 2)
             it = subprocess.run(

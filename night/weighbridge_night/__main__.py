@@ -1,20 +1,20 @@
 """The command line of weighbridge-night."""
 
 import argparse
+import io
 import os
 import sys
 import time
-from datetime import datetime, timezone
+from datetime import datetime, timedelta, timezone
 
 from . import keep
 from .files import Fault, read_json
-from .last import FAILED, LEFT_OUT, Step
+from .last import FAILED, FORM, LEFT_OUT, Book, Step
 from .night import Night, World, locked
 from .office import RealOffice
 from .programs import RealPrograms
-from .setup import PATH, Refused, Setup, read_setup
+from .setup import PATH, STATE, Refused, Setup, read_setup
 
-STATE = "/var/lib/weighbridge-night"
 # The system's journal shows a line that begins so as an error, or as a notice.
 ERROR, NOTICE = "<3>", "<5>"
 
@@ -54,6 +54,16 @@ def run(setup: Setup, state: str) -> int:
     except OSError as error:
         fault(f"{error.filename or state}: {error.strerror}; see whether the disk is full")
         return 1
+
+
+def note_refused(state: str, why: str) -> None:
+    """Note in the file that the morning reads that there was no night."""
+    try:
+        book = Book(os.path.join(state, "last.json"), utc())
+        book.note("setup", FAILED, why)
+        book.end(utc(), {*book.last.failing})
+    except OSError as error:
+        fault(f"{error.filename or state}: {error.strerror}; see whether the disk is full")
 
 
 def check(setup: Setup, state: str) -> int:
@@ -103,7 +113,7 @@ def list_copies(setup: Setup, state: str) -> int:
 
 
 def show_last(state: str) -> int:
-    """Print what the last night did. The status is 0 if nothing fails."""
+    """Print what the last night did. The status is 0 if it ended within 36 hours, and nothing fails."""
     found = read_json(os.path.join(state, "last.json"))
     if not found:
         fault(f"{state}/last.json: no night was yet, or it can't be read; see --check")
@@ -112,10 +122,26 @@ def show_last(state: str) -> int:
     for it in found.get("steps", []):
         since = f" (fails since {it['since']})" if it.get("since") else ""
         print(f"{it['step']}: {it['state']}: {it['words']}{since}")
+    if not is_recent(found.get("ended"), utc()):
+        fault("no night ended within the last 36 hours; see systemctl status weighbridge-night")
+        return 1
     return 0 if found.get("is_well") is True else 1
 
 
+def is_recent(ended: object, now: datetime) -> bool:
+    """Return True if a night ended at most 36 hours ago."""
+    try:
+        age = now - datetime.strptime(str(ended), FORM).replace(tzinfo=timezone.utc)
+    except ValueError:
+        return False
+    return timedelta(minutes=-10) <= age <= timedelta(hours=36)
+
+
 def main() -> int:
+    # what a disk or a host names may have any bytes
+    for it in (sys.stdout, sys.stderr):
+        if isinstance(it, io.TextIOWrapper):
+            it.reconfigure(errors="backslashreplace")
     options = argparse.ArgumentParser(
         prog="weighbridge-night",
         description="Looks after a bridge at night: copies the journal, checks the copy, exports, keeps copies, purges.",
@@ -144,6 +170,8 @@ def main() -> int:
     except Refused as refused:
         for why in refused.faults:
             fault(f"{asked.setup}: {why}")
+        if asked.act == "run":
+            note_refused(asked.state, f"{asked.setup}: {refused.faults[0]}")
         return 2
     acts = {"run": run, "list": list_copies}
     return acts[asked.act](setup, asked.state) if asked.act else check(setup, asked.state)

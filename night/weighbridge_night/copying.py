@@ -11,12 +11,14 @@ files at one moment are what a kill of the service at that moment would have lef
 A reading takes no lock and writes nothing, so the service doesn't notice it.
 """
 
+import errno
 import hashlib
 import os
+import stat
 from collections.abc import Callable
 from dataclasses import dataclass
 
-from .files import Fault, chunks, fault_of
+from .files import CHUNK, SPARE, Fault, fault_of
 
 # The order of the first reading. The entry that `-newest` names is in the files that are read later.
 ENDINGS = ("-newest", "", "-wal")
@@ -27,6 +29,8 @@ NAME = "journal.db"
 READING = (
     "the night's user must be able to read it; see whether weighbridge-night.service was changed"
 )
+# A night's work has the copy, those that weighbridge and verify.py make of it, and two exports.
+ROOM = 5
 
 
 @dataclass(frozen=True)
@@ -39,25 +43,38 @@ class Seen:
 
 
 def read_one(path: str, to: str | None) -> Seen | None:
-    """Read a file, and write its bytes to `to`. Return None if there is no such file."""
+    """Read a file, and write its bytes to `to`. Return None if there is no such file.
+
+    The night may read every file, so it follows no link that the service's user may have made, and waits for no FIFO. It reads as many bytes as the file has
+    when it is opened. The second reading finds what was added.
+    """
     try:
-        about = os.stat(path)
-        it, size = hashlib.sha256(), 0
-        target = open(to, "wb") if to is not None else None
-        try:
-            for chunk in chunks(path):
-                it.update(chunk)
-                size += len(chunk)
-                if target is not None:
-                    target.write(chunk)
-        finally:
-            if target is not None:
-                target.close()
+        handle = os.open(path, os.O_RDONLY | os.O_NOFOLLOW | os.O_NONBLOCK | os.O_CLOEXEC)
     except FileNotFoundError:
         return None
     except OSError as error:
-        raise fault_of(error.filename or path, error, READING) from None
-    return Seen(about.st_ino, size, it.hexdigest())
+        if error.errno == errno.ELOOP:
+            raise Fault(f"{path}: it is a link; name the file itself in the setup") from None
+        raise fault_of(path, error, READING) from None
+    with open(handle, "rb") as file:
+        about = os.fstat(handle)
+        if not stat.S_ISREG(about.st_mode) or about.st_uid != os.stat(os.path.dirname(path)).st_uid:
+            raise Fault(f"{path}: it is no file of its folder's owner; see who made it")
+        it, left = hashlib.sha256(), about.st_size
+        try:
+            target = open(to, "wb") if to is not None else None
+            try:
+                while left > 0 and (chunk := file.read(min(CHUNK, left))):
+                    it.update(chunk)
+                    left -= len(chunk)
+                    if target is not None:
+                        target.write(chunk)
+            finally:
+                if target is not None:
+                    target.close()
+        except OSError as error:
+            raise fault_of(error.filename or to or path, error, READING) from None
+    return Seen(about.st_ino, about.st_size - left, it.hexdigest())
 
 
 def read_all(journal: str, to: str | None) -> list[Seen | None]:
@@ -67,10 +84,21 @@ def read_all(journal: str, to: str | None) -> list[Seen | None]:
     ]
 
 
+def need_room(journal: str, to: str) -> None:
+    """Raise a Fault if the disk has no room for a night's work. The service may use the same disk, and must be able to write."""
+    sizes = [os.lstat(journal + it).st_size for it in ENDINGS if os.path.lexists(journal + it)]
+    needed, about = ROOM * sum(sizes) + SPARE, os.statvfs(to)
+    if (free := about.f_bavail * about.f_frsize) < needed:
+        raise Fault(
+            f"{to}: {free} bytes are free on its disk, and a night's work needs {needed}; make room"
+        )
+
+
 def copy_journal(journal: str, to: str, sleep: Callable[[float], None]) -> int:
     """Copy the journal's files into the folder, all of one moment. Return how many readings that took."""
-    # the other files of a journal are where a link leads
-    journal = os.path.realpath(journal)
+    # the other files of a journal are in the folder to which a link leads
+    journal = os.path.join(os.path.realpath(os.path.dirname(journal)), os.path.basename(journal))
+    need_room(journal, to)
     for tried in range(1, TRIES + 1):
         for ending in ENDINGS:
             if os.path.exists(os.path.join(to, NAME + ending)):

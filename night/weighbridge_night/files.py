@@ -8,10 +8,16 @@ from collections.abc import Iterator
 from typing import Any
 
 CHUNK = 1 << 20
+# Left free on a disk, so that others can still write.
+SPARE = 64 << 20
 
 
 class Fault(Exception):
     """A failure, in the words that the morning reads."""
+
+
+class LeftOut(Exception):
+    """Why a step wasn't done, although nothing failed."""
 
 
 def fault_of(path: str, error: OSError, todo: str) -> Fault:

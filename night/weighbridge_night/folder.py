@@ -4,6 +4,7 @@ import os
 import stat
 
 from .files import (
+    SPARE,
     Fault,
     copy_synced,
     digest_of,
@@ -16,8 +17,7 @@ from .keep import Copy, copies_of, copy_of
 
 # The names of a copy that isn't whole yet, and of one that is being removed.
 NEW, OLD = ".new-", ".old-"
-# Left free on a disk, so that others can still write.
-SPARE = 64 << 20
+SUMS = "SHA256SUMS"
 BY_LABEL = "/dev/disk/by-label"
 
 
@@ -43,29 +43,55 @@ class Folder:
                 f"{self.root}: the night can't write there; `chown weighbridge-night` it, and name it in"
                 " ReadWritePaths= of weighbridge-night.service"
             )
+        if os.path.lexists(self.own):
+            about = os.lstat(self.own)
+            if not stat.S_ISDIR(about.st_mode) or about.st_dev != os.stat(self.root).st_dev:
+                raise Fault(f"{self.own}: it is no folder of this disk; move it away")
 
-    def open(self) -> None:
-        """Make the place ready, and remove what a night that was killed left."""
+    def open(self) -> list[str]:
+        """Make the place ready, and remove what a night that was killed left. Return what can't be removed."""
         self.ready()
+        left: list[str] = []
         try:
             if not os.path.isdir(self.own):
                 os.mkdir(self.own, 0o700)
                 sync_folder(self.root)
             for name in os.listdir(self.own):
                 if is_leftover(name):
-                    remove_folder(os.path.join(self.own, name))
+                    try:
+                        remove_folder(os.path.join(self.own, name))
+                    except OSError:
+                        left.append(os.path.join(self.own, name))
         except OSError as error:
             raise fault_of(
                 error.filename or self.own,
                 error,
                 "see whether the disk is full, broken or unplugged",
             ) from None
+        return left
+
+    def is_copy(self, copy: Copy) -> bool:
+        """Return True if a folder with this name has the files and the bytes that its name says."""
+        path = os.path.join(self.own, copy.name)
+        if os.path.islink(path):
+            return False
+        try:
+            with os.scandir(path) as found:
+                sizes = {
+                    it.name: it.stat(follow_symlinks=False).st_size
+                    for it in found
+                    if it.is_file(follow_symlinks=False)
+                }
+        except OSError:
+            return False
+        return SUMS in sizes and sum(sizes.values()) == copy.size
 
     def copies(self) -> list[Copy]:
         """Return the copies, the newest first."""
         self.ready()
         try:
-            return copies_of(os.listdir(self.own)) if os.path.isdir(self.own) else []
+            found = copies_of(os.listdir(self.own)) if os.path.isdir(self.own) else []
+            return [it for it in found if self.is_copy(it)]
         except OSError as error:
             raise fault_of(self.own, error, "see whether the disk is broken or unplugged") from None
 

@@ -105,22 +105,27 @@ def ranks(copies: Iterable[Copy]) -> dict[Copy, int]:
     return found
 
 
-def surplus(copies: Iterable[Copy], most_bytes: int) -> list[Copy]:
+def later(copies: Iterable[Copy], own: Copy) -> list[Copy]:
+    """Return the copies that are dated after this night's copy, the newest first. A clock was wrong, or somebody made their names."""
+    return sorted((it for it in copies if it.moment > own.moment), reverse=True)
+
+
+def surplus(copies: Iterable[Copy], most_bytes: int, own: Copy | None = None) -> list[Copy]:
     """Return the copies that don't stay, in the order in which they are removed.
 
     First come those that no tier keeps. If the rest has more than `most_bytes`, the oldest of the finest tier goes first. The newest sound copy always stays,
-    even if it is larger than that.
+    even if it is larger than that. So does `own`, the copy of this night. Copies that are dated after it stay and take no other's place.
     """
-    given = sorted(copies)
+    given = sorted(it for it in copies if own is None or it.moment <= own.moment)
     rank = ranks(given)
-    gone = [it for it in given if it not in rank]
+    gone = [it for it in given if it not in rank and it != own]
     kept = sorted((it for it in given if it in rank), key=lambda it: (rank[it], it))
-    last = newest_sound(given)
+    staying = {newest_sound(given), own}
     size = sum(it.size for it in kept)
     for it in kept:
         if size <= most_bytes:
             break
-        if it != last:
+        if it not in staying:
             gone.append(it)
             size -= it.size
     return gone

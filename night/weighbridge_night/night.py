@@ -14,9 +14,9 @@ from datetime import datetime
 from typing import Protocol
 
 from .copying import NAME, copy_journal
-from .files import Fault, digest_of, fault_of, read_json, remove_folder
-from .folder import Disk, Folder
-from .keep import DOUBTFUL, SOUND, Copy, newest_sound, surplus
+from .files import Fault, LeftOut, digest_of, fault_of, read_json, remove_folder
+from .folder import SUMS, Disk, Folder
+from .keep import DOUBTFUL, SOUND, Copy, later, newest_sound, surplus
 from .last import DONE, FAILED, LEFT_OUT, Book, Step, cut_off
 from .office import Office, purge
 from .programs import Programs
@@ -28,7 +28,6 @@ VERIFY = "/usr/share/weighbridge/inspect/verify.py"
 CHECKING = 600.0  # seconds
 SOUND_LINE = re.compile(r"SOUND (\d+)")
 EXPORTS = {"journal": "journal.csv", "tickets": "tickets.csv"}
-SUMS = "SHA256SUMS"
 
 
 class Keeper(Protocol):
@@ -37,8 +36,8 @@ class Keeper(Protocol):
     def ready(self) -> None:
         """Raise a Fault if no copies can be kept here."""
 
-    def open(self) -> None:
-        """Make the place ready, and remove what a night that was killed left."""
+    def open(self) -> list[str]:
+        """Make the place ready, and remove what a night that was killed left. Return what can't be removed."""
 
     def copies(self) -> list[Copy]:
         """Return the copies, the newest first."""
@@ -86,8 +85,8 @@ class Night:
             if isinstance(former := self.before.get(it.title), dict):
                 self.book.last.places[it.title] = former
         self.is_sound = True
-        self.newest, self.interval = 0, 0
-        self.stored = 0
+        self.newest, self.interval, self.entries = 0, 0, 0
+        self.stored = 0  # how many places have this night's copy
 
     def note(self, step: str, state: str, words: str) -> None:
         self.world.say(self.book.note(step, state, words))
@@ -96,6 +95,9 @@ class Night:
         """Do a step, and note what became of it."""
         try:
             words = does()
+        except LeftOut as why:
+            self.note(name, LEFT_OUT, str(why))
+            return False
         except Fault as fault:
             self.note(name, FAILED, str(fault))
             return False
@@ -103,11 +105,28 @@ class Night:
             at = error.filename or self.state
             self.note(name, FAILED, str(fault_of(str(at), error, "see whether the disk is full")))
             return False
+        except Exception as error:  # the other steps and places don't depend on it
+            self.note(name, FAILED, f"a mistake of this program: {error!r}; report it")
+            return False
         self.note(name, DONE, words)
         return True
 
     def run(self) -> bool:
         """Do all steps. Return True if nothing fails."""
+        try:
+            return self.all_steps()
+        finally:
+            self.clear()
+
+    def clear(self) -> None:
+        """Remove what this night made for itself. If that fails, the next night removes it."""
+        try:
+            if os.path.lexists(self.work):
+                remove_folder(self.work)
+        except OSError:
+            pass
+
+    def all_steps(self) -> bool:
         titles = [it.title for it in self.setup.places]
         known = {"copy", "check", "verify", "export", "purge"}
         known |= {f"{act} {it}" for it in titles for act in ("store", "thin")}
@@ -121,13 +140,10 @@ class Night:
             for place in self.setup.places:
                 self.keep(place, copy)
         else:
+            self.clear()
             for name in ["check", "verify", "export", *(f"store {it}" for it in titles)]:
                 self.note(name, LEFT_OUT, "there is no copy of this night")
         self.purge()
-        try:
-            remove_folder(self.work)
-        except OSError:
-            pass  # the next night removes it
         return self.book.end(self.world.now(), known)
 
     def copy(self) -> str:
@@ -135,7 +151,11 @@ class Night:
             remove_folder(self.work)  # of a night that was killed
         for path in (self.work, self.folder, os.path.join(self.work, "tmp")):
             os.mkdir(path, 0o700)
-        tries = copy_journal(self.setup.journal, self.folder, self.world.sleep)
+        try:
+            tries = copy_journal(self.setup.journal, self.folder, self.world.sleep)
+        except (Fault, OSError):
+            self.clear()  # the disk may be full, and the failure has to be noted on it
+            raise
         after = f"; the night that began at {self.cut} was cut off" if self.cut else ""
         return f"read twice with the same bytes, at try {tries}{after}"
 
@@ -148,6 +168,7 @@ class Night:
                 f"weighbridge check of this night's copy: {said}; let nobody weigh, and see"
                 " troubleshooting.md, A damaged journal"
             )
+        self.entries = int(ran.out.split()[1])
         return ran.out.strip()
 
     def verify(self) -> str:
@@ -173,6 +194,11 @@ class Night:
                 )
             if what == "journal":
                 entries = self.read_export(path)
+        if entries != self.entries:
+            raise Fault(
+                f"weighbridge check of this night's copy counted {self.entries} entries, and its export has {entries};"
+                " see troubleshooting.md, A damaged journal"
+            )
         return f"{entries} entries, the newest is number {self.newest}"
 
     def read_export(self, path: str) -> int:
@@ -183,7 +209,7 @@ class Night:
                 for row in csv.DictReader(file):
                     entries += 1
                     self.newest, self.interval = int(row["number"]), int(row["interval_kg"])
-            except (KeyError, ValueError, csv.Error) as error:
+            except (KeyError, TypeError, ValueError, csv.Error) as error:
                 raise Fault(
                     f"{path}: record {entries} is none of an export ({error!r}); see"
                     " troubleshooting.md, A damaged journal"
@@ -206,8 +232,10 @@ class Night:
         """Keep the copy at a place, and remove copies there that the rule lets go."""
         keeper = self.world.keeper(place, self.setup.bridge)
 
+        left: list[str] = []
+
         def store() -> str:
-            keeper.open()
+            left.extend(keeper.open())
             former = self.before.get(place.title)
             last = former.get("newest_sound") if isinstance(former, dict) else None
             there = keeper.copies()
@@ -216,18 +244,21 @@ class Night:
                 if last and last not in {it.name for it in there}
                 else ""
             )
+            # a smaller most_gb makes room for this copy
+            for it in surplus(there, place.most_bytes, copy):
+                keeper.remove(it)
             keeper.store(self.folder, copy)
             return copy.name + note
 
         if not self.step(f"store {place.title}", store):
             self.note(f"thin {place.title}", LEFT_OUT, "this night's copy isn't there")
             return
-        self.stored += 1
-        self.step(f"thin {place.title}", lambda: self.thin(place, keeper))
+        self.step(f"thin {place.title}", lambda: self.thin(place, keeper, copy, left))
 
-    def thin(self, place: Place, keeper: Keeper) -> str:
+    def thin(self, place: Place, keeper: Keeper, own: Copy, left: list[str]) -> str:
+        """Remove the copies that don't stay. This night's copy is never one of them."""
         there = keeper.copies()
-        gone = surplus(there, place.most_bytes)
+        gone = surplus(there, place.most_bytes, own)
         for it in gone:
             keeper.remove(it)
         removed = {*gone}
@@ -238,6 +269,18 @@ class Night:
             "bytes": size,
             "newest_sound": newest.name if newest else None,
         }
+        if own not in keeper.copies():
+            raise Fault(
+                f"{place.title}: this night's copy isn't there any more; see who removed it"
+            )
+        self.stored += 1
+        if odd := later(kept, own):
+            raise Fault(
+                f"{place.title}: {odd[0].name} is dated after this night; see whether the clock is right, and move"
+                " away what is dated wrong"
+            )
+        if left:
+            raise Fault(f"{left[0]}: a killed night left it, and it can't be removed; remove it")
         return f"{len(kept)} copies of {size} bytes stay, {len(gone)} were removed"
 
     def purge(self) -> None:

@@ -4,7 +4,7 @@ import http.client
 import re
 from typing import Protocol
 
-from .files import Fault
+from .files import Fault, LeftOut
 
 INDICATED = re.compile(r"STABLE G +(-?\d+) kg N +-?\d+ kg")
 PURGED = re.compile(r"PURGED (\d+)")
@@ -48,10 +48,15 @@ def is_empty(indication: str, interval: int) -> bool:
 
 
 def purge(office: Office, interval: int) -> str:
-    """Ask for a purge if the bridge is empty. Return what was done, in words."""
+    """Ask for a purge if the bridge is empty. Return what was done, in words.
+
+    Raises LeftOut if the bridge isn't empty.
+    """
     shown = office.ask("GET", "/indication", LOOKING)
     if not is_empty(shown, interval):
-        return f"not asked for, because the bridge isn't empty ({shown.strip() or 'no answer'})"
+        raise LeftOut(
+            f"not asked for, because the bridge isn't empty ({shown.strip() or 'no answer'})"
+        )
     answer = office.ask("POST", "/purge", PURGING)
     if (found := PURGED.fullmatch(answer.strip())) is None:
         raise Fault(

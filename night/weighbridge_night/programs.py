@@ -1,5 +1,6 @@
 """Runs other programs. Each has its time, and no right that the night has."""
 
+import contextlib
 import os
 import signal
 import subprocess
@@ -8,6 +9,8 @@ from dataclasses import dataclass
 from typing import Protocol
 
 from .files import Fault
+
+AFTER_A_KILL = 10.0  # seconds
 
 
 @dataclass(frozen=True)
@@ -21,7 +24,12 @@ class Ran:
     def said(self) -> str:
         """Return the last line that it reported, or its status."""
         lines = [it.strip() for it in (self.err or self.out).splitlines() if it.strip()]
-        return lines[-1] if lines else f"it ended with status {self.status}"
+        # what a host says must not command a terminal
+        return printable(lines[-1]) if lines else f"it ended with status {self.status}"
+
+
+def printable(text: str) -> str:
+    return "".join(it if it.isprintable() else "?" for it in text)
 
 
 class Programs(Protocol):
@@ -71,7 +79,8 @@ class RealPrograms:
             out, err = it.communicate(given.encode(), timeout=seconds)
         except subprocess.TimeoutExpired:
             os.killpg(it.pid, signal.SIGKILL)
-            it.communicate()
+            with contextlib.suppress(subprocess.TimeoutExpired):
+                it.communicate(timeout=AFTER_A_KILL)  # a program of another session may hold them
             raise Fault(
                 f"{words[0]}: it didn't end within {seconds:.0f} seconds and was killed; try it by hand"
             ) from None

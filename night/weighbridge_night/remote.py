@@ -14,6 +14,8 @@ from .keep import Copy, copies_of
 from .programs import Programs
 from .setup import Place
 
+# Of what killed nights left on a host, how many one night removes.
+MOST_LEFTOVERS = 20
 SHORT, LONG = 180.0, 4 * 3600.0  # seconds
 SIZE = re.compile(r"\S+\s+\S+\s+\S+\s+\S+\s+(\d+)\s.*\s(\S+)")
 TODO = "see operating.md, If a night failed"
@@ -62,12 +64,17 @@ class Remote:
         """Return the commands that remove a folder of files."""
         return [f"-rm {self.own}/{name}/*", f"rmdir {self.own}/{name}"]
 
-    def open(self) -> None:
-        """Make the place ready, and remove what a night that was killed left."""
+    def open(self) -> list[str]:
+        """Make the place ready, and remove what a night that was killed left. Return what can't be removed."""
         self.batch([f"-mkdir {self.place.folder}", f"-mkdir {self.own}", f"ls -1a {self.own}"])
-        for name in self.names():
-            if is_leftover(name):
+        left: list[str] = []
+        found = [it for it in self.names() if is_leftover(it)]
+        for name in found[:MOST_LEFTOVERS]:
+            try:
                 self.batch(self.removal(name))
+            except Fault:
+                left.append(f"{self.place.title}/{name}")
+        return left + [f"{self.place.title}/{it}" for it in found[MOST_LEFTOVERS:]]
 
     def copies(self) -> list[Copy]:
         """Return the copies, the newest first."""
@@ -82,7 +89,11 @@ class Remote:
         new = f"{self.own}/{NEW}{copy.name}"
         names = sorted(os.listdir(folder))
         puts = [f'put -f "{os.path.join(folder, it)}" {new}/{it}' for it in names]
-        self.batch([f"mkdir {new}", *puts], LONG)
+        try:
+            self.batch([f"mkdir {new}", *puts], LONG)
+        except Fault:
+            self.drop(NEW + copy.name)
+            raise
         found = {}
         for line in self.batch([f"ls -ln {new}"]):
             if it := SIZE.fullmatch(line):
@@ -94,6 +105,13 @@ class Remote:
                 " see whether its disk is full"
             )
         self.batch([f"rename {new} {self.own}/{copy.name}"])
+
+    def drop(self, name: str) -> None:
+        """Remove a copy that isn't whole. If that fails too, the next night removes it."""
+        try:
+            self.batch(self.removal(name))
+        except Fault:
+            pass
 
     def remove(self, copy: Copy) -> None:
         """Remove a copy. It loses its name first, so that no part of it looks whole."""

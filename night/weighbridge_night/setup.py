@@ -1,11 +1,13 @@
 """The file of the setup. Every mistake in it is found at once."""
 
+import os
 import re
 import tomllib
 from dataclasses import dataclass, field
 from typing import Any
 
 PATH = "/etc/weighbridge-night.toml"
+STATE = "/var/lib/weighbridge-night"
 BRIDGE = re.compile(r"[A-Za-z0-9][A-Za-z0-9_-]{0,31}")
 ADDRESS = re.compile(r"127(?:\.\d{1,3}){3}:\d{1,5}")
 # The label of a FAT disk has eleven characters at most, that of ext4 sixteen.
@@ -88,7 +90,8 @@ class Reader:
         return ""
 
     def path(self, key: str, wanted: str, default: str | None = None) -> str:
-        return self.text(key, re.compile(r"/[^\x00-\x1f]*[^/\x00-\x1f]"), wanted, default)
+        found = self.text(key, re.compile(r"/[^\x00-\x1f]*[^/\x00-\x1f]"), wanted, default)
+        return os.path.normpath(found) if found else found
 
     def whole(self, key: str, most: int, wanted: str, default: int | None = None) -> int:
         found = self.table.get(key, default)
@@ -160,6 +163,18 @@ def setup_of(text: str) -> Setup:
         given = []
     places = [place_of(number, one, faults) for number, one in enumerate(given, 1)]
     found = [one for one in places if one is not None]
+    for one in found:
+        here = os.path.realpath(one.path) if one.path else ""
+        for taken, what in (
+            (STATE, "the night's own folder"),
+            (os.path.dirname(journal), "the journal's folder"),
+        ):
+            if (
+                here
+                and taken
+                and os.path.commonpath([here, os.path.realpath(taken)]) == os.path.realpath(taken)
+            ):
+                faults.append(f"{one.title}: it is in {what}, {taken}; write another path")
     titles = [one.title for one in found]
     for title in sorted({one for one in titles if titles.count(one) > 1} if not faults else set()):
         faults.append(f"to: {title} is there twice; remove one of them")
