@@ -39,12 +39,12 @@ class ClockTest(HostileCase):
         for _ in range(40):
             self.assertTrue(self.night())
         self.clock.now -= timedelta(days=16)
-        self.programs.entries = 99
-        self.assertFalse(self.night())
-        self.assertIn(
-            "is dated after this night; see whether the clock is right", self.words(self.thin)
-        )
-        self.assertEqual(self.newest_in_folder(), 99)
+        for entries in (97, 98, 99):
+            self.programs.entries = entries
+            self.assertFalse(self.night())
+            self.assertIn("is dated after this night; see whether the clock", self.words(self.thin))
+        kept = [it.newest for it in map(copy_of, self.in_folder()) if it is not None]
+        self.assertTrue({97, 98, 99} <= {*kept}, kept)
 
     def test_a_clock_that_was_ahead_for_one_night(self) -> None:
         self.assertTrue(self.night())
