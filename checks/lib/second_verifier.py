@@ -10,6 +10,7 @@ import shutil
 import sqlite3
 import subprocess
 import sys
+import tempfile
 import unittest.mock
 from collections.abc import Callable
 from pathlib import Path
@@ -58,6 +59,7 @@ class Second:
     def __init__(self, folder: str) -> None:
         self.path: str | None = None
         self.runs = 0
+        self.agreed = 0  # how often the program's check was compared
         if missing := lacking():
             print(f"{NAME}: the second verifier is skipped, since {missing}", flush=True)
             return
@@ -109,10 +111,13 @@ def verdict_of(path: str, said: str) -> str | None:
         return None
     if any(REFUSED.search(it) for it in lines):
         return "store"
-    with sqlite3.connect(f"file:{path}?mode=ro", uri=True) as database:
+    with tempfile.TemporaryDirectory() as folder:  # SQLite writes next to what it reads
+        for end, data in files_of(path).items():
+            Path(f"{folder}/journal.db{end}").write_bytes(data)
+        database = sqlite3.connect(f"{folder}/journal.db")
         ((version,),) = database.execute("SELECT value FROM about").fetchall()
         ((least, count),) = database.execute("SELECT min(number), count(*) FROM journal").fetchall()
-    database.close()
+        database.close()
     if version != 2:
         return "store 6 old_version"
     wrong = [int(found[1]) for it in lines if (found := DAMAGED.match(it))]
@@ -124,11 +129,16 @@ def verdict_of(path: str, said: str) -> str | None:
     return f"DAMAGED {min(wrong)}" if wrong else f"SOUND {count}"
 
 
-def agree_with_check(path: str, said: str) -> None:
-    """Fail if the program is built, and its check says something else of the journal than the verifiers."""
-    wanted = verdict_of(path, said) if PROGRAM.is_file() else None
+def agree_with_check(second: Second, path: str, said: str) -> None:
+    """Fail if the program is built, and its check says something else of the journal than the verifiers.
+
+    A journal with a log isn't compared, because SQLite of this system wrote it, and not the service.
+    """
+    is_compared = PROGRAM.is_file() and not os.path.exists(f"{path}-wal")
+    wanted = verdict_of(path, said) if is_compared else None
     if wanted is None:
         return
+    second.agreed += 1
     it = run([str(PROGRAM), "check", "--file", path])
     found = (it.stdout or it.stderr).decode().rstrip("\n").rpartition("\n")[2]
     if found != wanted and not (wanted == "store" and found.startswith("store ")):
