@@ -291,6 +291,13 @@ def show_odd_exports(second: Second, folder: str, journal: str, digest: str) -> 
         )
 
 
+def show_odd_numbers(second: Second, journal: str, digest: str) -> None:
+    """Show that both verifiers take the same numbers of a printout."""
+    for number, status in (("1", 1), ("0", 2), ("00000000003", 2), ("4294967296", 2), ("+3", 2)):
+        found = said_by_both(second, [journal, "--known", number, digest]).returncode
+        same(f"a printout of number {number}", status, found)
+
+
 def show_odd_fields(second: Second, folder: str) -> None:
     """Show that both verifiers judge odd fields alike: bytes that aren't UTF-8, zero bytes, the limits of numbers, and numbers that are texts."""
     path = f"{folder}/odd.db"
