@@ -155,7 +155,7 @@ class Swinging(threading.Thread):
 
 
 def stable_equilibrium(folder):
-    """A load is pushed and let go. This sends `S` once more than half of a filter's readings have seen it, because a median shows none of it before.
+    """Pushes a load and lets it go. Sends `S` once more than half of a filter's readings have seen it, because a median shows none of it before.
     In the five seconds after its answer no more than two adjacent weights are indicated, one of them the answer's. The window has a second.
     """
     cases = [
