@@ -12,7 +12,9 @@ import time
 from collections.abc import Callable
 from typing import IO, Any, Protocol
 
-HOST = "127.0.0.1"
+from ports import HOST as HOST
+from ports import free_port as free_port
+
 Answer = tuple[int, str]  # the status and the body
 
 
@@ -26,13 +28,6 @@ class HasTerminal(Protocol):
     """A program with the port where it listens for clients of the terminal."""
 
     terminal: int
-
-
-def free_port() -> int:
-    with socket.socket() as it:
-        it.bind((HOST, 0))
-        port: int = it.getsockname()[1]
-        return port
 
 
 def sizes_of(process: subprocess.Popen[Any]) -> tuple[int, float]:

@@ -9,7 +9,6 @@ import json
 import os
 import re
 import shutil
-import socket
 import subprocess
 import sys
 import time
@@ -19,6 +18,7 @@ from books import Book
 from browser import Browser
 from counted import case, same
 from journal import digest_of
+from ports import free_port
 
 top = os.path.dirname(os.path.dirname(os.path.dirname(os.path.abspath(__file__))))
 PARTS = os.path.join(top, "head_office")
@@ -386,9 +386,7 @@ def show_listener(office, folder):
     os.makedirs(f"{folder}/served", exist_ok=True)
     Book("PORT1").fill(9).write(f"{folder}/served/journal.csv")
     os.chmod(f"{folder}/served", 0o755)
-    with socket.socket() as it:
-        it.bind(("127.0.0.1", 0))
-        port = it.getsockname()[1]
+    port = free_port()
     words = [
         sys.executable,
         "-m",
@@ -494,9 +492,7 @@ def show_newest_by_itself(office, folder):
     """A load of the newest entries from an address: the whole export where the head office wants it, or where these don't reach or have findings."""
     office.register("SELF", "SELF1")
     book = Book("SELF1", age=3 * DAY).fill(40)
-    with socket.socket() as it:
-        it.bind(("127.0.0.1", 0))
-        port = it.getsockname()[1]
+    port = free_port()
     os.makedirs(f"{folder}/self", exist_ok=True)
     server = subprocess.Popen(
         [
@@ -1862,9 +1858,7 @@ def show_widths(folder, pages):
             flush=True,
         )
         return
-    with socket.socket() as it:
-        it.bind(("127.0.0.1", 0))
-        port = it.getsockname()[1]
+    port = free_port()
     os.makedirs(f"{folder}/browser")
     browser = Browser(port, f"{folder}/browser", 1280, 900)
     try:
