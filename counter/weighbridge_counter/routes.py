@@ -33,7 +33,7 @@ LONGEST_BODY = 2048  # bytes; the office takes 1,024
 SMALL_BUFFER = 16384  # bytes in the system on the way to a page
 LOOK_AT_SLOW_PAGE_EVERY = 0.05  # seconds
 READS_NOTHING = 5.0  # seconds: a page that takes nothing for so long is closed, and begins anew
-MOST_ASKING = 4  # of the office's sixteen places
+MOST_ASKING = 4  # of the office's places
 UNDER_WAY_FOR = 30.0  # seconds: longer than the office is waited for
 POLICY = (
     "default-src 'none'; script-src 'self'; style-src 'self'; img-src 'self'; connect-src 'self'; "

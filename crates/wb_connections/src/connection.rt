@@ -77,6 +77,8 @@ pub(crate) enum Why {
     Late,
     /// It had no whole request, and another came.
     GaveWay,
+    /// The client reset it while its request waited.
+    Reset,
     /// The service ended before.
     ServiceEnds,
     /// It took nothing of its response for too long.
@@ -97,6 +99,7 @@ impl Display for Why {
             Why::NoRequest => "no request came",
             Why::Late => "its request waited for more than 5 seconds",
             Why::GaveWay => "its request wasn't whole, and another client came",
+            Why::Reset => "the client reset the connection before its request was processed",
             Why::ServiceEnds => "the service is ending",
             Why::TookNothing => "the client read none of its response for 30 seconds",
             Why::TookLong => "the client read its response too slowly",
@@ -147,7 +150,8 @@ impl<S: Read + Write + OpenStream + Drop, J: Drop> Connection<S, J> {
         self.stream.set_nonblocking(true).is_ok()
     }
 
-    /// Reads the request, or continues with the response. A request that was judged waits at `next_place`, which moves on.
+    /// Reads the request, or continues with the response. A request that was judged waits at `next_place`, which moves on. It is dropped if
+    /// its client reset the connection.
     pub(crate) fn turn<Q: Requests<Request = J>>(
         &mut self,
         alloc: Global,
@@ -156,23 +160,28 @@ impl<S: Read + Write + OpenStream + Drop, J: Drop> Connection<S, J> {
         room: &mut [u8; REQUEST_ROOM],
         next_place: &mut u64,
     ) {
-        if !matches!(self.stage, Stage::Asks) {
-            self.go_on(now, room);
-            return;
+        if matches!(self.stage, Stage::Asks) {
+            if let Some(request) = self.read(alloc, requests, now, room) {
+                self.stage = Stage::Waits(*next_place, request);
+                *next_place = next_place.saturating_add(1);
+            }
         }
-        if let Some(request) = self.read(alloc, requests, now, room) {
-            self.stage = Stage::Waits(*next_place, request);
-            *next_place = next_place.saturating_add(1);
+        self.go_on(now, room);
+    }
+
+    /// Closes it if its client reset it while its request waits. If it has a response, writes that, or reads what still comes after it.
+    pub(crate) fn go_on(&mut self, now: Instant, room: &mut [u8; REQUEST_ROOM]) {
+        match &self.stage {
+            Stage::Waits(_, _) => self.wait(room),
+            Stage::Takes(_) => self.write(now),
+            Stage::Leaves => self.leave(now, room),
+            Stage::Asks | Stage::Asked | Stage::Closed(_) => {}
         }
     }
 
-    /// Goes on with its response, if it has one: writes it, or reads what still comes after it.
-    pub(crate) fn go_on(&mut self, now: Instant, room: &mut [u8; REQUEST_ROOM]) {
-        match &self.stage {
-            Stage::Takes(_) => self.write(now),
-            Stage::Leaves => self.leave(now, room),
-            Stage::Asks | Stage::Waits(_, _) | Stage::Asked | Stage::Closed(_) => {}
-        }
+    /// Returns true if it has no whole request, although it was accepted before the turn at `now`.
+    pub(crate) fn gives_way(&self, now: Instant) -> bool {
+        matches!(self.stage, Stage::Asks) && self.accepted < now
     }
 
     /// Closes it if its request was judged and may have come too long ago.
@@ -341,25 +350,36 @@ impl<S: Read + Write + OpenStream + Drop, J: Drop> Connection<S, J> {
         }
     }
 
+    /// Closes it if its client reset it. A client that only ended its half waits for its response.
+    fn wait(&mut self, room: &mut [u8; REQUEST_ROOM]) {
+        if matches!(self.read_rest(room), Ready::Fault) {
+            self.close(Why::Reset);
+        }
+    }
+
     /// Reads and drops what still comes, so that no reset can overtake the response.
     fn leave(&mut self, now: Instant, room: &mut [u8; REQUEST_ROOM]) {
-        for _ in 0..READS_A_TURN {
-            match read_ready(&mut self.stream, room) {
-                Ready::Bytes(_) => {}
-                Ready::Nothing => break,
-                Ready::End => {
-                    self.close(Why::Done);
-                    return;
-                }
-                Ready::Fault => {
-                    self.close(Why::Broken);
-                    return;
+        match self.read_rest(room) {
+            Ready::End => self.close(Why::Done),
+            Ready::Fault => self.close(Why::Broken),
+            Ready::Bytes(_) | Ready::Nothing => {
+                if is_past(self.moved, LEAVING_SECONDS, now) {
+                    self.close(Why::Stayed);
                 }
             }
         }
-        if is_past(self.moved, LEAVING_SECONDS, now) {
-            self.close(Why::Stayed);
+    }
+
+    /// Reads and drops what comes after the request. Returns what the last read found.
+    fn read_rest(&mut self, room: &mut [u8; REQUEST_ROOM]) -> Ready {
+        let mut found = Ready::Nothing;
+        for _ in 0..READS_A_TURN {
+            found = read_ready(&mut self.stream, room);
+            if !matches!(found, Ready::Bytes(_)) {
+                break;
+            }
         }
+        found
     }
 }
 

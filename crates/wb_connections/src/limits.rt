@@ -1,11 +1,11 @@
 //! The times, counts and sizes that keep a client from stopping the scale.
 
-/// How many connections of the office are kept at once; more wait in the listener once each has a whole request. A weighbridge has a
-/// handful of programs that ask it, and sixteen requests of full size together stay below 150 kB.
-pub(crate) const CONNECTIONS: usize = 16;
+/// Maximum number of office connections that are open at once. More wait in the listener. A weighbridge has a handful of programs that
+/// ask it. At ten turns a second fifty requests are answered before they are too old, and 64 of full size stay below 600 kB.
+pub(crate) const CONNECTIONS: usize = 64;
 
 /// After so many seconds without a byte, a connection of the office is taken as one that sends no more. A program sends its
-/// request at once, so five seconds are for a slow machine, and sixteen silent clients keep the others waiting no longer.
+/// request at once, so five seconds are for a slow machine.
 pub(crate) const SILENT_SECONDS: u64 = 5;
 
 /// So many seconds after it was accepted, a request is judged as it stands. One that sends a byte now and then is never silent,

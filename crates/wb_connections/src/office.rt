@@ -157,7 +157,8 @@ where
         self.connections.clear();
     }
 
-    /// Accepts all that wait, so that it is known when each came. More wait in the listener while each place has a whole request.
+    /// Accepts all that wait, so that it is known when each came. More wait in the listener while each place has a whole request, or a
+    /// connection that was accepted in this turn.
     fn accept<Q: Requests<Request = J>, R: Eprint>(
         &mut self,
         alloc: Global,
@@ -167,7 +168,7 @@ where
         room: &mut [u8; REQUEST_ROOM],
     ) {
         for _ in 0..ACCEPTS_A_TURN {
-            if self.is_full() && self.oldest_without_request().is_none() {
+            if self.is_full() && self.first_to_give_way(now).is_none() {
                 return;
             }
             match accept_ready(&self.listener) {
@@ -181,7 +182,7 @@ where
                     return;
                 }
                 Newcomer::Refused => {
-                    if !self.make_place(report) {
+                    if !self.close_at(self.oldest_without_request(), report) {
                         return;
                     }
                 }
@@ -189,7 +190,7 @@ where
         }
     }
 
-    /// Reads one that was accepted, and keeps it. Where all places are taken, it gets that of one without a whole request.
+    /// Reads one that was accepted, and keeps it. If all places are taken, it gets that of one without a whole request.
     fn admit<Q: Requests<Request = J>, R: Eprint>(
         &mut self,
         alloc: Global,
@@ -208,7 +209,7 @@ where
         connection.turn(alloc, requests, now, room, &mut self.next_place);
         if let Stage::Closed(why) = &connection.stage {
             tell_end(report, peer, *why, &mut self.without_request);
-        } else if self.is_full() && !self.make_place(report) {
+        } else if self.is_full() && !self.close_at(self.first_to_give_way(now), report) {
             tell_closed(report, peer, Why::GaveWay);
         } else if self.connections.push(connection).is_err() {
             tell_closed(report, peer, Why::Memory);
@@ -227,12 +228,19 @@ where
             .position(|connection| matches!(connection.stage, Stage::Asks))
     }
 
-    /// Closes the connection that was accepted first of those without a whole request. False if there is none.
-    fn make_place<R: Eprint>(&mut self, report: &Report<'_, R>) -> bool {
-        let Some(oldest) = self.oldest_without_request() else {
+    /// Returns the index of the connection that was accepted first of those without a whole request that were there before this turn.
+    fn first_to_give_way(&self, now: Instant) -> Option<usize> {
+        self.connections
+            .iter()
+            .position(|connection| connection.gives_way(now))
+    }
+
+    /// Closes the connection at `index` for another. Returns false if `index` is `None`.
+    fn close_at<R: Eprint>(&mut self, index: Option<usize>, report: &Report<'_, R>) -> bool {
+        let Some(index) = index else {
             return false;
         };
-        match self.connections.get_mut(oldest) {
+        match self.connections.get_mut(index) {
             Some(connection) => connection.close(Why::GaveWay),
             None => return false,
         }

@@ -65,36 +65,75 @@ static IN_ORDER: [Step; 11] = [
     Turn(3, 28, 2),
 ];
 
-/// Seventeen that say nothing, of which the first gives way.
-static SILENT: [Step; 6] = [
-    Turn(0, 0, 16),
+/// 65 that say nothing. The last one waits in the listener for a turn, and then the first gives way.
+static SILENT: [Step; 9] = [
+    Turn(0, 0, 64),
+    Step::Client(0, IsOpen),
+    Turn(1, 0, 64),
     Step::Client(0, IsClosed),
-    Turn(4, 0, 16),
+    Turn(4, 0, 64),
     Step::Client(1, IsOpen),
-    Turn(5, 0, 0),
-    WithoutRequest(16),
+    Turn(5, 0, 1),
+    Turn(6, 0, 0),
+    WithoutRequest(64),
 ];
 
 /// A whole request behind 39 that say nothing.
-static BEHIND_SILENT: [Step; 4] = [
+static BEHIND_SILENT: [Step; 3] = [
     Step::Client(39, Sends(ASKED)),
-    Turn(0, 28, 16),
-    Step::Client(23, IsClosed),
-    Step::Client(24, IsOpen),
+    Turn(0, 28, 40),
+    Step::Client(0, IsOpen),
 ];
 
-/// Sixteen whole requests, and a seventeenth that waits in the listener until one has its answer and is gone.
-static SIXTEEN_WHOLE: [Step; 10] = [
+/// A whole request behind 99 that say nothing. Those of the turn before give way.
+static BEHIND_MORE: [Step; 5] = [
+    Step::Client(99, Sends(ASKED)),
+    Turn(0, 0, 64),
+    Turn(1, 28, 64),
+    Step::Client(35, IsClosed),
+    Step::Client(36, IsOpen),
+];
+
+/// Thirty that connect at once, and whose requests come a turn later.
+static AT_ONCE: [Step; 7] = [
+    Turn(0, 0, 30),
     EachSends(ASKED),
-    Turn(0, 28, 16),
+    Turn(1, 28, 30),
+    Answer(1),
+    Step::Client(0, Got(ANSWER, true)),
+    Turn(2, 28, 30),
+    Step::Client(29, IsOpen),
+];
+
+/// 64 whole requests, and one more that waits in the listener until one has its answer and is gone.
+static ALL_WHOLE: [Step; 10] = [
+    EachSends(ASKED),
+    Turn(0, 28, 64),
     Answer(0),
-    Turn(1, 28, 16),
+    Turn(1, 28, 64),
     Answer(1),
     Step::Client(0, Ends),
-    Turn(2, 28, 16),
+    Turn(2, 28, 64),
     Answer(2),
     Step::Client(1, Ends),
-    Turn(3, 28, 15),
+    Turn(3, 28, 63),
+];
+
+/// Four whole requests. While they wait, one client resets its connection, and one only ends its half.
+static RESET: [Step; 13] = [
+    EachSends(ASKED),
+    Turn(0, 28, 4),
+    Answer(0),
+    Step::Client(1, Fails(ConnectionReset)),
+    Step::Client(2, Sends(b"x")),
+    Step::Client(2, Ends),
+    Turn(1, 28, 3),
+    Step::Client(1, IsClosed),
+    Answer(1),
+    Step::Client(2, Got(ANSWER, true)),
+    Turn(2, 28, 2),
+    Answer(2),
+    Step::Client(3, Got(ANSWER, true)),
 ];
 
 /// Three whole requests, of which one is answered after four seconds, and the last not within five.
@@ -392,7 +431,17 @@ fn judges_in_the_order_in_which_they_became_whole(rt: HostRuntime) -> Result<(),
 
 #[test]
 fn closes_silent_ones_and_the_oldest_for_another(rt: HostRuntime) -> Result<(), Fail> {
-    play(&rt, 17, &SILENT)
+    play(&rt, 65, &SILENT)
+}
+
+#[test]
+fn keeps_thirty_that_connect_at_once(rt: HostRuntime) -> Result<(), Fail> {
+    play(&rt, 30, &AT_ONCE)
+}
+
+#[test]
+fn drops_the_request_of_a_client_that_reset_its_connection(rt: HostRuntime) -> Result<(), Fail> {
+    play(&rt, 4, &RESET)
 }
 
 #[test]
@@ -432,12 +481,13 @@ fn begins_no_fifth_long_response(rt: HostRuntime) -> Result<(), Fail> {
 
 #[test]
 fn gives_the_places_to_whole_requests_first(rt: HostRuntime) -> Result<(), Fail> {
-    play(&rt, 40, &BEHIND_SILENT)
+    play(&rt, 40, &BEHIND_SILENT)?;
+    play(&rt, 100, &BEHIND_MORE)
 }
 
 #[test]
-fn lets_a_seventeenth_whole_request_wait(rt: HostRuntime) -> Result<(), Fail> {
-    play(&rt, 17, &SIXTEEN_WHOLE)
+fn lets_one_more_whole_request_wait(rt: HostRuntime) -> Result<(), Fail> {
+    play(&rt, 65, &ALL_WHOLE)
 }
 
 #[test]
