@@ -417,6 +417,14 @@ class TheSetup(unittest.TestCase):
         setup = self.read('state = "/tmp/x"')
         self.assertEqual((("127.0.0.1", 8090), 20, ()), (setup.listen, setup.interval, setup.ports))
 
+    def test_a_port_is_exact_unless_it_is_lenient(self):
+        port = 'state = "x"\n[[port]]\nname = "till"\nlisten = "127.0.0.1:883"\n'
+        for line, wanted in (("", False), ('kind = "exact"', False), ('kind = "lenient"', True)):
+            with self.subTest(line=line):
+                self.assertEqual([wanted], [it.is_lenient for it in self.read(port + line).ports])
+        with self.assertRaisesRegex(SetupFault, "kind.*exact.*lenient"):
+            self.read(port + 'kind = "loose"')
+
     def test_a_language_is_a_file(self):
         self.assertEqual(
             {"de": "Deutsch", "en": "English", "es": "Español", "fr": "Français"},

@@ -5,7 +5,8 @@ import unittest
 from unittest import mock
 
 from weighbridge_counter import ports
-from weighbridge_counter.ports import CARRIED_OUT_WITHIN, Client
+from weighbridge_counter.ports import CARRIED_OUT_WITHIN, Client, open_port
+from weighbridge_counter.setup import Port
 from weighbridge_counter.terminal import Terminal
 
 from .played import PlayedTerminal
@@ -51,7 +52,7 @@ class Writer:
 
 
 class Ports(unittest.IsolatedAsyncioTestCase):
-    def begin(self, may_change=True):
+    def begin(self, may_change=True, is_lenient=False):
         self.played = PlayedTerminal()
         self.terminal = Terminal(("127.0.0.1", 1), 20, self.played.clock)
         self.terminal.fanout = self.played.fanout
@@ -61,7 +62,9 @@ class Ports(unittest.IsolatedAsyncioTestCase):
         self.played.fanout.settle()
         self.reader, self.writer = asyncio.StreamReader(), Writer()
         self.task = asyncio.ensure_future(
-            Client(self.terminal, self.reader, self.writer, may_change).run(asyncio.Lock())
+            Client(self.terminal, self.reader, self.writer, may_change, is_lenient).run(
+                asyncio.Lock()
+            )
         )
         self.addCleanup(self.task.cancel)
 
@@ -105,6 +108,55 @@ class Ports(unittest.IsolatedAsyncioTestCase):
         await self.asked("SI")
         self.played.kg = 8140
         self.assertEqual(["S S       8140 kg"], await self.asked("SI"))
+
+    async def test_a_lenient_port_takes_other_lines_and_gives_the_terminals_replies(self):
+        self.begin(is_lenient=True)
+        self.assertEqual(
+            ["TA A       5000 kg", "S S      13340 kg", "TAC A"],
+            await self.asked("TA 5000 kg", "SI", "TA 0 kg"),
+        )
+        self.assertEqual(["TA 5000 kg", "TAC"], self.played.done)
+        self.reader.feed_data(b"SI\rI4\r")
+        await self.readings(3)
+        self.assertTrue(self.writer.written.endswith(b'kg\r\nI4 A "WB01"\r\n'))
+
+    async def test_an_empty_line_ends_a_waiting_command_of_a_lenient_port(self):
+        self.begin(is_lenient=True)
+        self.played.state = "D"
+        self.writer.written = b""
+        self.reader.feed_data(b"S\r")
+        await self.readings(4)
+        self.assertEqual(b"", self.writer.written)
+        self.reader.feed_data(b"\r")
+        await self.readings(8)
+        self.assertEqual(b"S I\r\nES\r\n", self.writer.written)
+
+    async def test_an_exact_port_takes_no_other_lines(self):
+        self.begin()
+        await self.asked("TA 0 kg")
+        self.assertEqual(["TA 0 kg"], self.played.done)
+        self.writer.written = b""
+        self.reader.feed_data(b"SI\rI4\r")
+        await self.readings(3)
+        self.assertEqual(b"", self.writer.written)
+
+    async def test_a_port_takes_the_lines_that_its_setup_says(self):
+        self.begin()
+        for is_lenient, wanted in ((False, b"ES\r\n"), (True, b"S S      18340 kg\r\n")):
+            address = ("127.0.0.1", 0)
+            server = await open_port(self.terminal, Port("till", address, True, is_lenient))
+            reader, writer = await asyncio.open_connection(*server.sockets[0].getsockname())
+            writer.write(b"SI\rx\r\n")
+            first = asyncio.ensure_future(reader.readline())
+            for _ in range(500):
+                await self.readings()
+                await asyncio.wait([first], timeout=0.01)
+                if first.done():
+                    break
+            with self.subTest(is_lenient=is_lenient):
+                self.assertEqual(wanted, await asyncio.wait_for(first, 1))
+            writer.close()
+            server.close()
 
     async def test_what_may_only_read_changes_nothing(self):
         self.begin(may_change=False)

@@ -1,17 +1,17 @@
 """Ports for tills and displays: on each, one client at a time talks to a terminal that answers as the service's own does.
 
 `SI`, `S`, `SIR` and `@` are answered from the values that come anyway; the other commands are handed on. Whoever reads slowly gets new values, never
-old ones. On a port that may only read, what would change the scale is answered `ES`.
+old ones. On a port that may only read, what would change the scale is answered `ES`. A lenient port takes lines that the terminal wouldn't.
 """
 
 import asyncio
 import socket
 
+from .lines import LenientLines, Lines
 from .setup import Port
 from .terminal import NotSent, Terminal, Unanswered, Wish
 from .values import Value, reply_of
 
-LONGEST_LINE = 40  # bytes, as at the terminal
 MOST_LINES = 64  # that wait for their answer
 MOST_WAITING = 4  # clients of a port, as at the terminal
 CARRIED_OUT_WITHIN = 2.0  # seconds: an older line is never carried out; its client's connection is closed, as at the terminal
@@ -28,6 +28,7 @@ class Client:
         reader: asyncio.StreamReader,
         writer: asyncio.StreamWriter,
         may_change: bool,
+        is_lenient: bool = False,
     ) -> None:
         self.terminal, self.reader, self.writer, self.may_change = (
             terminal,
@@ -35,6 +36,7 @@ class Client:
             writer,
             may_change,
         )
+        self.cutter: Lines = LenientLines() if is_lenient else Lines()
         self.lines: asyncio.Queue[tuple[str, float] | None] = asyncio.Queue(MOST_LINES)
         self.wish: Wish | None = None
         self.seen: Value | None = None
@@ -75,20 +77,11 @@ class Client:
 
     async def _read(self) -> None:
         """Cuts lines. What came before the end is still done and answered, as at the terminal; what waits then is ended."""
-        rest = b""
         try:
             while (chunk := await self.reader.read(1024)) and not self.terminal.is_in_doubt():
-                *lines, rest = (rest + chunk).split(b"\n")
-                rest = rest[-LONGEST_LINE - 2 :]
-                for it in lines:
+                for line in self.cutter.cut(chunk):
                     self._hurry()
-                    line = it[:-1] if it.endswith(b"\r") else it
-                    await self.lines.put(
-                        (
-                            line.decode("latin-1") if len(line) <= LONGEST_LINE else "",
-                            self.terminal.clock(),
-                        )
-                    )
+                    await self.lines.put((line, self.terminal.clock()))
         except OSError:
             pass
         self.is_at_end = True
@@ -204,7 +197,7 @@ async def open_port(terminal: Terminal, port: Port) -> asyncio.Server:
         stream = writer.get_extra_info("socket")
         stream.setsockopt(socket.SOL_SOCKET, socket.SO_SNDBUF, SMALL_BUFFER)
         stream.setsockopt(socket.IPPROTO_TCP, socket.TCP_NODELAY, 1)
-        client = Client(terminal, reader, writer, port.may_change)
+        client = Client(terminal, reader, writer, port.may_change, port.is_lenient)
         clients.add(client)
         try:
             await client.run(free)

@@ -30,6 +30,7 @@ class Port:
     name: str
     listen: Address
     may_change: bool
+    is_lenient: bool = False  # it takes lines that the terminal wouldn't
 
 
 @dataclass(frozen=True)
@@ -212,6 +213,7 @@ def port_of(reader: Reader) -> Port:
         name_of(reader),
         reader.address("listen", None),
         reader.choice("may", "read", ("read", "change")) == "change",
+        reader.choice("kind", "exact", ("exact", "lenient")) == "lenient",
     )
     reader.end()
     return port
