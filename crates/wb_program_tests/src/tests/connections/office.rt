@@ -85,7 +85,7 @@ static BEHIND_SILENT: [Step; 3] = [
     Step::Client(0, IsOpen),
 ];
 
-/// A whole request behind 99 that say nothing. Those of the turn before give way.
+/// A whole request behind 99 that say nothing. In the next turn the oldest give way.
 static BEHIND_MORE: [Step; 5] = [
     Step::Client(99, Sends(ASKED)),
     Turn(0, 0, 64),
