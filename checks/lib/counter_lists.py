@@ -434,6 +434,9 @@ def the_description(bridge):
         for body in ('{"goods": "Kies"}', '{"order": ""}', "[]"):
             target = f"/entries/{number}/given"
             answered("/entries/{number}/given", "PUT", bridge.http, target, body=body)
+    for target in ("/entries", "/tickets", "/vehicles"):
+        for fields in ("", "?after=0&limit=1", "?limit=0", f"?journal={'0' * 32}"):
+            answered(target, "GET", bridge.http, target + fields)
     answered("/plates/{plate}", "GET", bridge.http, "/plates/AB-12")
     answered("/tares/{plate}", "PUT", bridge.http, "/tares/AB-12", body='{"kg": 5000}')
     answered("/tares/{plate}", "PUT", bridge.http, "/tares/AB-12", body="{}")
@@ -459,8 +462,10 @@ def the_description(bridge):
 
 
 def routes_of_the_program():
-    with open(os.path.join(TOP, "counter", "weighbridge_counter", "routes.py")) as file:
-        found = re.findall(r'web\.(?:get|post|put|delete)\(r?"([^"]*)"', file.read())
+    found: list[str] = []
+    for name in ("routes.py", "fetching.py"):
+        with open(os.path.join(TOP, "counter", "weighbridge_counter", name)) as file:
+            found += re.findall(r'web\.(?:get|post|put|delete)\(r?"([^"]*)"', file.read())
     names = {"/entries/": "/entries/{number}"}
     plain = {re.sub(r"\{(\w+):.*\}", r"{\1}", names.get(it, it)) for it in found}
     return {it for it in plain if not it.startswith("/web/")}

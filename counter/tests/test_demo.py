@@ -13,7 +13,8 @@ from types import SimpleNamespace
 
 from aiohttp.test_utils import make_mocked_request
 from weighbridge_counter.__main__ import main as counter_main
-from weighbridge_counter.routes import Routes, as_text
+from weighbridge_counter.answers import as_text
+from weighbridge_counter.routes import Routes
 from weighbridge_counter.setup import read_setup, warning_of
 from weighbridge_demo.bridge import (
     CALM,

@@ -41,10 +41,10 @@ TODAY = datetime.datetime.now(datetime.timezone.utc).strftime("%Y-%m-%d 12:00:00
 class PlayedJournal:
     """The journal of an office, which weighs vehicles in, purges, and can be exchanged for a copy."""
 
-    def __init__(self, name="", serial="WB01"):
-        self.name, self.serial, self.rows, self.last = name, serial, {}, 0
+    def __init__(self, name: str = "", serial: str = "WB01") -> None:
+        self.name, self.serial, self.rows, self.last = name, serial, dict[int, str](), 0
 
-    def weigh(self, plate):
+    def weigh(self, plate: str) -> str:
         """Weigh a vehicle in, and return the text of its First."""
         self.last += 1
         previous = self.rows[self.last - 1].split(",")[10] if self.last - 1 in self.rows else ZEROS
@@ -57,33 +57,35 @@ class PlayedJournal:
             f"E 20 kg MAX 60000 kg SERIAL {self.serial}\nDIGEST {digest}\n"
         )
 
-    def purge(self, until):
+    def purge(self, until: int) -> None:
         self.rows = {number: row for number, row in self.rows.items() if number > until}
 
-    def copy(self):
+    def copy(self) -> "PlayedJournal":
         other = PlayedJournal(self.name, self.serial)
         other.rows, other.last = dict(self.rows), self.last
         return other
 
-    def export(self):
+    def export(self) -> str:
         return "\n".join((HEADER, *self.rows.values(), ""))
 
 
 class Office:
     """Answers with the export of the moment of the request, once a test sets `goes_on`."""
 
-    def __init__(self, journal):
+    def __init__(self, journal: PlayedJournal) -> None:
         self.journal, self.goes_on = journal, asyncio.Event()
         self.goes_on.set()
 
-    async def ask(self, method, target, body=None, within=15.0):
+    async def ask(
+        self, method: str, target: str, body: bytes | None = None, within: float = 15.0
+    ) -> Answer:
         export = self.journal.export()
         await self.goes_on.wait()
         return Answer(200, "text/csv", export.encode())
 
 
 class WithBooks(unittest.IsolatedAsyncioTestCase):
-    def setUp(self):
+    def setUp(self) -> None:
         folder = tempfile.TemporaryDirectory()
         self.addCleanup(folder.cleanup)
         self.folder, self.said = Path(folder.name), io.StringIO()
@@ -91,7 +93,7 @@ class WithBooks(unittest.IsolatedAsyncioTestCase):
         told.__enter__()
         self.addCleanup(told.__exit__, None, None, None)
 
-    def counter(self, journal):
+    def counter(self, journal: PlayedJournal) -> Books:
         """Return the books of a counter that is started now."""
         self.office = Office(journal)
         self.files = Files(self.folder, at_once)
@@ -100,12 +102,12 @@ class WithBooks(unittest.IsolatedAsyncioTestCase):
         self.books.on_entry = lambda entry: self.entries.append(entry.number)
         return self.books
 
-    async def read(self):
+    async def read(self) -> None:
         with mock.patch("weighbridge_counter.books.REST", 0):
             await self.books.read_anew()
         self.assertTrue(await self.files.bring())
 
-    async def begin(self, vehicles=5):
+    async def begin(self, vehicles: int = 5) -> PlayedJournal:
         """Make a counter that has read a journal with `vehicles` on site. Return the journal."""
         (self.folder / "journal.json").unlink(missing_ok=True)
         journal = PlayedJournal()
@@ -115,7 +117,7 @@ class WithBooks(unittest.IsolatedAsyncioTestCase):
         await self.read()
         return journal
 
-    def on_site(self):
+    def on_site(self) -> list[str]:
         return [it["plate"] for it in self.books.lists.on_site()]
 
     def told(self):
@@ -123,7 +125,7 @@ class WithBooks(unittest.IsolatedAsyncioTestCase):
         it = self.books.journal.told
         return None if it is None else (it["why"], it["before"], it["now"])
 
-    def passes(self, text):
+    def passes(self, text: str) -> None:
         self.books.passed(text, {})
 
 

@@ -22,7 +22,7 @@ from weighbridge_counter.tares import Kept as KeptTare
 from weighbridge_counter.today import day_of
 from weighbridge_counter.zero import Zero
 from weighbridge_paper.export import HEADER, NoExport, has_key, rows_of
-from weighbridge_paper.text import read_text
+from weighbridge_paper.text import Text, read_text
 
 from .played import at_once
 
@@ -38,18 +38,25 @@ def row(number, kind, plate, gross, preset="", at="2025-03-10 09:00:00"):
     return f"{number},K{number},{kind},{plate},{at},{gross},{preset},20,60000,WB01,{ZEROS},{ZEROS}"
 
 
-def export(*rows):
+def export(*rows: str) -> str:
     return "\n".join((HEADER, *rows, ""))
 
 
-def block(number, kind, gross, preset=None):
+def block(number: int, kind: str, gross: int | None, preset: int | None = None) -> str:
     weights = "".join(
         f"{name} {kg:>10} kg\n" for name, kg in (("G", gross), ("PT", preset)) if kg is not None
     )
     return f"{kind} NO {number}\nAT 2025-03-10 08:00:00\n{weights}E 20 kg MAX 60000 kg SERIAL WB01\nDIGEST {ZEROS}\n"
 
 
-def slip(number, kind, plate, gross=18340, first=None, preset=None):
+def slip(
+    number: int,
+    kind: str,
+    plate: str,
+    gross: int = 18340,
+    first: tuple[int, int] | None = None,
+    preset: int | None = None,
+) -> Text:
     """Return a slip or ticket that was read. `first` is the number and the gross of a Second's First."""
     net = gross - preset if preset else abs(gross - first[1]) if first else None
     return read_text(

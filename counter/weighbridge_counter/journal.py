@@ -10,6 +10,8 @@ journal is still the same one if all of this holds:
 If a change may mean another journal, the counter shows it to the clerk.
 """
 
+import re
+import secrets
 from collections.abc import Mapping
 from dataclasses import dataclass, field
 from typing import Any
@@ -95,10 +97,13 @@ class Journal:
         kept = kept if isinstance(kept, dict) else {}
         self.told: dict[str, Any] | None = kept["told"] if is_told(kept.get("told")) else None
         self.kept = known_in(kept.get("known"))
+        # of this journal; another one gets another
+        self.identifier = identifier_in(kept.get("identifier")) or new_identifier()
 
     def is_another(self, why: str, known: Known, last: int, at: str) -> None:
         """Record and log that another journal is in use, so that the lists start again from it."""
         self.begun += 1
+        self.identifier = new_identifier()
         self.told = {"why": why, "before": known.last, "now": last, "at": at}
         tell(
             f"the journal: {WORDS[why].format(**self.told)}. The lists start again. If nobody planned that, check the service's --file"
@@ -120,7 +125,16 @@ class Journal:
                 if known.last
                 else None
             )
-            self.files.keep(FILE, {"known": what, "told": self.told})
+            kept = {"known": what, "told": self.told, "identifier": self.identifier}
+            self.files.keep(FILE, kept)
+
+
+def new_identifier() -> str:
+    return secrets.token_hex(16)
+
+
+def identifier_in(it: object) -> str | None:
+    return it if isinstance(it, str) and re.fullmatch("[0-9a-f]{32}", it) else None
 
 
 def is_told(it: object) -> bool:

@@ -3,7 +3,7 @@
 import re
 
 LONGEST_LINE = 40  # bytes, as at the terminal
-# A longer line has no command. What is kept of it stays longer than that without its CR.
+# The end of a longer line that is kept. Without its CR it is still too long.
 MOST_KEPT = LONGEST_LINE + 2
 ZERO_TARE = re.compile(r"TA 0{1,7}(\.0{1,3})? kg")
 
@@ -15,7 +15,7 @@ class Lines:
         self.rest = b""  # of a line whose end hasn't come
 
     def cut(self, chunk: bytes) -> list[str]:
-        """Return the lines that end in this chunk. A line that is too long is empty, since both get `ES`."""
+        """Return the lines that end in this chunk. A line that is too long is returned as an empty one, because both get `ES`."""
         *lines, rest = (self.rest + chunk).split(b"\n")
         self.rest = rest[-MOST_KEPT:]
         return [text_of(it.removesuffix(b"\r")) for it in lines]

@@ -1,5 +1,6 @@
 """What stands on the page's lists: made of one export and of each text that passed since. A help to the eye; the office judges."""
 
+import bisect
 import collections
 import datetime
 import zoneinfo
@@ -7,7 +8,7 @@ from collections.abc import Callable, Set
 from typing import Any
 
 from weighbridge_paper.export import Row, rows_of
-from weighbridge_paper.text import Text
+from weighbridge_paper.text import TICKETS, Text, Weighing, digest_of
 
 from .given import Given, Lines
 from .journal import Known
@@ -40,6 +41,8 @@ class Lists:
         self.near = Near()
         self.per_day: collections.Counter[datetime.date] = collections.Counter()
         self.last = 0
+        self.tickets: list[int] = []  # the numbers of Seconds and Singles, in their order
+        self.complete = 0  # the number up to which no entry is missing
         self.is_whole = False  # whether nothing is known to be missing
 
     # ---- what comes
@@ -49,6 +52,8 @@ class Lists:
         """Return the lists of an export. This may run in a thread of its own. Raises NoExport."""
         made = cls(zone, given)
         for row in rows_of(export):
+            if not made.rows:
+                made.complete = row.number - 1  # earlier ones were purged
             made.rows[row.number] = row
             made._take(entry_of_row(row))
         made.first = min(made.rows, default=None)
@@ -123,6 +128,10 @@ class Lists:
         self.by_plate.setdefault(entry.plate, []).append(entry.number)
         self.near.takes(entry.kind, entry.plate)
         self.per_day[entry.at.date()] += 1
+        if entry.kind in TICKETS:
+            bisect.insort(self.tickets, entry.number)
+        while self.complete + 1 in self.entries:
+            self.complete += 1
         if entry.kind == "first":
             self.open[entry.plate] = entry.number
         elif entry.kind in ("second", "void"):
@@ -132,6 +141,29 @@ class Lists:
                 self.partner[entry.number], self.closed[first] = first, entry.number
             if entry.kind == "second" and first in self.entries:
                 self.empty[entry.plate] = self._lighter(first, entry.number)
+
+    def lowest(self) -> int | None:
+        """Return the first number that the journal still has, or None if it has none or that isn't known."""
+        return self.first if self.first is not None else 1 if self.complete else None
+
+    def missing(self) -> int | None:
+        """Return the number of an entry that the export lacks, although it has later ones. Return None if there is none."""
+        number = self.complete + 1
+        return number if number < next(reversed(self.rows), 0) else None
+
+    def own_of(self, number: int) -> Weighing | None:
+        """Return the block of an entry, as it passed or as the export has it. Return None if its text isn't kept any more, and no export has it yet."""
+        if number in self.texts:
+            return self.texts[number].own
+        return self.rows[number].weighing() if number in self.rows else None
+
+    def is_sound(self, number: int) -> bool:
+        """Return True if an entry's digest is that of its fields. A text that passed is the office's own."""
+        row = self.rows.get(number)
+        return number in self.texts or (
+            row is not None
+            and digest_of(row.weighing(), row.plate, row.key, row.previous) == row.digest
+        )
 
     def first_of(self, number: int) -> int | None:
         """Return the First that an entry closes, or None if the lists may lack an entry, because they find a Void's First only by its plate."""

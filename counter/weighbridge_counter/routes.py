@@ -2,15 +2,13 @@
 
 import asyncio
 import functools
-import hashlib
 import json
-import mimetypes
 import socket
 import sys
 import urllib.parse
 from collections.abc import Awaitable, Callable
 from pathlib import Path
-from typing import Any, TypeVar
+from typing import TypeVar
 
 from aiohttp import web
 from aiohttp.http_exceptions import HttpProcessingError
@@ -19,7 +17,9 @@ from weighbridge_paper.export import NoExport, has_key
 from weighbridge_paper.text import NoText
 from weighbridge_paper.words import FREE_LINES
 
+from .answers import NO_STORE, as_json, as_text, file_of
 from .counter import Counter
+from .fetching import Fetching
 from .files import NoFile
 from .health import health_of
 from .metrics import TEXT_FORM, metrics_of
@@ -35,49 +35,8 @@ LOOK_AT_SLOW_PAGE_EVERY = 0.05  # seconds
 READS_NOTHING = 5.0  # seconds: a page that takes nothing for so long is closed, and begins anew
 MOST_ASKING = 4  # of the office's places
 UNDER_WAY_FOR = 30.0  # seconds: longer than the office is waited for
-POLICY = (
-    "default-src 'none'; script-src 'self'; style-src 'self'; img-src 'self'; connect-src 'self'; "
-    "base-uri 'none'; form-action 'none'; frame-ancestors 'none'; require-trusted-types-for 'script'"
-)
-# With each answer: what a browser may do with it.
-FIELDS = {
-    "Content-Security-Policy": POLICY,
-    "X-Content-Type-Options": "nosniff",
-    "Referrer-Policy": "no-referrer",
-    "Cross-Origin-Resource-Policy": "same-origin",
-}
-NO_STORE = {"Cache-Control": "no-store", **FIELDS}
-NO_CACHE = {"Cache-Control": "no-cache", **FIELDS}
 T = TypeVar("T")
 Handler = Callable[[web.Request], Awaitable[web.StreamResponse]]
-
-
-def as_json(what: Any, status: int = 200) -> web.Response:
-    return web.json_response(what, status=status, headers=NO_STORE)
-
-
-def as_text(
-    body: bytes, status: int, kind: str = "text/plain; charset=utf-8", **fields: str
-) -> web.Response:
-    return web.Response(
-        status=status, body=body, headers={"Content-Type": kind, **NO_STORE, **fields}
-    )
-
-
-def file_of(request: web.Request, path: Path) -> web.Response:
-    """Return a file of the page.
-
-    aiohttp's own response sends a file by sendfile. If the client is cut meanwhile, that keeps a descriptor, and breaks the next connection that gets its number.
-    """
-    content = path.read_bytes()
-    digest = hashlib.sha256(content).hexdigest()
-    is_known = any(it.value == digest for it in request.if_none_match or ())
-    fields = {"ETag": f'"{digest}"', **NO_CACHE}
-    response = web.Response(status=304 if is_known else 200, headers=fields)
-    if not is_known:
-        response.body = content
-        response.content_type = mimetypes.guess_type(path.name)[0] or "application/octet-stream"
-    return response
 
 
 class Routes:
@@ -125,6 +84,7 @@ class Routes:
                 web.post("/lists/seen", self.seen),
                 web.get("/health", self.health),
                 web.get("/metrics", self.metrics),
+                *Fetching(self.counter, self.in_turn).routes(),
             ]
         )
         return application

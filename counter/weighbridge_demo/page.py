@@ -6,7 +6,7 @@ from pathlib import Path
 
 from aiohttp import web
 
-from weighbridge_counter.routes import NO_CACHE, as_json, as_text
+from weighbridge_counter.answers import NO_CACHE, as_json, as_text
 
 from .bridge import Bridge, shown_visit
 from .cell import INTERVAL, MAX
