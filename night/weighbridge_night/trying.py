@@ -17,13 +17,13 @@ from .setup import Place, Setup
 
 SETPRIV, PYTHON, SFTP = "/usr/bin/setpriv", "/usr/bin/python3", "/usr/bin/sftp"
 SYSTEMCTL = "/usr/bin/systemctl"
-# What weighbridge-night.service may write to, besides the night's own folder.
+# The folders that weighbridge-night.service may write to, besides the night's own.
 WRITABLE = ("/srv/weighbridge-copies", "/mnt/weighbridge-night")
 
 
 @dataclass(frozen=True)
 class Tried:
-    """What was tried, and what was found."""
+    """A thing that was tried, and what was found of it."""
 
     words: str
     is_fault: bool = False
