@@ -11,7 +11,7 @@ from typing import Any
 from .files import read_json, write_whole
 
 DONE, FAILED, LEFT_OUT = "done", "failed", "left_out"
-# What people read for the names in the file.
+# The words that people read for these names of the file.
 SHOWN = {LEFT_OUT: "left out"}
 VERSION = 1
 FORM = "%Y-%m-%dT%H:%M:%SZ"
