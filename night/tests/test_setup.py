@@ -72,7 +72,7 @@ class SetupTest(unittest.TestCase):
             ("purge = true", 'purge = "false"', "purge: 'false'; write true to .* without quotes"),
             (last, last.replace("5", '"5"'), "3: most_gb: '5'; write .* to 10000, without quotes"),
             (last, last.replace("= 5", "= 0"), "3: most_gb: 0; write .* 1 to 10000$"),
-            ('"WB01"', '"QB 7"', "bridge: 'QB 7'; write .* without blanks, in quotes"),
+            ('"WB01"', '"QB 7"', "bridge: 'QB 7'; write .* without blanks$"),
             ('"/srv/copies"', '"copies"', "1: path: 'copies'; write .* from / on"),
             ('"/srv/copies"', "7", "1: path: 7; write .* in quotes"),
             ('kind = "folder"', "", "1: kind: it is missing; write"),

@@ -87,8 +87,9 @@ class Reader:
         found = self.table.get(key)
         if isinstance(found, str) and form.fullmatch(found):
             return found
+        quotes = ", in quotes" if found is not None and not isinstance(found, str) else ""
         self.refuse(
-            key, f"{'it is missing' if found is None else ascii(found)}; write {wanted}, in quotes"
+            key, f"{'it is missing' if found is None else ascii(found)}; write {wanted}{quotes}"
         )
         return ""
 
