@@ -36,9 +36,14 @@ static void add_typed(struct given *given, const char *number, const char *diges
     bool is_utf8;
     if (found < 0)
         refuse("--known: %s is no number of an entry", number);
-    if (!is_of(digest, length, DIGEST_LENGTH, DIGEST_LENGTH, DIGITS "abcdef"))
-        refuse("--known: the digest of number %s has %zu characters, and a digest is 64 of 0 to 9 "
-               "and a to f: type all of them", number, characters_in(digest, length, &is_utf8));
+    if (!is_of(digest, length, DIGEST_LENGTH, DIGEST_LENGTH, DIGITS "abcdef")) {
+        size_t count = characters_in(digest, length, &is_utf8);
+        char what[48] = "a character that no digest has";
+        if (count != DIGEST_LENGTH)
+            snprintf(what, sizeof what, "%zu characters", count);
+        refuse("--known: the digest of number %s has %s: type all 64 of 0 to 9 and a to f, in small "
+               "letters and without blanks", number, what);
+    }
     add_known(given, found, digest, length, TYPED);
 }
 

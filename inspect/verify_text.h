@@ -210,7 +210,7 @@ struct findings {
     size_t count;
 };
 
-static struct findings wrong, unknown;
+static struct findings wrong, unknown, confirmed;
 
 /* Adds a line to the findings. */
 static void report(struct findings *findings, const char *format, ...) {

@@ -227,6 +227,7 @@ def show_damage_by_chance(
     export = f"{folder}/mixed.csv"
     export_to(f"{folder}/mixed0.db", export)
     whole, path, spoilt = Path(export).read_bytes(), f"{folder}/chance.db", f"{folder}/chance.csv"
+    genuine = {it["number"]: it["digest"] for it in csv.DictReader(io.StringIO(whole.decode()))}
     statuses = {0: 0, 1: 0, 2: 0}
     for _ in range(ROUNDS):
         files = dict(chance.choice(bases))
@@ -237,6 +238,9 @@ def show_damage_by_chance(
             Path(path + end).write_bytes(changed(data, chance) if end == hit else data)
         Path(spoilt).write_bytes(changed(whole, chance) if hit == "export" else whole)
         words = [path, "--against", spoilt] if chance.random() < 0.6 or hit == "export" else [path]
+        for number in chance.sample(range(1, 10), chance.randint(0, 3)):
+            digest = genuine.get(str(number), ZEROS) if chance.random() < 0.7 else ZEROS
+            words += ["--known", str(number), digest]
         statuses[said_by_both(second, words).returncode] += 1
     print(f"{ROUNDS} files changed by chance, both say the same ({statuses}): ok", flush=True)
     if min(statuses.values()) < ROUNDS // 40:

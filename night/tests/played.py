@@ -62,6 +62,7 @@ class PlayedPrograms:
         self.refused_export: str | None = None
         self.sftp_fault: str | None = None  # what sftp says, with status 255
         self.hangs = False
+        self.writable = "-/srv/weighbridge-copies -/mnt/weighbridge-night"  # as systemctl says it
         self.loses = False  # the host keeps only a part of each file
         self.ran: list[str] = []
         self.batches: list[str] = []
@@ -73,6 +74,8 @@ class PlayedPrograms:
         self.ran.append(" ".join(words))
         if name == "sftp":
             return self.sftp(given)
+        if name == "systemctl":
+            return Ran(0, f"{self.writable}\n", "")
         if name == "python3":
             return Ran(self.verify_status, self.verify, "")
         if words[1] == "check":

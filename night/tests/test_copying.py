@@ -110,7 +110,9 @@ class CopyingTest(NightCase):
 
     def test_without_its_log_there_is_no_copy(self) -> None:
         os.unlink(self.journal + "-wal")
-        with self.assertRaisesRegex(Fault, "journal.db-wal: it isn't there"):
+        with self.assertRaisesRegex(
+            Fault, "journal.db-wal: it isn't there.* `journal` in the setup"
+        ):
             self.copied()
 
     def test_no_journal(self) -> None:

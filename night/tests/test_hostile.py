@@ -229,7 +229,9 @@ class ExportTest(HostileCase):
         with mock.patch.object(self.programs, "export", export):
             self.assertFalse(self.night())
         self.assertIn("is none of an export", self.only_failure())
-        self.assertTrue(any("_doubtful_" in it for it in self.in_folder()))
+        self.assertTrue(any("_doubtful_0_" in it for it in self.in_folder()))
+        kept = os.path.join(self.copies, "WB01", self.in_folder()[0])
+        self.assertNotIn("journal.csv", os.listdir(kept))
         self.assertEqual(self.office.asked, [])
 
     def test_a_check_and_an_export_that_count_differently(self) -> None:

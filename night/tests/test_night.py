@@ -65,7 +65,7 @@ class StepsTest(NightCase):
             digest_of(os.path.join(kept, "journal.db-wal")), digest_of(self.journal + "-wal")
         )
         self.assertEqual(self.office.asked, ["GET /indication", "POST /purge"])
-        self.assertEqual(self.words("purge"), "2 entries")
+        self.assertEqual(self.words("purge"), "2 entries were purged")
         self.assertEqual(sorted(os.listdir(self.state)), ["last.json"])
 
     def test_the_morning_reads_that_all_is_well(self) -> None:
@@ -136,6 +136,24 @@ class StepsTest(NightCase):
         kept = os.path.join(self.copies, "WB01", self.in_folder()[0])
         self.assertNotIn("tickets.csv", os.listdir(kept))
 
+    def test_a_copy_has_no_half_export(self) -> None:
+        real = self.programs.export
+
+        def killed(what: str, to: str | None) -> Any:
+            real(what, to)
+            raise Fault("/usr/bin/weighbridge: it didn't end within 600 seconds and was killed")
+
+        with unittest.mock.patch.object(self.programs, "export", killed):
+            self.assertFalse(self.night())
+        self.assertRegex(self.in_folder()[0], "_doubtful_0_")
+        kept = os.path.join(self.copies, "WB01", self.in_folder()[0])
+        names = ["SHA256SUMS", "journal.db", "journal.db-newest", "journal.db-wal"]
+        self.assertEqual(sorted(os.listdir(kept)), names)
+        said = io.StringIO()
+        with contextlib.redirect_stdout(said):
+            command.list_copies(self.setup, self.state)
+        self.assertIn("doubtful, newest entry unknown, ", said.getvalue())
+
     def test_nothing_is_purged_unless_a_copy_is_kept(self) -> None:
         shutil.rmtree(self.copies)
         self.programs.sftp_fault = "Connection timed out"
@@ -152,6 +170,19 @@ class StepsTest(NightCase):
         self.purge = False
         self.assertTrue(self.night())
         self.assertEqual(self.office.asked, [])
+        said = io.StringIO()
+        with contextlib.redirect_stdout(said):
+            command.show_last(self.state)
+            command.say(self.steps[-1])
+        shown = "purge: left out: the setup has purge = false"
+        self.assertEqual(said.getvalue().splitlines()[-2:], [shown] * 2)
+        self.assertEqual(self.last()["steps"][-1]["state"], "left_out")
+
+    def test_a_purge_that_nobody_wants_any_more_fails_no_more(self) -> None:
+        self.office.purged = "refused 17 damaged"
+        self.assertFalse(self.night())
+        self.purge = False
+        self.assertTrue(self.night())
 
     def test_a_vehicle_on_the_bridge(self) -> None:
         self.office.shown = "STABLE G      18340 kg N      18340 kg"
@@ -162,7 +193,11 @@ class StepsTest(NightCase):
     def test_an_empty_journal(self) -> None:
         self.programs.entries = 0
         self.assertTrue(self.night())
-        self.assertEqual(self.words("purge"), "there is no entry")
+        said = io.StringIO()
+        with contextlib.redirect_stdout(said):
+            command.list_copies(self.setup, self.state)
+        self.assertIn("sound, no entry, ", said.getvalue())
+        self.assertEqual(self.words("purge"), "nothing was purged, because there is no entry")
 
     def test_a_refused_purge(self) -> None:
         self.office.purged = "refused 17 damaged"
@@ -260,7 +295,7 @@ class OfficeTest(unittest.TestCase):
 
     def test_a_purge_is_asked_for_once(self) -> None:
         office = PlayedOffice()
-        self.assertEqual(purge(office, 20), "2 entries")
+        self.assertEqual(purge(office, 20), "2 entries were purged")
         self.assertEqual(office.asked, ["GET /indication", "POST /purge"])
 
     def test_an_office_over_http(self) -> None:

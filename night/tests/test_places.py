@@ -128,6 +128,11 @@ class DiskTest(PlaceCase):
             self.disk().open()
         self.assertEqual(os.listdir(self.copies), [])
 
+    def test_a_folder_that_was_never_made(self) -> None:
+        os.rmdir(self.copies)
+        with self.assertRaisesRegex(Fault, "copies: it isn't there; make it by `install -d /"):
+            self.disk().open()
+
     def test_a_label_of_no_disk(self) -> None:
         os.makedirs(os.path.join(self.box, "by-label", "BRIDGE"))
         with self.assertRaisesRegex(Fault, "it is no disk"):

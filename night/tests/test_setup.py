@@ -65,6 +65,33 @@ class SetupTest(unittest.TestCase):
             self.assertEqual(len(faults), 1, faults)
             self.assertTrue(faults[0].startswith(wanted), faults)
 
+    def test_a_mistake_says_what_to_write(self) -> None:
+        last = 'user = "bridge"\nfolder = "copies"\nmost_gb = 5'
+        for old, new, wanted in (
+            ("purge = true", "pruge = true", "pruge: no such key; write purge; the keys are"),
+            ("purge = true", 'purge = "false"', "purge: 'false'; write true to .* without quotes"),
+            (last, last.replace("5", '"5"'), "3: most_gb: '5'; write .* to 10000, without quotes"),
+            (last, last.replace("= 5", "= 0"), "3: most_gb: 0; write .* 1 to 10000$"),
+            ('"WB01"', '"QB 7"', "bridge: 'QB 7'; write .* without blanks$"),
+            ('"/srv/copies"', '"copies"', "1: path: 'copies'; write .* from / on"),
+            ('"/srv/copies"', "7", "1: path: 7; write .* in quotes"),
+            ('kind = "folder"', "", "1: kind: it is missing; write"),
+            (
+                "/srv/copies",
+                "/var/lib/weighbridge/x",
+                r"\[\[to\]\] 1: path: /var/lib/weighbridge/x is in the journal's folder, with which",
+            ),
+        ):
+            self.assertEqual(GOOD.count(old), 1, old)
+            faults = self.faults(GOOD.replace(old, new))
+            self.assertRegex(faults[0], wanted)
+        one = 'bridge = "B"\npurge = false\n[to]\nkind = "folder"\npath = "/srv/x"\nmost_gb = 1\n'
+        self.assertRegex("".join(self.faults(one)), "^to: it has one bracket; write \\[\\[to\\]\\]")
+        self.assertRegex(
+            self.faults("most_gb = 20 GB")[0],
+            "it is no TOML: .*; write texts in quotes, and numbers",
+        )
+
     def test_all_mistakes_come_at_once(self) -> None:
         text = GOOD.replace("WB01", "").replace("/srv/copies", "x").replace("= 5", "= true")
         self.assertEqual(
@@ -75,7 +102,7 @@ class SetupTest(unittest.TestCase):
     def test_no_places_and_places_twice(self) -> None:
         self.assertEqual(
             self.faults('bridge = "B"\npurge = false'),
-            ["to: there is no place for copies; write a table [[to]] for each"],
+            ["to: there is no place for copies; write [[to]] above each place"],
         )
         twice = GOOD + '[[to]]\nkind = "folder"\npath = "/srv/copies"\nmost_gb = 1\n'
         self.assertEqual(

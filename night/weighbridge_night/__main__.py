@@ -9,11 +9,12 @@ from datetime import datetime, timedelta, timezone
 
 from . import keep
 from .files import Fault, read_json
-from .last import FAILED, FORM, LEFT_OUT, Book, Step
+from .last import FAILED, FORM, LEFT_OUT, SHOWN, Book, Step
 from .night import Night, World, locked
 from .office import RealOffice
 from .programs import RealPrograms
 from .setup import PATH, STATE, Refused, Setup, read_setup
+from .trying import tried
 
 # The system's journal shows a line that begins so as an error, or as a notice.
 ERROR, NOTICE = "<3>", "<5>"
@@ -28,7 +29,8 @@ def say(step: Step) -> None:
     is_read = "INVOCATION_ID" in os.environ
     weight = {FAILED: ERROR, LEFT_OUT: NOTICE}.get(step.state, "") if is_read else ""
     since = f" (fails since {step.since})" if step.since and step.state == FAILED else ""
-    print(f"{weight}{step.step}: {step.state}: {step.words}{since}", flush=True)
+    shown = SHOWN.get(step.state, step.state)
+    print(f"{weight}{step.step}: {shown}: {step.words}{since}", flush=True)
 
 
 def world_of(setup: Setup, state: str) -> World:
@@ -67,21 +69,21 @@ def note_refused(state: str, why: str) -> None:
 
 
 def check(setup: Setup, state: str) -> int:
-    """Try each place. The setup has no mistakes."""
-    world, status = world_of(setup, state), 0
-    for place in setup.places:
-        try:
-            world.keeper(place, setup.bridge).ready()
-            print(f"{place.title}: copies can be kept there")
-        except Fault as why:
-            fault(str(why))
+    """Try what a night needs. The setup has no mistakes."""
+    status = 0
+    for it in tried(setup, state, world_of(setup, state)):
+        if it.is_fault:
+            fault(it.words)
             status = 1
+        else:
+            print(it.words)
+    for place in setup.places:
         if place.kind == "folder" and is_same_disk(place.path, setup.journal):
             print(
                 f"{place.title}: warning: it is on the disk of the journal, and is lost with it;"
                 " add a USB disk or another host"
             )
-    print(f"purge: {'each night, past retention' if setup.purge else 'never'}")
+    print("it can't work yet" if status else "no mistake was found")
     return status
 
 
@@ -105,7 +107,7 @@ def list_copies(setup: Setup, state: str) -> int:
         for it in found:
             days = (utc() - it.moment).days
             print(
-                f"  {it.name}  {it.verdict}, newest entry {it.newest}, {it.size} bytes, {days} days old"
+                f"  {it.name}  {it.verdict}, {it.newest_in_words}, {it.size} bytes, {days} days old"
             )
         if keep.newest_sound(found) is None:
             print("  none of them is sound")
@@ -121,7 +123,7 @@ def show_last(state: str) -> int:
     print(f"began {found.get('began')}, ended {found.get('ended') or 'not'}")
     for it in found.get("steps", []):
         since = f" (fails since {it['since']})" if it.get("since") else ""
-        print(f"{it['step']}: {it['state']}: {it['words']}{since}")
+        print(f"{it['step']}: {SHOWN.get(it['state'], it['state'])}: {it['words']}{since}")
     if not is_recent(found.get("ended"), utc()):
         fault("no night ended within the last 36 hours; see systemctl status weighbridge-night")
         return 1
@@ -154,7 +156,9 @@ def main() -> int:
         help="run: the night now, as its timer does; list: the copies that are kept; last: what the last night did",
     )
     options.add_argument(
-        "--check", action="store_true", help="list every mistake of the setup, and try each place"
+        "--check",
+        action="store_true",
+        help="list every mistake of the setup, and try what a night needs",
     )
     options.add_argument("--setup", default=PATH, metavar="FILE", help=f"{PATH} if it isn't given")
     options.add_argument(

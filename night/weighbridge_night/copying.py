@@ -110,7 +110,7 @@ def copy_journal(journal: str, to: str, sleep: Callable[[float], None]) -> int:
                 if seen is None and ending in NEEDED:
                     raise Fault(
                         f"{journal}{ending}: it isn't there, and a journal in use always has it;"
-                        " see whether `journal` in /etc/weighbridge-night.toml is the service's file"
+                        " see whether `journal` in the setup is the service's file"
                     )
             return tried
         if tried < TRIES:

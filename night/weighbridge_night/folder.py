@@ -36,11 +36,12 @@ class Folder:
         """Raise a Fault if no copies can be kept here."""
         if not os.path.isdir(self.root):
             raise Fault(
-                f"{self.root}: it isn't there, or is no folder; make it, for weighbridge-night"
+                f"{self.root}: it isn't there, or is no folder; make it by"
+                f" `install -d -o weighbridge-night -m 0700 {self.root}`"
             )
         if not os.access(self.root, os.W_OK | os.X_OK):
             raise Fault(
-                f"{self.root}: the night can't write there; `chown weighbridge-night` it, and name it in"
+                f"{self.root}: the night can't write there; run `chown weighbridge-night {self.root}`, and name it in"
                 " ReadWritePaths= of weighbridge-night.service"
             )
         if os.path.lexists(self.own):
@@ -180,6 +181,10 @@ class Disk(Folder):
         try:
             os.listdir(self.root)  # lets an automount mount it
             mounted = os.stat(self.root).st_dev
+        except FileNotFoundError:
+            raise Fault(
+                f"{self.root}: it isn't there; make it by `install -d {self.root}`, and see its line in /etc/fstab"
+            ) from None
         except OSError as error:
             raise fault_of(
                 self.root, error, f"plug in the disk {self.label}, and see its line in /etc/fstab"
@@ -188,7 +193,9 @@ class Disk(Folder):
             wanted = self.number_of_device()
         except OSError as error:
             raise fault_of(
-                self.device, error, f"plug in a disk with the label {self.label}"
+                self.device,
+                error,
+                f"plug in a disk with the label {self.label}; `lsblk -o NAME,LABEL` shows the labels",
             ) from None
         if mounted != wanted:
             raise Fault(

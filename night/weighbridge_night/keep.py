@@ -24,7 +24,7 @@ class Copy:
 
     moment: datetime
     verdict: str
-    newest: int  # the number of its newest entry; 0 if it has none
+    newest: int  # the number of its newest entry; 0 if it has none, or if a doubtful copy doesn't show it
     size: int  # bytes
 
     @property
@@ -34,6 +34,12 @@ class Copy:
     @property
     def is_sound(self) -> bool:
         return self.verdict == SOUND
+
+    @property
+    def newest_in_words(self) -> str:
+        """Return the number of its newest entry, in the words of a list."""
+        none = "no entry" if self.is_sound else "newest entry unknown"
+        return f"newest entry {self.newest}" if self.newest else none
 
 
 def copy_of(name: str) -> Copy | None:

@@ -11,6 +11,8 @@ from typing import Any
 from .files import read_json, write_whole
 
 DONE, FAILED, LEFT_OUT = "done", "failed", "left_out"
+# The words that people read for these names of the file.
+SHOWN = {LEFT_OUT: "left out"}
 VERSION = 1
 FORM = "%Y-%m-%dT%H:%M:%SZ"
 

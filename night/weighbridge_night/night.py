@@ -25,6 +25,7 @@ from .setup import Place, Setup
 
 WEIGHBRIDGE = "/usr/bin/weighbridge"
 VERIFY = "/usr/share/weighbridge/inspect/verify.py"
+UNIT = "weighbridge-night"
 CHECKING = 600.0  # seconds
 SOUND_LINE = re.compile(r"SOUND (\d+)")
 EXPORTS = {"journal": "journal.csv", "tickets": "tickets.csv"}
@@ -185,15 +186,19 @@ class Night:
         for what, name in EXPORTS.items():
             words = [WEIGHBRIDGE, "export", "--file", self.journal, "--what", what]
             path = os.path.join(self.folder, name)
-            ran = self.world.programs.run(words, CHECKING, to=path)
-            if ran.status != 0:
-                os.unlink(path)
-                raise Fault(
-                    f"weighbridge export --what {what} of this night's copy: {ran.said()};"
-                    " see troubleshooting.md, A damaged journal"
-                )
-            if what == "journal":
-                entries = self.read_export(path)
+            try:
+                ran = self.world.programs.run(words, CHECKING, to=path)
+                if ran.status != 0:
+                    raise Fault(
+                        f"weighbridge export --what {what} of this night's copy: {ran.said()};"
+                        " see troubleshooting.md, A damaged journal"
+                    )
+                if what == "journal":
+                    entries = self.read_export(path)
+            except Fault:
+                if os.path.lexists(path):
+                    os.unlink(path)  # half an export looks like a whole one
+                raise
         if entries != self.entries:
             raise Fault(
                 f"weighbridge check of this night's copy counted {self.entries} entries, and its export has {entries};"
@@ -203,17 +208,18 @@ class Night:
 
     def read_export(self, path: str) -> int:
         """Note the newest entry and its interval. Return how many entries there are."""
-        entries = 0
+        entries, newest, interval = 0, 0, 0
         with open(path, encoding="utf-8", newline="") as file:
             try:
                 for row in csv.DictReader(file):
                     entries += 1
-                    self.newest, self.interval = int(row["number"]), int(row["interval_kg"])
+                    newest, interval = int(row["number"]), int(row["interval_kg"])
             except (KeyError, TypeError, ValueError, csv.Error) as error:
                 raise Fault(
                     f"{path}: record {entries} is none of an export ({error!r}); see"
                     " troubleshooting.md, A damaged journal"
                 ) from None
+        self.newest, self.interval = newest, interval
         return entries
 
     def seal(self) -> Copy:
@@ -286,11 +292,12 @@ class Night:
     def purge(self) -> None:
         """Ask for a purge, if a sound copy of this night is kept. That copy then has each entry that the purge removes."""
         if not self.setup.purge:
-            self.note("purge", DONE, "not wanted, by the setup")
+            self.book.last.failing.pop("purge", None)  # nobody wants it any more
+            self.note("purge", LEFT_OUT, "the setup has purge = false")
         elif not (self.stored and self.is_sound):
             self.note("purge", LEFT_OUT, "no sound copy of this night is kept")
         elif self.newest == 0:
-            self.note("purge", DONE, "there is no entry")
+            self.note("purge", DONE, "nothing was purged, because there is no entry")
         else:
             self.step("purge", lambda: purge(self.world.office, self.interval))
 

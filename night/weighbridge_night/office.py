@@ -62,4 +62,4 @@ def purge(office: Office, interval: int) -> str:
         raise Fault(
             f"the office refused the purge: {answer.strip() or 'no answer'}; see operating.md, Purge old entries"
         )
-    return f"{found[1]} entries"
+    return f"{found[1]} entries were purged"

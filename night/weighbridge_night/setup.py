@@ -1,5 +1,6 @@
 """The file of the setup. Every mistake in it is found at once."""
 
+import difflib
 import os
 import re
 import tomllib
@@ -86,10 +87,14 @@ class Reader:
         found = self.table.get(key)
         if isinstance(found, str) and form.fullmatch(found):
             return found
-        self.refuse(key, f"{'it is missing' if found is None else ascii(found)}; write {wanted}")
+        quotes = ", in quotes" if found is not None and not isinstance(found, str) else ""
+        self.refuse(
+            key, f"{'it is missing' if found is None else ascii(found)}; write {wanted}{quotes}"
+        )
         return ""
 
     def path(self, key: str, wanted: str, default: str | None = None) -> str:
+        wanted = f"{wanted}, from / on and without / at its end"
         found = self.text(key, re.compile(r"/[^\x00-\x1f]*[^/\x00-\x1f]"), wanted, default)
         return os.path.normpath(found) if found else found
 
@@ -97,13 +102,18 @@ class Reader:
         found = self.table.get(key, default)
         if isinstance(found, int) and not isinstance(found, bool) and 1 <= found <= most:
             return found
-        self.refuse(key, f"{'it is missing' if found is None else ascii(found)}; write {wanted}")
+        quoted = ", without quotes" if isinstance(found, str) else ""
+        self.refuse(
+            key, f"{'it is missing' if found is None else ascii(found)}; write {wanted}{quoted}"
+        )
         return 1
 
     def only(self, known: set[str]) -> None:
         for key in self.table:
             if key not in known:
-                self.refuse(key, f"no such key; the keys are {', '.join(sorted(known))}")
+                near = difflib.get_close_matches(key, sorted(known), 1)
+                likely = f"write {near[0]}; " if near else ""
+                self.refuse(key, f"no such key; {likely}the keys are {', '.join(sorted(known))}")
 
 
 def place_of(number: int, given: object, faults: list[str]) -> Place | None:
@@ -115,7 +125,8 @@ def place_of(number: int, given: object, faults: list[str]) -> Place | None:
     it = Reader(where, table, faults)
     kind = table.get("kind")
     if not isinstance(kind, str) or kind not in KINDS:
-        it.refuse("kind", f'{ascii(kind)}; write "folder", "disk" or "ssh"')
+        why = "it is missing" if kind is None else ascii(kind)
+        it.refuse("kind", f'{why}; write "folder", "disk" or "ssh", in quotes')
         return None
     it.only({"kind", "most_gb", *KINDS[kind], *OPTIONAL_TO.get(kind, set())})
     most = it.whole("most_gb", MOST_GB, f"how many GB the copies may have, 1 to {MOST_GB}") * GB
@@ -147,34 +158,49 @@ def setup_of(text: str) -> Setup:
     try:
         table = tomllib.loads(text)
     except tomllib.TOMLDecodeError as error:
-        raise Refused([f"it is no TOML: {error}"]) from None
+        raise Refused(
+            [
+                f"it is no TOML: {error}; write texts in quotes, and numbers, true and false without quotes"
+                " or a unit"
+            ]
+        ) from None
     faults: list[str] = []
     it = Reader("", table, faults)
     it.only(OWN | OPTIONAL)
-    bridge = it.text("bridge", BRIDGE, "the bridge's name, as its serial WB01")
+    bridge = it.text(
+        "bridge",
+        BRIDGE,
+        "the bridge's name, as its serial WB01, 1 to 32 characters of A-Z a-z 0-9 _ - without blanks",
+    )
     journal = it.path("journal", "the path of the service's journal.db", Setup.journal)
     office = it.text("office", ADDRESS, "the office's address, as 127.0.0.1:880", Setup.office)
     purge = table.get("purge")
     if not isinstance(purge, bool):
-        it.refuse("purge", "it is missing; write true to purge past retention each night, or false")
+        it.refuse(
+            "purge",
+            f"{'it is missing' if purge is None else ascii(purge)}; write true to purge past retention each"
+            " night, or false, without quotes",
+        )
     given = table.get("to")
-    if not isinstance(given, list) or not given:
-        it.refuse("to", "there is no place for copies; write a table [[to]] for each")
+    if isinstance(given, dict):
+        it.refuse("to", "it has one bracket; write [[to]], with two on each side, above each place")
+        given = []
+    elif not isinstance(given, list) or not given:
+        it.refuse("to", "there is no place for copies; write [[to]] above each place")
         given = []
     places = [place_of(number, one, faults) for number, one in enumerate(given, 1)]
     found = [one for one in places if one is not None]
-    for one in found:
-        here = os.path.realpath(one.path) if one.path else ""
+    for number, place in enumerate(places, 1):
+        here = os.path.realpath(place.path) if place is not None and place.path else ""
         for taken, what in (
-            (STATE, "the night's own folder"),
-            (os.path.dirname(journal), "the journal's folder"),
+            (STATE, "the night's own folder, where each night clears up"),
+            (os.path.dirname(journal), "the journal's folder, with which they would be lost"),
         ):
-            if (
-                here
-                and taken
-                and os.path.commonpath([here, os.path.realpath(taken)]) == os.path.realpath(taken)
-            ):
-                faults.append(f"{one.title}: it is in {what}, {taken}; write another path")
+            real = os.path.realpath(taken) if here and taken else ""
+            if real and os.path.commonpath([here, real]) == real:
+                faults.append(
+                    f"[[to]] {number}: path: {here} is in {what}, {taken}; write another path"
+                )
     titles = [one.title for one in found]
     for title in sorted({one for one in titles if titles.count(one) > 1} if not faults else set()):
         faults.append(f"to: {title} is there twice; remove one of them")
