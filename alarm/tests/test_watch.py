@@ -218,6 +218,20 @@ class BoundTest(AlarmCase):
         self.look(24 * 60)
         self.assertIn("papers began", self.events())
 
+    def test_a_flapping_printer_hides_no_service_that_is_down(self) -> None:
+        self.flap(6)
+        self.assertEqual(len(self.taken()), 20)
+        self.world.faults = ["weight"]
+        self.look(5)
+        self.assertIn("weight began", self.events())
+        for _ in range(60):
+            self.world.faults = []
+            self.look(5)
+            self.world.faults = ["weight"]
+            self.look(5)
+        self.assertEqual(len(self.taken()), 40)
+        self.assertIn("This is the last message for a day", self.taken()[-1].mail)
+
     def test_quiet_hours(self) -> None:
         self.receivers = [
             receiver(times=Times(time(7), 20, (time(21), time(7)))),

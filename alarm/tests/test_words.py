@@ -1,11 +1,13 @@
 """Shows the messages as people read them."""
 
 import json
+import os
 import unittest
+from datetime import datetime, timezone
 from email import message_from_string
 from email.policy import default
 
-from tests.played import BEGIN, AlarmCase, receiver
+from tests.played import BEGIN, TOP, AlarmCase, receiver
 from weighbridge_alarm.due import Due
 from weighbridge_alarm.handing import Message, mail_of
 from weighbridge_alarm.state import Known
@@ -105,7 +107,25 @@ class WordsTest(AlarmCase):
         self.assertEqual([one["state"] for one in it["faults"]], ["began", "lasts"])
         json.dumps(it)
 
+    def test_the_page_shows_what_is_sent(self) -> None:
+        with open(os.path.join(TOP, "docs", "operating.md"), encoding="utf-8") as file:
+            page = file.read()
+        new, old = known("weight"), known("papers")
+        new.since = datetime(2026, 11, 30, 5, 52, tzinfo=timezone.utc)
+        old.since = datetime(2026, 11, 29, 16, 10, tzinfo=timezone.utc)
+        due, now = Due([new], [old]), datetime(2026, 11, 30, 5, 55, tzinfo=timezone.utc)
+        self.assertIn(f"Subject: {subject('WB01', due)}\n\n{mail('WB01', due, now)}```", page)
+        self.assertIn(f"```text\n{sms('WB01', due, now)}\n```", page)
+
     def test_subjects(self) -> None:
+        old = known("papers")
+        old.since = BEGIN.replace(year=2025)
+        self.assertEqual(
+            subject("WB01", Due([known("zero")], [old])), "WB01: Zero isn't set (+1 more)"
+        )
+        self.assertTrue(sms("WB01", Due([known("zero")], [old]), BEGIN).startswith("WB01: Zero"))
+        self.assertIn(": No weight (+1", subject("WB01", Due([old], [known("weight")])))
+        self.assertIn("JOURNAL MAY", subject("WB01", Due([old, known("night_check")])))
         self.assertEqual(
             subject("WB01", Due([], [known("zero")])), "WB01: Still wrong: Zero isn't set"
         )

@@ -122,7 +122,7 @@ class CommandTest(AlarmCase):
         status, said = self.ran("list")
         self.assertEqual(status, 1)
         self.assertIn("Zero isn't set, since ", said)
-        self.assertIn("owner: knows it since ", said)
+        self.assertIn("owner: heard of it at ", said)
         self.assertIn("press F9", said)
 
     def test_the_list_of_an_alarm_that_stands_still(self) -> None:
@@ -145,6 +145,12 @@ class CommandTest(AlarmCase):
         status, said = self.ran("run", "--setup", self.setup_file())
         os.close(handle)
         self.assertEqual((status, "another look runs" in said), (1, True))
+
+    def test_a_run_as_another_user(self) -> None:
+        with mock.patch("os.geteuid", lambda: 12345):
+            status, said = self.ran("run", "--setup", self.setup_file())
+        self.assertEqual((status, "it is another user's" in said), (1, True))
+        self.assertEqual(os.listdir(self.folders[0]), [])
 
     def test_the_check(self) -> None:
         status, said = self.ran("--check", "--setup", self.setup_file())

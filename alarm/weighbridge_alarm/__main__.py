@@ -45,6 +45,9 @@ def hands_of(state: str) -> Hands:
 
 def run(setup: Setup, state: str) -> int:
     try:
+        if os.stat(state).st_uid != os.geteuid():
+            complain(f"{state}: it is another user's; run it by systemctl start weighbridge-alarm")
+            return 1
         handle = locked(state)
     except OSError as error:
         complain(f"{state}: {error.strerror}; run it by systemctl start weighbridge-alarm")
@@ -103,7 +106,7 @@ def lines_of(it: Known, state: State, now: datetime) -> list[str]:
         why = f", because it takes none: {mine.why}" if mine.fails else ""
         lines.append(
             f"  {name}: "
-            + (f"knows it since {when(at, now)}" if at else f"doesn't know it yet{why}")
+            + (f"heard of it at {when(at, now)}" if at else f"hasn't heard of it yet{why}")
         )
     return lines
 
@@ -142,7 +145,7 @@ def options() -> argparse.ArgumentParser:
         "act",
         nargs="?",
         choices=["run", "list", "test"],
-        help="run: one look, as the timer does it; list: what is wrong, since when, and which receivers know it;"
+        help="run: one look, as the timer does it; list: what is wrong, since when, and when each receiver heard of it;"
         " test: send a test message to each receiver",
     )
     it.add_argument("--check", action="store_true", help="list every mistake of the setup")

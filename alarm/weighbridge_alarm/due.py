@@ -7,7 +7,8 @@ reported before the receiver took the message, so after a kill in between the me
 from dataclasses import dataclass, field
 from datetime import datetime, time, timedelta
 
-from .faults import Fault
+from .catalogue import words_of
+from .faults import own_key
 from .state import Known, State, Told
 
 DAY = timedelta(hours=24)
@@ -64,15 +65,20 @@ def begin_day(mine: Told, now: datetime) -> None:
         mine.day, mine.sent = None, 0
 
 
+def is_urgent(it: Due) -> bool:
+    """Return True if a fault began that stops the weighing, or that can't wait for a day. Then a receiver gets messages past its bound, up to twice as many."""
+    return any(words_of(one.name).stops or words_of(one.name).loud for one in it.began)
+
+
 def due(state: State, name: str, times: Times, local: datetime) -> Due | None:
     """Return what this receiver must hear now. None if it is nothing."""
     mine = state.receivers[name]
-    own = Fault("receiver", name).key  # that it took no message is for the others
+    own = own_key(name)
     begun = {key: it for key, it in state.known.items() if it.is_begun and key != own}
     it = Due(
         [one for key, one in begun.items() if key not in mine.told],
         [one for key, one in begun.items() if key in mine.told],
-        [one for key, one in mine.owed.items() if key != own],
+        [*mine.owed.values()],
     )
     hour = last_daily(local, times.daily)
     is_daily = any(key in begun and hour - at >= RECENT for key, at in mine.told.items())
@@ -81,9 +87,10 @@ def due(state: State, name: str, times: Times, local: datetime) -> Due | None:
     if is_quiet(local, times.quiet) or is_waiting(mine, local):
         return None
     begin_day(mine, local)
-    if mine.sent >= times.most_a_day:
+    urgent_too = 2 * times.most_a_day
+    if mine.sent >= (urgent_too if is_urgent(it) else times.most_a_day):
         return None
-    if mine.sent == times.most_a_day - 1:
+    if mine.sent + 1 in (times.most_a_day, urgent_too):
         it.silent_until = (mine.day or local) + DAY
     return it
 

@@ -29,3 +29,8 @@ class Fault:
 def fault(name: str, about: object = "", detail: object = "") -> Fault:
     """Return a fault whose texts are one line each, and bounded."""
     return Fault(plain(name, MOST_ABOUT), plain(about, MOST_ABOUT), plain(detail, MOST_DETAIL))
+
+
+def own_key(receiver: str) -> str:
+    """Return the key of the fault that this receiver took no message. Only the others hear of it."""
+    return fault("receiver", receiver).key

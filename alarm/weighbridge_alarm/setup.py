@@ -222,6 +222,21 @@ def counter_of(it: Reader) -> str:
     return it.text("counter", ADDRESS, "the counter's address, or false without one", Setup.counter)
 
 
+def paths_of(it: Reader) -> tuple[tuple[str, ...], tuple[str, ...]]:
+    """Return the folders of the disks, and the certificates."""
+    disks, certificates = Setup.disks, Setup.certificates
+    if "disks" in it.table:
+        disks = texts(
+            it, "disks", re.compile(r"/[^\x00-\x1f]*"), "up to 10 folders, each as a path"
+        )
+    if "certificates" in it.table:
+        form = re.compile(rf"/[^\x00-\x1f]+|(?:{HOST.pattern}):\d{{1,5}}")
+        certificates = texts(
+            it, "certificates", form, 'up to 10 paths or hosts with a port, as "bridge.example:443"'
+        )
+    return disks, certificates
+
+
 def setup_of(text: str) -> Setup:
     """Return the setup in this text.
 
@@ -238,16 +253,7 @@ def setup_of(text: str) -> Setup:
     daily = hour(it, "daily", "07:00")
     after = it.whole("after_minutes", 60, "after how many minutes a fault is reported, 1 to 60", 3)
     least = it.whole("least_free_mb", 10**6, "how many MB must be free, 1 to 1000000", 1000)
-    disks, certificates = Setup.disks, Setup.certificates
-    if "disks" in table:
-        disks = texts(
-            it, "disks", re.compile(r"/[^\x00-\x1f]*"), "up to 10 folders, each as a path"
-        )
-    if "certificates" in table:
-        form = re.compile(rf"/[^\x00-\x1f]+|(?:{HOST.pattern}):\d{{1,5}}")
-        certificates = texts(
-            it, "certificates", form, 'up to 10 paths or hosts with a port, as "bridge.example:443"'
-        )
+    disks, certificates = paths_of(it)
     setup = Setup(
         bridge,
         receivers_of(table.get("to"), daily, faults),

@@ -11,7 +11,7 @@ from collections.abc import Set as AbstractSet
 from dataclasses import dataclass, replace
 from datetime import datetime, timedelta
 
-from .faults import Fault
+from .faults import Fault, own_key
 from .state import MOST_FAULTS, YEARS, Known, State, Told
 
 JUMP = timedelta(minutes=1)
@@ -131,9 +131,10 @@ def miss(state: State, key: str, now: datetime, seconds: float, after: float) ->
         known.counted += seconds
     if known.counted >= after:
         del state.known[key]
-        for it in state.receivers.values():
+        for name, it in state.receivers.items():
             it.told.pop(key, None)
             it.owed.pop(key, None)
-            it.owed[key] = replace(known)
+            if key != own_key(name):
+                it.owed[key] = replace(known)
             while len(it.owed) > MOST_FAULTS - 1:
                 del it.owed[next(iter(it.owed))]

@@ -5,7 +5,7 @@ import unicodedata
 from datetime import datetime
 from typing import Any
 
-from .catalogue import UNKNOWN, Words, words_of
+from .catalogue import UNKNOWN, words_of
 from .due import Due
 from .state import Known, shown
 
@@ -64,6 +64,11 @@ def parts_of(it: Due) -> tuple[list[Known], list[Known], list[Known]]:
     )
 
 
+def in_order(began: list[Known], lasts: list[Known]) -> list[Known]:
+    """Return those first that stop the weighing, and of the others those that began."""
+    return sorted(began + lasts, key=lambda it: not words_of(it.name).stops)
+
+
 def can_weigh(it: Due) -> bool:
     return not any(words_of(one.name).stops for one in it.began + it.lasts)
 
@@ -81,7 +86,7 @@ def subject(bridge: str, it: Due) -> str:
         what = f"Over: {short_of(ended[0])}" if ended else "nothing is wrong"
         more = len(ended) - 1
     else:
-        first = urgent_first(wrong)[0]
+        first = in_order(began, lasts)[0]
         what, more = short_of(first), len(wrong) - 1
         if not can_weigh(it) and first.name != "weighing":
             what = f"NO VEHICLE CAN BE WEIGHED: {what}"
@@ -90,26 +95,23 @@ def subject(bridge: str, it: Due) -> str:
     return f"{bridge}: {what}" + (f" (+{more} more)" if more > 0 else "")
 
 
-def lines_of(it: Known, now: datetime, is_told_todo: bool) -> list[str]:
-    words: Words = words_of(it.name)
+def lines_of(it: Known, now: datetime) -> list[str]:
+    words = words_of(it.name)
     about = it.about if it.about and it.about != it.name else ""
     name = f' The counter calls it "{it.name}".' if words is UNKNOWN else ""
     said = "; ".join(one for one in (about, it.detail) if one)
     lines = [f"* {words.what}{name}", f"  Since {when(it.since, now)}."]
     if said:
         lines.append(f"  Details: {said}")
-    if is_told_todo:
-        lines.append(f"  What to do: {words.todo}")
-        lines.append(f"  More: {DOCS}/{words.page}")
-    return lines
+    return [*lines, f"  What to do: {words.todo}", f"  More: {DOCS}/{words.page}"]
 
 
-def part(title: str, found: list[Known], now: datetime, is_told_todo: bool = True) -> list[str]:
+def part(title: str, found: list[Known], now: datetime) -> list[str]:
     if not found:
         return []
     lines = [title]
     for it in found:
-        lines += [*lines_of(it, now, is_told_todo), ""]
+        lines += [*lines_of(it, now), ""]
     return lines
 
 
@@ -136,7 +138,7 @@ def mail(bridge: str, it: Due, now: datetime) -> str:
     if it.silent_until is not None:
         lines += [
             "This is the last message for a day, because there were too many."
-            f" The next one comes after {when(it.silent_until, now)}.",
+            f" Until {when(it.silent_until, now)}, only faults that stop the weighing are reported.",
             "",
         ]
     lines.append("On the PC, weighbridge-alarm list shows what is wrong now.")
@@ -162,9 +164,10 @@ def sms(bridge: str, it: Due, now: datetime) -> str:
     """Return the message for an SMS: as many faults as fit, and how many are left out."""
     began, lasts, ended = parts_of(it)
     head = f"{bridge}:" if can_weigh(it) else f"{bridge}: NO WEIGHING."
-    pieces = [f"{short_of(one)} since {brief(one.since, now)}" for one in began + lasts]
-    if began + lasts:
-        pieces[0] += f": {words_of((began + lasts)[0].name).act}"
+    wrong = in_order(began, lasts)
+    pieces = [f"{short_of(one)} since {brief(one.since, now)}" for one in wrong]
+    if wrong:
+        pieces[0] += f": {words_of(wrong[0].name).act}"
     pieces += [f"Over: {short_of(one)}, {brief(one.until or now, now)}" for one in ended]
     tail = ""
     if it.silent_until is not None:
