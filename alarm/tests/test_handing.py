@@ -124,6 +124,7 @@ class WebTest(HandingCase):
         head, _, body = server.got[0].partition(b"\r\n\r\n")
         self.assertTrue(head.startswith(b"POST /send HTTP/1.1\r\n"), head)
         self.assertIn(f"Authorization: Bearer {SECRET}".encode(), head)
+        self.assertIn(b"User-Agent: weighbridge-alarm", head)
         self.assertEqual(json.loads(body), MESSAGE.hook)
 
     def test_an_sms_as_a_form_as_json_and_in_the_url(self) -> None:

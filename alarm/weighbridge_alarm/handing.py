@@ -106,8 +106,10 @@ class Hands:
     def send_web(
         self, to: Receiver, url: str, method: str, body: bytes | None, headers: dict[str, str]
     ) -> None:
+        # some gateways refuse a client without a name
+        named = {"User-Agent": "weighbridge-alarm", **headers}
         try:
-            answer = self.ask(url, WEB_SECONDS, method, body, headers)
+            answer = self.ask(url, WEB_SECONDS, method, body, named)
         except NoAnswer as why:
             raise NotTaken(f"the {to.kind} server: {plain(why, 120)}") from None
         if not 200 <= answer.status <= 299:
