@@ -1,4 +1,4 @@
-"""The two programs of docs/erp.md, over a bridge whose counter and service are killed and started again, and whose journal is restored from an older copy."""
+"""Shows the two programs of docs/erp.md over a bridge whose counter and service are killed and started again, and whose journal is restored from an older copy."""
 
 import os
 import re
@@ -78,7 +78,7 @@ def stored(bridge: Bridge) -> set[tuple[int, str]]:
 
 
 def the_table(bridge: Bridge) -> None:
-    """The script of the page that fetches a table."""
+    """Show the script of the page that fetches a table."""
     folder = f"{bridge.folder}/table"
     os.mkdir(folder)
     script = block_of("sh").replace("127.0.0.1:880", f"{HOST}:{bridge.office}")
@@ -97,7 +97,7 @@ def the_table(bridge: Bridge) -> None:
 
 
 def the_loop(bridge: Bridge) -> None:
-    """The program of the page that fetches each ticket once."""
+    """Show the program of the page that fetches each ticket once."""
     erp, ever = Erp(bridge), stored(bridge)
 
     def has(what: str, wanted: set[tuple[int, str]], seconds: float = 20) -> None:
