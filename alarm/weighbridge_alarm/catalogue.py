@@ -151,8 +151,9 @@ CATALOGUE = {
         "JOURNAL MAY BE DAMAGED",
         "weigh nobody, call for help",
         "The nightly check of the journal found something wrong.",
-        "Let nobody weigh, switch nothing off, and call the person who looks after this PC.",
-        "troubleshooting.md#a-damaged-journal",
+        "Let nobody weigh, and switch nothing off. Call the person who is responsible for the instrument."
+        " Nobody weighs again before that person and the inspector agree.",
+        "troubleshooting.md#messages-of-the-night",
         loud=True,
     ),
     "night_step": Words(

@@ -138,7 +138,7 @@ def mail(bridge: str, it: Due, now: datetime) -> str:
     if it.silent_until is not None:
         lines += [
             "This is the last message for a day, because there were too many."
-            f" Until {when(it.silent_until, now)}, only faults that stop the weighing are reported.",
+            f" Until {when(it.silent_until, now)}, only new faults that stop the weighing or can't wait are reported.",
             "",
         ]
     lines.append("On the PC, weighbridge-alarm list shows what is wrong now.")
