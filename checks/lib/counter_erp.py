@@ -9,7 +9,8 @@ import subprocess
 import sys
 from collections.abc import Callable
 
-from countering import HOST, TOP, Bridge, becomes, holds, same
+from bridge import HOST
+from countering import TOP, Bridge, becomes, holds, same
 
 TARE, LOAD = 5000, 9170
 # With the bridge empty, the counter asks for an export some seconds later.
@@ -65,7 +66,7 @@ def single(bridge: Bridge, plate: str) -> None:
 
 
 def pair(bridge: Bridge, plate: str) -> None:
-    """Weigh a vehicle in and out at the office itself, of which the counter isn't told."""
+    """Weigh a vehicle in and out at the office itself, so that the counter doesn't see it."""
     for kind, load in (("first", LOAD), ("second", LOAD // 2)):
         bridge.next_vehicle(load)
         status, text = bridge.weigh(f"erp-{plate}-{kind}", kind, plate, port=bridge.office)
@@ -89,11 +90,16 @@ def the_table(bridge: Bridge) -> None:
             return [it.split(",")[0] for it in file.read().splitlines()]
 
     same("the first table has each ticket", ["ticket", "1", "2"], run())
-    same("the same table adds none", [], run())
+    same("the same table adds none", ["ticket"], run())
     single(bridge, "TABLE-3")
-    same("a later table adds the new ticket", ["3"], run())
+    same("a later table adds the new ticket", ["ticket", "3"], run())
     with open(f"{folder}/known.csv") as file:
-        same("each ticket is known once", 4, len(file.read().splitlines()))
+        same("each ticket is known once", 3, len(file.read().splitlines()))
+    failing = script.replace(": import", "false import")
+    single(bridge, "TABLE-4")
+    it = subprocess.run(["sh", "-c", failing], cwd=folder, check=False)
+    holds("a failed import has a status", it.returncode != 0)
+    same("its ticket comes again", ["ticket", "4"], run())
 
 
 def the_loop(bridge: Bridge) -> None:
