@@ -156,6 +156,7 @@ class Ports(unittest.IsolatedAsyncioTestCase):
             with self.subTest(is_lenient=is_lenient):
                 self.assertEqual(wanted, await asyncio.wait_for(first, 1))
             writer.close()
+            await writer.wait_closed()
             server.close()
 
     async def test_what_may_only_read_changes_nothing(self):
