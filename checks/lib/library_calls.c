@@ -125,6 +125,8 @@ static void nulls(void) {
     IS(weighbridge_terminal_hang_up(none), WEIGHBRIDGE_TERMINAL_NO_TERMINAL);
     IS(weighbridge_terminal_indicate(none, &shown), WEIGHBRIDGE_TERMINAL_NO_TERMINAL);
     IS(weighbridge_terminal_bytes(none, (const uint8_t *)"SI\n", 3), 0);
+    IS(weighbridge_terminal_take(none, (const uint8_t *)"SI\n", 3) == WEIGHBRIDGE_TERMINAL_NO_COUNT, 1);
+    IS(weighbridge_terminal_take(none, (const uint8_t *)"", 0) == WEIGHBRIDGE_TERMINAL_NO_COUNT, 1);
     IS(weighbridge_terminal_replies(none), 0);
     IS(weighbridge_terminal_reply(none, 0, buffer, sizeof buffer), 0);
     IS(shown.state, 77);
@@ -171,6 +173,11 @@ static void bytes(void) {
     IS(weighbridge_terminal_replies(terminal), 1);
     IS(weighbridge_terminal_bytes(terminal, (const uint8_t *)text, 3), 3);
     IS(weighbridge_terminal_replies(terminal), 0);
+    IS(weighbridge_terminal_take(terminal, (const uint8_t *)"", 0), 0);
+    IS(weighbridge_terminal_take(terminal, (const uint8_t *)text + 4, 7), 3);
+    IS(weighbridge_terminal_replies(terminal), 10);
+    IS(weighbridge_terminal_take(terminal, (const uint8_t *)text + 7, 4), 4);
+    IS(weighbridge_terminal_replies(terminal), 1);
     for (const char *byte = text + 3; byte < text + 7; byte++) {
         IS(weighbridge_terminal_byte(terminal, (uint8_t)*byte), 0);
     }
@@ -258,6 +265,7 @@ int main(int argc, char **argv) {
     IS(weighbridge_terminal_size() % weighbridge_terminal_alignment(), 0);
     IS(weighbridge_terminal_size(), WEIGHBRIDGE_TERMINAL_SIZE);
     IS(weighbridge_terminal_alignment(), WEIGHBRIDGE_TERMINAL_ALIGNMENT);
+    IS(weighbridge_terminal_setup_size(), sizeof(weighbridge_terminal_setup));
     reserved();
     setups();
     nulls();

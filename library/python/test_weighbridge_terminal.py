@@ -2,6 +2,7 @@
 
 import copy
 import ctypes
+import dataclasses
 import doctest
 import pickle
 import unittest
@@ -147,6 +148,20 @@ class Setups(unittest.TestCase):
             Terminal(Setup(serial="A1B2C3D4E5F6G7H8")).send("I4\n"), ['I4 A "A1B2C3D4E5F6G7H8"']
         )
 
+    def test_refuses_a_setup_as_soon_as_it_is_made(self):
+        for parts, name in (
+            ({"max_kg": 60001}, "max_kg"),
+            ({"serial": "wb01"}, "serial"),
+            ({"interval_kg": -1}, "interval_kg"),
+            ({"pace": 1, "serial": ""}, "pace"),
+        ):
+            with self.assertRaises(SetupError) as caught:
+                Setup(**parts)
+            self.assertEqual(caught.exception.part.name, name)
+        with self.assertRaises(SetupError):
+            dataclasses.replace(Setup(), window=65)
+        self.assertEqual(dataclasses.replace(Setup(), window=64).window, 64)
+
     def test_takes_either_a_setup_or_parts(self):
         with self.assertRaises(TypeError):
             Terminal(Setup(), window=5)
@@ -185,6 +200,16 @@ class Objects(unittest.TestCase):
         for attempt in (copy.copy, copy.deepcopy, pickle.dumps):
             with self.assertRaises(TypeError):
                 attempt(Terminal())
+
+    def test_shows_its_setup_and_its_indication(self):
+        terminal = Terminal(interval_kg=10, max_kg=40000, serial="A1")
+        self.assertEqual(repr(terminal), "<Terminal A1, e 10 kg, Max 40000 kg: NO LOAD>")
+        terminal.reading(500)
+        self.assertEqual(
+            repr(terminal),
+            "<Terminal A1, e 10 kg, Max 40000 kg: MOVING, gross 500 kg, net 500 kg>",
+        )
+        self.assertEqual(terminal.send("SI\n"), ["S D        500 kg"])
 
     def test_tells_its_version(self):
         self.assertEqual(weighbridge_terminal.VERSION, weighbridge_terminal.__version__)

@@ -60,6 +60,11 @@ abbrev pub taken_at : Ptr → Setup → List TerminalEvent → List ℕ → ℕ
 taken_at (block_ptr b o) s h bytes = until_reply s h bytes
 taken_at null_ptr s h bytes = 0
 
+-- how many of these bytes are taken; at null the greatest number of 64 bits, which no slice has as its length
+abbrev pub count_at : Ptr → Setup → List TerminalEvent → List ℕ → ℕ
+count_at (block_ptr b o) s h bytes = until_reply s h bytes
+count_at null_ptr s h bytes = 18446744073709551615
+
 -- what is indicated; at null what was there stays
 abbrev pub indication_at : Ptr → Setup → List TerminalEvent → Indication → Indication
 indication_at (block_ptr b o) s h before = indication_after s h

@@ -9,8 +9,9 @@ ghost use Rattle.wb_sics.specs.Event.{TerminalEvent, byte as byte_event, hang_up
 ghost use Rattle.wb_terminal_c.specs.Copied.{copied};
 ghost use Rattle.wb_terminal_c.specs.Heard.{heard_after};
 ghost use Rattle.wb_terminal_c.specs.Passed.{setup_passed};
-ghost use Rattle.wb_terminal_c.specs.Placed.{IsOpened, answer_at, indication_at, opened_at, replies_at, room_for_terminal, taken_at, terminal_at, type_alignment};
+ghost use Rattle.wb_terminal_c.specs.Placed.{IsOpened, answer_at, count_at, indication_at, opened_at, replies_at, room_for_terminal, taken_at, terminal_at, type_alignment};
 ghost use Rattle.wb_terminal_c.specs.contracts.handle.Handle.{the_row as handle_row};
+ghost use Rattle.wb_terminal_c.specs.contracts.setup.Setup.{the_row as setup_row};
 ghost use Rattle.wb_window.specs.Reading.{reading_of};
 ghost use denote.RawPtr.{Testable};
 
@@ -22,6 +23,9 @@ use crate::setup::Setup;
 
 /// What is answered at null.
 const NO_TERMINAL: u32 = 10;
+
+/// The count that `weighbridge_terminal_take` returns at null. No slice has as many bytes.
+const NO_COUNT: usize = 18_446_744_073_709_551_615;
 
 /// The version of what C calls: 10,000 for the first place, 100 for the second, 1 for the third.
 const VERSION: u32 = 20_101;
@@ -48,6 +52,14 @@ pub extern "C" fn weighbridge_terminal_alignment() -> usize
     ensures { result ≡ type_alignment handle_row }
 {
     align_of::<Handle>()
+}
+
+/// Returns the size of a setup in bytes, as this library was built with it, so that a caller can compare its own declaration.
+#[unsafe(no_mangle)]
+pub extern "C" fn weighbridge_terminal_setup_size() -> usize
+    ensures { result ≡ type_size setup_row }
+{
+    size_of::<Setup>()
 }
 
 /// Takes a reading of the load converter, in tenths of e; any load out of its range is a lost reading. Answers 0, or 10 at null.
@@ -117,6 +129,21 @@ pub unsafe extern "C" fn weighbridge_terminal_bytes(handle: *mut u8, bytes: &[u8
 {
     if handle.is_null() {
         return 0;
+    }
+    hear_all(&mut *(handle as *mut Handle), bytes)
+}
+
+/// Processes bytes as `weighbridge_terminal_bytes` does, and returns how many it took. At null it returns `NO_COUNT`, so that "no
+/// terminal" is no count of bytes.
+#[unsafe(no_mangle)]
+pub unsafe extern "C" fn weighbridge_terminal_take(handle: *mut u8, bytes: &[u8]) -> usize
+    ghost g: { InstrumentSetup × List TerminalEvent }
+    requires* { ⌜ Testable handle ⌝ ∗ sem 𝓛 (if_non_null handle (terminal_at g.0 g.1 handle)) }
+    ensures* { sem 𝓛 (if_non_null handle (terminal_at g.0 (heard_after (take result bytes.now) g.1) handle))
+        ∗ ⌜ result ≡ count_at handle g.0 g.1 bytes.now ⌝ }
+{
+    if handle.is_null() {
+        return NO_COUNT;
     }
     hear_all(&mut *(handle as *mut Handle), bytes)
 }

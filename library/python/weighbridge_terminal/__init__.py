@@ -9,9 +9,9 @@
     >>> terminal.indication()
     Indication(state=<State.STABLE: 'STABLE'>, gross_kg=18340, net_kg=18340)
 
-What a terminal answers is proved for every history of calls; docs/library.md says what. A value of another type is a TypeError, and a setup outside its
-limits a SetupError, which is a ValueError. No call takes longer than some microseconds, and each keeps the interpreter's lock; one terminal may be
-used by one thread at a time.
+A prover checks what a terminal replies, for every history of calls; docs/library.md says what that means. A value of another type raises TypeError. A setup
+outside its limits raises SetupError, which is a ValueError, as soon as it is made. A call takes some microseconds and keeps the interpreter's lock. Use a
+terminal in one thread at a time.
 """
 
 from __future__ import annotations
@@ -35,12 +35,12 @@ __all__ = [
 ]
 __version__ = "2.1.1"
 
-# The library's file, which changes its number only if this module has to change with it.
+# The library's file. Its number changes only if this module has to change with it.
 FILE = "libweighbridge-terminal.so.2"
 LOST = 2**63 - 1
 REPLY_BYTES = 32
 SERIAL_BYTES = 20
-# The bytes that are handed in by one call at most, since other threads wait meanwhile.
+# Maximum number of bytes that one call passes, because other threads wait meanwhile.
 BYTES_A_CALL = 65_536
 
 
@@ -60,7 +60,7 @@ class _CIndication(ctypes.Structure):
 
 
 def _path() -> str:
-    """The library that a variable names, or that lies beside this module, or else the system's."""
+    """Return the library that the variable names, the one next to this module, or the system's."""
     beside = os.path.join(os.path.dirname(os.path.abspath(__file__)), FILE)
     return os.environ.get("WEIGHBRIDGE_TERMINAL_LIBRARY") or (
         beside if os.path.exists(beside) else FILE
@@ -68,7 +68,7 @@ def _path() -> str:
 
 
 def _load(path: str) -> ctypes.PyDLL:
-    """The library, each function with its types: without them a pointer would be passed as an int of 32 bits."""
+    """Load the library, and give each function its types, because a pointer would be passed as an int of 32 bits without them."""
     try:
         library = ctypes.PyDLL(path)
     except OSError as fault:
@@ -79,6 +79,7 @@ def _load(path: str) -> ctypes.PyDLL:
         "version": (ctypes.c_uint32, []),
         "size": (ctypes.c_size_t, []),
         "alignment": (ctypes.c_size_t, []),
+        "setup_size": (ctypes.c_size_t, []),
         "open": (ctypes.c_uint32, [ctypes.c_void_p, ctypes.POINTER(_CSetup)]),
         "reading": (ctypes.c_uint32, [ctypes.c_void_p, ctypes.c_int64]),
         "byte": (ctypes.c_uint32, [ctypes.c_void_p, ctypes.c_uint8]),
@@ -92,8 +93,17 @@ def _load(path: str) -> ctypes.PyDLL:
         "indicate": (ctypes.c_uint32, [ctypes.c_void_p, ctypes.POINTER(_CIndication)]),
     }
     for name, (result, arguments) in types.items():
-        function = getattr(library, "weighbridge_terminal_" + name)
+        try:
+            function = getattr(library, "weighbridge_terminal_" + name)
+        except AttributeError:
+            raise ImportError(
+                f"{path}: it has no call weighbridge_terminal_{name}, because it is older than version {__version__}; install the same version of both"
+            ) from None
         function.restype, function.argtypes = result, arguments
+    if library.weighbridge_terminal_setup_size() != ctypes.sizeof(_CSetup):
+        raise ImportError(
+            f"{path}: its setup has another size than this module's; install the same version of both"
+        )
     return library
 
 
@@ -126,7 +136,7 @@ STATES = tuple(State)
 
 
 class Part(NamedTuple):
-    """A part of a setup: its number, its name, and what is allowed."""
+    """A part of a setup: its number, its name, and its limits."""
 
     number: int
     name: str
@@ -153,16 +163,16 @@ class SetupError(ValueError):
 
 
 def _whole(name: str, value: Any) -> int:
-    """The value as a whole number, as Python's own calls take one."""
+    """Return `value` as an int, by the same rule as Python's own calls."""
     try:
         return operator.index(value)
     except TypeError:
-        raise TypeError(f"{name} is to be an int, and is {type(value).__name__}") from None
+        raise TypeError(f"{name} must be an int, and is {type(value).__name__}") from None
 
 
 @dataclasses.dataclass(frozen=True)
 class Setup:
-    """What is stated of an instrument."""
+    """The parts of an instrument. A part outside its limits is refused when the setup is made."""
 
     interval_kg: int = 20
     """The verification scale interval e, in kilograms: 1, 2, 5, 10, 20 or 50."""
@@ -180,20 +190,39 @@ class Setup:
     """1 to 16 characters of A-Z and 0-9."""
 
     def __post_init__(self) -> None:
+        """Refuse a part of another type by TypeError, and the first part that is outside its limits by SetupError."""
         for part in PARTS[:-1]:
             object.__setattr__(self, part.name, _whole(part.name, getattr(self, part.name)))
         if not isinstance(self.serial, str):
-            raise TypeError(f"serial is to be a str, and is {type(self.serial).__name__}")
+            raise TypeError(f"serial must be a str, and is {type(self.serial).__name__}")
+        # The library decides what a setup is, so a terminal of it is opened, and dropped.
+        _Memory().open(self)
 
     def _as_c(self) -> _CSetup:
         for part in PARTS[:-1]:
             if not 0 <= getattr(self, part.name) < 2**32:
                 raise SetupError(part)
         serial = self.serial.encode("ascii", "replace")
-        # What is too long for its place is no serial, and neither is what has a 0 in it.
+        # A text that is too long for its place is no serial, and a text with a 0 in it isn't either.
         fits = len(serial) < SERIAL_BYTES and b"\0" not in serial
         numbers = [getattr(self, part.name) for part in PARTS[:-1]]
         return _CSetup(*numbers, serial if fits else b"")
+
+
+class _Memory:
+    """Memory for one terminal, which is there as long as this object is."""
+
+    def __init__(self) -> None:
+        size, step = _library.weighbridge_terminal_size(), _library.weighbridge_terminal_alignment()
+        self._bytes = ctypes.create_string_buffer(size + step - 1)
+        # The terminal lies at the first address in it that is aligned.
+        self.at = -(-ctypes.addressof(self._bytes) // step) * step
+
+    def open(self, setup: Setup) -> None:
+        """Open a terminal of `setup`. Raise SetupError if a part is outside its limits."""
+        answer = _library.weighbridge_terminal_open(self.at, setup._as_c())
+        if answer:
+            raise SetupError(PARTS[answer - 1])
 
 
 class Indication(NamedTuple):
@@ -201,9 +230,9 @@ class Indication(NamedTuple):
 
     state: State
     gross_kg: Optional[int]
-    """Gross in kilograms; none but in the last two states."""
+    """Gross in kilograms. None unless the state is MOVING or STABLE."""
     net_kg: Optional[int]
-    """Net in kilograms; none but in the last two states."""
+    """Net in kilograms. None unless the state is MOVING or STABLE."""
 
     @property
     def is_stable(self) -> bool:
@@ -225,23 +254,25 @@ class Terminal:
         wait: Optional[int] = None,
         serial: Optional[str] = None,
     ) -> None:
-        """Opens a terminal of a setup, or of these parts of one. Raises SetupError if one is outside its limits."""
+        """Open a terminal of `setup`, or of these parts of one. Raise SetupError if a part is outside its limits."""
         values = (interval_kg, max_kg, window, band, pace, wait, serial)
         parts = {part.name: value for part, value in zip(PARTS, values) if value is not None}
         if setup is not None and parts:
-            raise TypeError("either a setup or its parts")
+            raise TypeError("a terminal takes a setup or its parts, not both")
         if not isinstance(setup, (Setup, type(None))):
-            raise TypeError(f"setup is to be a Setup, and is {type(setup).__name__}")
+            raise TypeError(f"setup must be a Setup, and is {type(setup).__name__}")
         self.setup: Setup = setup or dataclasses.replace(Setup(), **parts)
-        room, step = _library.weighbridge_terminal_size(), _library.weighbridge_terminal_alignment()
-        # The memory is this object's as long as it lives; the terminal lies at the first place in it that is aligned.
-        self._memory = ctypes.create_string_buffer(room + step - 1)
-        self._at = -(-ctypes.addressof(self._memory) // step) * step
+        self._memory = _Memory()
+        self._memory.open(self.setup)
+        self._at = self._memory.at
         self._text = ctypes.create_string_buffer(REPLY_BYTES)
         self._shown = _CIndication()
-        answer = _library.weighbridge_terminal_open(self._at, self.setup._as_c())
-        if answer:
-            raise SetupError(PARTS[answer - 1])
+
+    def __repr__(self) -> str:
+        """Return serial, e, Max and what is indicated now."""
+        state, gross, net = self.indication()
+        weights = "" if gross is None else f", gross {gross} kg, net {net} kg"
+        return f"<Terminal {self.setup.serial}, e {self.setup.interval_kg} kg, Max {self.setup.max_kg} kg: {state}{weights}>"
 
     def __copy__(self) -> "Terminal":
         raise TypeError("a terminal can't be copied")
@@ -253,8 +284,8 @@ class Terminal:
         raise TypeError("a terminal can't be stored")
 
     def reading(self, tenths: Optional[int]) -> list[str]:
-        """Takes a reading of the load converter, in tenths of e from -2,000,000 to 2,000,000; None is a reading that failed, and so is any
-        other number. Returns the replies at it, without their CR LF."""
+        """Process a reading of the load converter, in tenths of e from -2,000,000 to 2,000,000, and return its replies without CR LF. None and any
+        other number are a lost reading."""
         load = LOST if tenths is None else _whole("a reading", tenths)
         _library.weighbridge_terminal_reading(
             self._at, load if -(2**63) <= load < 2**63 else LOST
@@ -262,14 +293,14 @@ class Terminal:
         return self._replies()
 
     def lost(self) -> list[str]:
-        """Takes a reading that failed. Returns the replies at it."""
+        """Process a lost reading, and return its replies."""
         return self.reading(None)
 
     def send(self, text: Union[str, bytes, bytearray, memoryview]) -> list[str]:
-        """Takes bytes of the terminal's stream, in any pieces; a line ends with an LF, or with CR LF. Returns the replies in their order,
-        without their CR LF."""
+        """Process bytes of the terminal's stream, in any pieces, and return the replies in their order, without CR LF. A line ends with LF or
+        CR LF."""
         if not isinstance(text, (str, bytes, bytearray, memoryview)):
-            raise TypeError(f"a text is to be a str or bytes, and is {type(text).__name__}")
+            raise TypeError(f"a text must be a str or bytes, and is {type(text).__name__}")
         data = text.encode() if isinstance(text, str) else bytes(text)
         held = ctypes.create_string_buffer(data, len(data) + 1)
         replies: list[str] = []
@@ -282,11 +313,11 @@ class Terminal:
         return replies
 
     def hang_up(self) -> None:
-        """The connection ended: the unfinished line, a command that waits and the repetition are dropped. Zero and tare stay."""
+        """Process the end of the connection: drop the unfinished line, a waiting command and the repetition. Zero and tare stay."""
         _library.weighbridge_terminal_hang_up(self._at)
 
     def indication(self) -> Indication:
-        """What is indicated of the last reading."""
+        """Return what is indicated at the last reading."""
         _library.weighbridge_terminal_indicate(self._at, self._shown)
         state = STATES[self._shown.state]
         if state in (State.MOVING, State.STABLE):
