@@ -1,5 +1,6 @@
 //! Why a journal's files can't be read or written. A second look at them finds it, which writes no byte of them.
 use crate::copies::HEAD;
+use crate::form::cause_of_form;
 use crate::log_look::{LOG, is_locked};
 use crate::witness::ENDING;
 use std::fmt::Display;
@@ -26,6 +27,12 @@ pub enum FileCause {
     /// Another program has the database open, and keeps others from it.
     Held,
     NoDatabase,
+    /// Texts in UTF-16.
+    TextEncoding,
+    /// Pages that an automatic vacuum keeps.
+    AutoVacuum,
+    /// A table with a column that has a default.
+    ColumnDefault,
     /// The folder of a file that isn't there isn't there either.
     NoFolder,
     /// This user may make no file in the folder.
@@ -53,6 +60,12 @@ impl Display for FileCause {
                 "it can't be opened, because another program holds it; stop that program, or ask the office of the running service",
             FileCause::NoDatabase =>
                 "it can't be read, because it is no database; check the path, and keep the file",
+            FileCause::TextEncoding =>
+                "it can't be read, because another program wrote its texts in UTF-16, and a journal has UTF-8; keep it, and restore a backup",
+            FileCause::AutoVacuum =>
+                "it can't be read, because another program set auto_vacuum in it; keep it, and restore a backup",
+            FileCause::ColumnDefault =>
+                "it can't be read, because another program gave a column a DEFAULT; keep it, and restore a backup",
             FileCause::NoFolder =>
                 "it can't be made, because its folder isn't there; check the path, or make the folder",
             FileCause::ClosedFolder =>
@@ -89,7 +102,11 @@ pub fn cause_of_reading(rt: &HostRuntime, path: &str) -> Option<Finding> {
         let cause = FileCause::NoDatabase;
         return Some(Finding { ending, cause });
     }
-    cause_of_reading_log(rt, path)
+    if let Some(finding) = cause_of_reading_log(rt, path) {
+        return Some(finding);
+    }
+    let cause = cause_of_form(&file)?;
+    Some(Finding { ending, cause })
 }
 
 fn cause_of_reading_log(rt: &HostRuntime, path: &str) -> Option<Finding> {
