@@ -97,6 +97,7 @@ class PlayedPrograms:
         self.versions = VERSIONS
         self.active: set[str] = set()
         self.enabled: set[str] = set()
+        self.stopped = "inactive"  # what systemd says of a unit that doesn't run
         self.broken: set[str] = set()  # units that don't start
         self.check = ""  # what a check prints in place of the truth
         self.ran: list[str] = []
@@ -131,7 +132,7 @@ class PlayedPrograms:
 
     def systemctl(self, words: list[str]) -> Ran:
         if words[0] == "is-active":
-            states = ["active" if it in self.active else "inactive" for it in words[1:]]
+            states = ["active" if it in self.active else self.stopped for it in words[1:]]
             return Ran(0, "\n".join(states) + "\n", "")
         if words[0] == "enable":
             for it in words[2:]:
@@ -146,7 +147,7 @@ class PlayedPrograms:
         return Ran(0, "", "")
 
     def started(self, unit: str) -> None:
-        """A start of the service makes an empty journal, and refuses one that lacks what `-newest` names."""
+        """Start the service. It makes an empty journal, and refuses one that lacks what `-newest` names."""
         if unit != "weighbridge":
             return
         self.starts += 1

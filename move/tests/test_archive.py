@@ -92,6 +92,7 @@ class ArchiveTest(MoveCase):
             "[Service]\nUser=root\n",
             "[Service]\nEnvironment=LD_PRELOAD=/tmp/x.so\n",
             "[Service]\nDeviceAllow=char-ttyS0\\\nExecStart=/bin/sh\n",
+            "[Service]\nDeviceAllow=a\\\nDeviceAllow=b\n",
             "[Install]\n",
             "[Service]\nPrivateDevices\n",
         ):

@@ -3,6 +3,7 @@
 import os
 import tomllib
 import unittest
+from unittest import mock
 
 from tests.played import MoveCase
 
@@ -153,6 +154,17 @@ class BeginTest(MoveCase):
         with open(os.path.join(kept, "journal.db"), "rb") as file:
             self.assertEqual(file.read(), b"other")
         self.assertEqual(self.programs.starts, 0)
+
+    def test_a_disk_that_loses_bytes(self) -> None:
+        def lose(old: str, new: str) -> None:
+            self.write(new, b"lost")
+
+        with mock.patch("weighbridge_move.moving.copy_synced", lose):
+            self.assertEqual(self.move(COMMAND), 1)
+            self.assertIn("it doesn't fit its checksum", self.faults)
+            self.assertEqual(self.programs.starts, 0)
+        self.assertNotIn(os.path.basename(self.copy), os.listdir(self.at("srv/kept")))
+        self.assertEqual(self.move(COMMAND), 0, self.faults)
 
     def test_a_second_move_needs_another_serial(self) -> None:
         self.assertEqual(self.move(COMMAND), 0, self.faults)

@@ -151,6 +151,11 @@ class ContinueTest(MoveCase):
             self.programs.active = {unit}
             self.refused(COMMAND, f"{unit}: it runs on this machine")
 
+    def test_units_that_could_not_start_before_the_setup(self) -> None:
+        self.programs.stopped = "failed"
+        self.assertEqual(self.move(COMMAND), 0, self.faults)
+        self.assertEqual(self.programs.starts, 1)
+
     def test_versions_that_differ_only_if_told(self) -> None:
         self.programs.versions = "weighbridge\t2.1.2\nweighbridge-counter\t2.1.1\n"
         self.refused(COMMAND, "weighbridge: the lost machine had 2.1.1, and this one has 2.1.2")
@@ -187,6 +192,18 @@ class ContinueTest(MoveCase):
             self.assertEqual(self.move(COMMAND), 1)
         self.assertIn("it has 6 entries, and the copy 7", self.faults)
         self.assertEqual(self.programs.starts, 0)
+
+    def test_a_disk_that_loses_bytes(self) -> None:
+        def lose(old: str, new: str) -> None:
+            self.write(new, b"lost")
+
+        with mock.patch("weighbridge_move.moving.copy_synced", lose):
+            self.assertEqual(self.move(COMMAND), 1)
+        self.assertIn("it doesn't fit its checksum", self.faults)
+        names = os.listdir(self.at("var/lib/weighbridge"))
+        self.assertEqual([it for it in names if not it.startswith(".move-")], [])
+        self.assertEqual(self.programs.starts, 0)
+        self.assertEqual(self.move(COMMAND), 0, self.faults)
 
     def test_a_service_that_does_not_start(self) -> None:
         self.programs.broken = {"weighbridge"}

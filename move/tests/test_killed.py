@@ -104,7 +104,7 @@ class KilledTest(MoveCase):
 
 
 class BegunTest(KilledTest):
-    """The same for a new journal. In place of the copy's files it has none until the start."""
+    """Kills of `begin`. No journal is in place until the start."""
 
     test_a_copy_that_continues = None  # type: ignore[assignment]
     test_each_file_of_the_journal_has_its_owner_before_its_name = None  # type: ignore[assignment]
@@ -136,7 +136,7 @@ class BegunTest(KilledTest):
 
 
 class MeanwhileTest(MoveCase):
-    """What somebody does between a kill and the next try."""
+    """Somebody acts between a kill and the next try."""
 
     def stopped_at(self, line: str, unit: str) -> None:
         self.programs.broken = {unit}
@@ -164,6 +164,20 @@ class MeanwhileTest(MoveCase):
         self.assertIn("journal.db: it isn't the copy's, so somebody started", self.faults)
         with open(self.at(JOURNAL), "rb") as file2:
             self.assertEqual(file2.read(), used)
+
+    def test_somebody_started_the_service_before_the_journal_is_in_place(self) -> None:
+        line = "continue DISK --last 124 --nothing-later"
+
+        def stop(*words: object) -> None:
+            raise OSError(28, "No space left on device")
+
+        with unittest.mock.patch("weighbridge_move.moving.copy_synced", stop):
+            self.assertEqual(self.move(line), 1)
+        self.programs.active.add("weighbridge")
+        self.assertEqual(self.move(line), 1)
+        self.assertIn("journal: weighbridge: it runs; run `systemctl disable", self.faults)
+        self.programs.active.clear()
+        self.assertEqual(self.move(line), 0, self.faults)
 
     def test_somebody_started_the_service_before_the_new_serial_was_in_place(self) -> None:
         line = "begin DISK --serial WB01B"

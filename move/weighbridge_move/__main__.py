@@ -215,7 +215,7 @@ def words_of(given: list[str] | None) -> Asked:
         action="append",
         default=[],
         choices=[deciding.VERSIONS, deciding.INSTRUMENT],
-        help="go on although the versions, or serial, e and Max of setup and copy, differ",
+        help="continue although the versions, or serial, e and Max of setup and copy, differ",
     )
     options.add_argument(
         "--keep",

@@ -16,7 +16,7 @@ MOST_BYTES = 64 << 20  # of an archive
 MOST_MEMBERS = 500
 MOST_FILE = 16 << 20
 VERSIONS = "var/backups/weighbridge/version.txt"
-# What an older archive, or one that was made by hand, may have, and what isn't put back: the counter makes it again from the journal.
+# An archive that was made by hand may have these. They aren't put back, because the counter makes them again from the journal.
 LEFT = {"var/lib/weighbridge-counter/journal.json"}
 ROOT = "root"
 NAME = r"[A-Za-z0-9][A-Za-z0-9._@-]{0,63}"
@@ -25,7 +25,7 @@ HAND = "leave it out by --without PATH, and put it in place by hand"
 
 @dataclass(frozen=True)
 class Rule:
-    """Who owns the files whose path has this form."""
+    """The owner and mode of files whose path has this form."""
 
     form: re.Pattern[str]
     user: str
@@ -68,7 +68,7 @@ RULES = [
     ),
 ]
 DROP_IN = re.compile(r"etc/systemd/system/")
-# What drop-ins of the pages change. None of these keys starts a program or changes its user.
+# The keys that drop-ins of the pages have. None of them starts a program or changes its user.
 KEYS = {
     "DeviceAllow",
     "DevicePolicy",
@@ -145,7 +145,7 @@ def versions_of(text: str) -> dict[str, str]:
 def wrong_in_drop_in(text: str) -> str | None:
     """Return the first line of a drop-in that this program doesn't put back."""
     if "\\\n" in text:
-        return "a line that goes on in the next one"
+        return "a line that continues in the next one"
     for line in text.splitlines():
         it = line.strip()
         if not it or it.startswith(("#", ";")) or it in SECTIONS:

@@ -17,7 +17,7 @@ CHECKING = 600.0  # seconds
 SOUND_LINE = re.compile(r"SOUND (\d{1,10})")
 SUM = re.compile(r"([0-9a-f]{64})  ([A-Za-z0-9._-]{1,64})")
 JOURNAL = "journal.db"
-# The files of a journal, in the order in which they go in place: with the first one alone, or with the first two, a start refuses a journal that lacks entries.
+# The files of a journal, in the order in which they go in place. While the last ones are missing, a start refuses a journal that lacks the entry of `-newest`.
 ENDINGS = ("-newest", "-zero", "", "-wal")
 NEEDED = {f"{JOURNAL}", f"{JOURNAL}-wal", f"{JOURNAL}-newest"}
 KNOWN = NEEDED | {f"{JOURNAL}-zero", "journal.csv", "tickets.csv"}

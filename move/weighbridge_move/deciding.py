@@ -33,7 +33,7 @@ DEMO = "DEMO"
 
 @dataclass(frozen=True)
 class Asked:
-    """What the operator asked for."""
+    """The words of the operator."""
 
     command: str
     folder: str
@@ -49,7 +49,7 @@ class Asked:
 
 @dataclass
 class Seen:
-    """What was found on the disk and on this machine."""
+    """The findings on the disk and on this machine."""
 
     now: datetime
     is_root: bool
@@ -100,7 +100,7 @@ def next_serial(seen: Seen) -> str:
 
 
 def wrong_words(asked: Asked) -> list[str]:
-    """Return each mistake of the arguments alone."""
+    """Return each mistake that the arguments show without the disk."""
     found = []
     if asked.last is not None and not 0 <= asked.last <= MOST_NUMBER:
         found.append(f"--last {asked.last}: a number is 0 to {MOST_NUMBER}; give the greatest one")

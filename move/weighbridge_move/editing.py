@@ -24,7 +24,7 @@ class NoEdit(Exception):
 
 @dataclass(frozen=True)
 class Plate:
-    """What a setup says of the instrument."""
+    """The instrument, as a setup describes it."""
 
     serial: str
     interval: int

@@ -36,7 +36,7 @@ class Entry:
 
 @dataclass
 class Journal:
-    """What an export has."""
+    """The contents of an export."""
 
     count: int = 0
     newest: Entry | None = None

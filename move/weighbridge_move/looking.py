@@ -19,6 +19,8 @@ UNITS = ("weighbridge", "weighbridge-converter", "weighbridge-counter")
 FOLDER = "/var/lib/weighbridge"
 # Files of this program in the journal's folder, until they are whole.
 STAGED = ".move-"
+# What systemd says of a unit that doesn't run.
+STOPPED = ("inactive", "failed")
 MOST_SETUP = 1 << 20
 
 
@@ -111,9 +113,7 @@ def look_at_machine(seen: Seen, world: World) -> None:
         states = ran.out.split()
         if len(states) != len(UNITS):
             raise Fault(f"systemctl is-active: {ran.said()}; start this machine with systemd")
-        seen.running = [
-            unit for unit, state in zip(UNITS, states) if state not in ("inactive", "failed")
-        ]
+        seen.running = [unit for unit, state in zip(UNITS, states) if state not in STOPPED]
         ran = world.programs.run([DPKG_QUERY, "-W", "weighbridge*"], ASKING)
         seen.versions_here = versions_of(ran.out)
     except Fault as why:

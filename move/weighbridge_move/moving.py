@@ -25,7 +25,7 @@ from .archive import Member
 from .copied import ENDINGS, JOURNAL, OTHER, sound
 from .deciding import BEGIN, Asked, Seen, next_step
 from .editing import CONF, COUNTER, EDITED, NoEdit, edited, uses_converter
-from .looking import ASKING, FOLDER, STAGED, SYSTEMCTL
+from .looking import ASKING, FOLDER, STAGED, STOPPED, SYSTEMCTL
 from .report import report_of
 from .state import STATE, State
 from .world import FULL, World, at, make_folder, put
@@ -123,7 +123,7 @@ class Move:
         return f"{self.asked.keep}/{name} is a second copy, as evidence"
 
     def settings(self) -> str:
-        """Put the settings in place. What was there is kept."""
+        """Put the settings in place, and keep the former files."""
         count = 0
         for it in self.members:
             owner = self.world.ids(it.user, it.group)
@@ -158,7 +158,7 @@ class Move:
         owner = self.world.ids(*USER)
         if owner is None:
             raise Fault("weighbridge: there is no such user; install the package weighbridge")
-        if self.is_active() != "inactive":
+        if self.is_active() not in STOPPED:
             raise Fault(f"{SERVICE}: it runs; run `systemctl disable --now {SERVICE}`, {AGAIN}")
         folder, sums = at(self.world, FOLDER), self.seen.copied.sums
         names = [it for it in (f"{JOURNAL}{one}" for one in ENDINGS) if it in sums]

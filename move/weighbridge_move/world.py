@@ -16,7 +16,7 @@ FULL = "see whether the disk is full"
 
 
 class World(Protocol):
-    """What a move asks and changes."""
+    """The machine that a move asks and changes."""
 
     @property
     def root(self) -> str:
