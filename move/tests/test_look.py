@@ -35,6 +35,14 @@ class LookTest(MoveCase):
         self.assertEqual(self.everything(), before)
         self.assertFalse(os.path.lexists(self.at("var/lib/weighbridge-move")))
 
+    def test_many_vehicles_on_site(self) -> None:
+        shutil.rmtree(self.copy)
+        self.entries = [(it, "first", f"P-{it}", "WB01") for it in range(1, 1_003)]
+        self.copy = self.make_copy()
+        self.assertEqual(self.move("look DISK"), 0, self.said)
+        self.assertEqual(self.said.count("  First "), 200)
+        self.assertIn("  and 802 more; they are in journal.csv of the copy", self.said)
+
     def test_the_commands_that_it_prints_work(self) -> None:
         self.move("look DISK")
         line = next(it for it in self.said.splitlines() if " continue " in it)

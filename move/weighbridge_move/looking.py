@@ -19,7 +19,7 @@ UNITS = ("weighbridge", "weighbridge-converter", "weighbridge-counter")
 FOLDER = "/var/lib/weighbridge"
 # Files of this program in the journal's folder, until they are whole.
 STAGED = ".move-"
-# What systemd says of a unit that doesn't run.
+# The words of systemd for a unit that doesn't run.
 STOPPED = ("inactive", "failed")
 MOST_SETUP = 1 << 20
 
