@@ -206,7 +206,8 @@ class MoveCase(unittest.TestCase):
         shutil.rmtree(self.root, ignore_errors=True)
         with contextlib.suppress(FileNotFoundError):
             os.unlink(f"{self.root}-units")
-        for path in ("var/lib/weighbridge", "var/lib/weighbridge-counter", "etc", "srv"):
+        # the package of the counter makes no folder before its first start
+        for path in ("var/lib/weighbridge", "etc", "srv"):
             os.makedirs(os.path.join(self.root, path))
         with open(self.at("etc/weighbridge.conf"), "w", encoding="ascii") as file:
             file.write("# as the package has it\n")

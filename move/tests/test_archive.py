@@ -2,6 +2,7 @@
 
 import io
 import os
+import random
 import tarfile
 import unittest
 import unittest.mock
@@ -124,7 +125,6 @@ class ArchiveTest(MoveCase):
 
     def test_a_link_in_the_place_of_a_folder(self) -> None:
         os.makedirs(self.at("var/lib/elsewhere"))
-        os.rmdir(self.at("var/lib/weighbridge-counter"))
         os.symlink(self.at("var/lib/elsewhere"), self.at("var/lib/weighbridge-counter"))
         self.assertEqual(self.move(COMMAND), 1)
         self.assertIn("weighbridge-counter: it is no folder", self.faults)
@@ -159,6 +159,28 @@ class ArchiveTest(MoveCase):
         for data in (b"", b"x" * 2_000, packed.getvalue(), whole[:700]):
             self.write(path, data)
             self.refused(COMMAND, path)
+
+    def test_bytes_at_random(self) -> None:
+        path = os.path.join(self.disk, "settings-2026-11-20-bridge.tar")
+        with open(path, "rb") as file:
+            whole = file.read()
+        chance = random.Random(7)
+        for _ in range(1_500):
+            data = bytearray(whole)
+            for _ in range(chance.randint(1, 4)):
+                # most in a header, whose fields are in the first bytes of a block
+                at = chance.randrange(len(data) // 512) * 512 + chance.randrange(160)
+                data[at] = chance.choice([0, 0x2F, 0x2E, 0x35, 0x80, 0xFF, chance.randrange(256)])
+            found, _ = archive.archive_of(bytes(data), frozenset())
+            for it in found.members.values():
+                self.assertIsNotNone(archive.rule_of(it.path), it.path)
+
+    def test_headers_in_headers(self) -> None:
+        path = self.make_archive()
+        long = tarfile.TarInfo("././@LongLink")
+        long.type, long.size = tarfile.GNUTYPE_LONGNAME, 0
+        self.write(path, long.tobuf(tarfile.GNU_FORMAT) * 5_000)
+        self.refused(COMMAND, "it can't be read as a tar")
 
     def test_a_fifo_in_place_of_the_archive(self) -> None:
         path = os.path.join(self.disk, "settings-2026-11-20-bridge.tar")

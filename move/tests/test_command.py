@@ -56,7 +56,12 @@ class CommandTest(unittest.TestCase):
             folder = os.path.join(box, "a\x1b[2J")
             os.mkdir(folder)
             status, text = called("look", folder)
+            self.assertEqual(status, 1)
+            self.assertNotIn("\x1b", text)
+            os.mkdir(os.path.join(folder, "2026-11-30T023512Z_sound_1_1"))
+            status, text = called("look", box)
         self.assertEqual(status, 1)
+        self.assertIn("Nothing can be moved yet", text)
         self.assertNotIn("\x1b", text)
 
     def test_the_help_names_each_command(self) -> None:

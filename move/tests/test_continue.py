@@ -46,6 +46,10 @@ class ContinueTest(MoveCase):
             self.assertEqual(self.owner(path), wanted, path)
             self.assertEqual(self.read(path), self.settings[path])
         self.assertEqual(self.owner("etc/weighbridge-head-office")[2], "700")
+        self.assertEqual(self.owner("var/lib/weighbridge-counter"), (902, 902, "700"))
+        self.assertEqual(self.owner("var/lib/weighbridge-converter"), (905, 905, "700"))
+        self.assertEqual(self.owner("var/lib/weighbridge-night/ssh"), (906, 906, "700"))
+        self.assertEqual(self.owner("etc/nginx/weighbridge"), (0, 0, "755"))
         self.assertFalse(os.path.exists(self.at("var/backups/weighbridge/version.txt")))
         self.assertEqual(
             self.read("var/lib/weighbridge-move/before/etc/weighbridge.conf"),
@@ -176,6 +180,8 @@ class ContinueTest(MoveCase):
             self.settings["etc/weighbridge.conf"] = conf.replace(old, new)
             self.make_archive()
             self.refused(COMMAND, words, "they are of two bridges")
+            if "serial" in words:
+                self.refused(f"{COMMAND} --accept instrument", "numbers could be given twice")
         self.assertEqual(self.move(f"{COMMAND} --accept instrument"), 0, self.faults)
 
     def test_a_missing_user(self) -> None:

@@ -210,7 +210,15 @@ class MeanwhileTest(MoveCase):
 
     def test_a_note_that_cannot_be_read(self) -> None:
         os.makedirs(self.at("var/lib/weighbridge-move"))
-        for text in ("", "{}", '{"version": 1, "began": "x"}', "[1]"):
+        whole = '{"began": "x", "words": "x", "choice": %s, "done": %s}'
+        for text in (
+            "",
+            "{}",
+            '{"began": "x"}',
+            "[1]",
+            whole % ('"x"', "[]"),
+            whole % ("[1]", "[1]"),
+        ):
             self.write(self.at("var/lib/weighbridge-move/state.json"), text.encode())
             self.refused("begin DISK --serial WB01B", "it is no note of a move")
 

@@ -27,7 +27,7 @@ class LookTest(MoveCase):
             "on site when the copy was made: 2 vehicles\n  First 119  XY-7 ",
             "settings-2026-11-20-bridge.tar, 13 files\n",
             "versions of the lost machine: weighbridge 2.1.1, weighbridge-counter 2.1.1\n",
-            "setup: serial WB01, e 20 kg, Max 60000 kg\n",
+            "setup: serial WB01, e 20 kg, Max 60000 kg\nonly root can see whether",
             f"  weighbridge-move continue {self.disk} --last 124 --nothing-later\n",
             f"  weighbridge-move begin {self.disk} --serial WB01B --last NUMBER",
         ):

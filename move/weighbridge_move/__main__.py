@@ -22,7 +22,7 @@ LOOK = "look"
 
 
 def fault(words: str) -> None:
-    print(f"weighbridge-move: {words}", file=sys.stderr)
+    print(f"weighbridge-move: {printable(words)}", file=sys.stderr)
 
 
 def command_of(asked: Asked) -> str:

@@ -200,7 +200,7 @@ def archive_of(data: bytes, without: frozenset[str]) -> tuple[Archive, list[str]
                 if len(content) != it.size:
                     raise tarfile.TarError(f"{name} is cut")
                 faults += add(found, path, content)
-    except (tarfile.TarError, ValueError, OverflowError, EOFError) as error:
+    except (tarfile.TarError, ValueError, OverflowError, EOFError, RecursionError) as error:
         faults.append(
             f"it can't be read as a tar ({printable(str(error))[:200]}); take another archive"
         )

@@ -157,7 +157,15 @@ def wrong_versions(there: dict[str, str], here: dict[str, str]) -> list[str]:
 def wrong_instrument(asked: Asked, seen: Seen) -> list[str]:
     """Return where the setup and the newest entry are of two instruments."""
     newest, plate = seen.copied.journal.newest, seen.plate
-    if newest is None or plate is None or INSTRUMENT in asked.accept:
+    if newest is None or plate is None:
+        return []
+    if INSTRUMENT in asked.accept:
+        if asked.command == CONTINUE and plate.serial != newest.serial:
+            # the numbers that follow may have been given under that serial
+            return [
+                f"--accept {INSTRUMENT}: the setup has the serial {plate.serial}, and entry {newest.number} of the copy has"
+                f" {newest.serial}, so numbers could be given twice; use `weighbridge-move begin`"
+            ]
         return []
     pairs = [
         ("--serial", plate.serial, newest.serial),

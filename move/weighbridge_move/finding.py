@@ -41,6 +41,8 @@ def names_in(folder: str) -> list[str]:
                         f"{printable(folder)}: it has more than {MOST_NAMES} names; give the folder of the"
                         " bridge, or of one copy"
                     )
+    except PermissionError as error:
+        raise fault_of(printable(folder), error, "run the command as root") from None
     except OSError as error:
         raise fault_of(printable(folder), error, UNPLUGGED) from None
     return sorted(names)

@@ -21,7 +21,7 @@ from weighbridge_night.files import (
 from weighbridge_night.folder import SUMS
 
 from . import deciding
-from .archive import Member
+from .archive import ROOT, Member
 from .copied import ENDINGS, JOURNAL, OTHER, sound
 from .deciding import BEGIN, Asked, Seen, next_step
 from .editing import CONF, COUNTER, EDITED, NoEdit, edited, uses_converter
@@ -132,6 +132,8 @@ class Move:
             place = at(self.world, it.path)
             own = it.path.startswith("etc/weighbridge-head-office/")
             make_folder(self.world, os.path.dirname(it.path), 0o700 if own else 0o755)
+            if it.user != ROOT:
+                self.own_folder(os.path.dirname(place), owner)
             if os.path.lexists(place):
                 if os.path.islink(place) or not os.path.isfile(place):
                     raise Fault(f"/{it.path}: it is no file; move it away, {AGAIN}")
@@ -139,6 +141,15 @@ class Move:
             put(self.world, it.path, it.data, owner, it.mode)
             count += 1
         return f"{count} files are in place"
+
+    def own_folder(self, folder: str, owner: tuple[int, int]) -> None:
+        """Give a folder of a user to that user. A package makes some only at the first start of its unit."""
+        try:
+            if os.stat(folder).st_uid != owner[0]:
+                os.chown(folder, *owner, follow_symlinks=False)
+                os.chmod(folder, 0o700)
+        except OSError as error:
+            raise fault_of(folder, error, f"see who made it, {AGAIN}") from None
 
     def save(self, it: Member, place: str) -> None:
         """Keep what a file had before the move."""

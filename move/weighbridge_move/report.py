@@ -68,6 +68,10 @@ def by_hand(asked: Asked, seen: Seen, has: set[str]) -> list[str]:
         todo.append(
             "Try the alarm and start its timer (install.md, Set up the alarm). Its setup is in place."
         )
+    if any(it.startswith("etc/weighbridge-head-office") for it in has):
+        todo.append(
+            "Start the timer of the head office (head_office.md, Set up each bridge). Its files are in place."
+        )
     if "etc/msmtprc" in has:
         todo.append(
             "Install the program that sends mails: `apt-get install msmtp-mta`. Its file is in place."
@@ -104,7 +108,7 @@ def report_of(asked: Asked, seen: Seen, began: str, has: set[str], notes: list[s
     if notes:
         lines += ["", "This failed:", *notes]
     lines += ["", "Do by hand:", *by_hand(asked, seen, has)]
-    return "\n".join(lines) + "\n"
+    return "\n".join(map(printable, lines)) + "\n"
 
 
 def known(asked: Asked, seen: Seen) -> int | None:
@@ -129,6 +133,8 @@ def looked(asked: Asked, seen: Seen, faults: list[str]) -> str:
         lines.append(
             f"setup: serial {seen.plate.serial}, e {seen.plate.interval} kg, Max {seen.plate.most} kg"
         )
+    if not seen.is_root:
+        lines.append("only root can see whether this machine has a journal already")
     if faults:
         lines += ["", "Nothing can be moved yet:", *(f"- {it}" for it in faults)]
         return "\n".join(lines) + "\n"

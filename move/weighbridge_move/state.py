@@ -62,7 +62,9 @@ def read_state(folder: str) -> State | None:
         it = State(**found)
     except TypeError:
         it = State("", "", {})
-    if not (it.began and it.words and it.choice and is_texts(it.done) and is_texts(it.notes)):
+    texts = [it.began, it.words, *(one for one in (it.doing, it.ended) if one is not None)]
+    is_well = is_texts(texts) and is_texts(it.done) and is_texts(it.notes)
+    if not (is_well and it.began and it.words and it.choice and isinstance(it.choice, dict)):
         raise Fault(
             f"{path}: it is no note of a move, so nobody knows what was done; call your service company"
         )

@@ -8,7 +8,7 @@ from datetime import datetime, timezone
 from typing import Protocol
 
 from weighbridge_night.files import Fault, fault_of, sync_folder
-from weighbridge_night.programs import Programs, RealPrograms
+from weighbridge_night.programs import Programs, RealPrograms, printable
 
 # The temporary name of a file that isn't whole yet.
 NEW = ".weighbridge-move"
@@ -60,7 +60,8 @@ class RealWorld:
             return None
 
     def say(self, line: str) -> None:
-        print(line, flush=True)
+        # what a disk names must not command a terminal
+        print("\n".join(map(printable, line.split("\n"))), flush=True)
 
 
 def at(world: World, path: str) -> str:
