@@ -207,7 +207,7 @@ class MoveCase(unittest.TestCase):
         with contextlib.suppress(FileNotFoundError):
             os.unlink(f"{self.root}-units")
         # the package of the counter makes no folder before its first start
-        for path in ("var/lib/weighbridge", "etc", "srv"):
+        for path in ("var/lib/weighbridge", "etc", "run", "srv"):
             os.makedirs(os.path.join(self.root, path))
         with open(self.at("etc/weighbridge.conf"), "w", encoding="ascii") as file:
             file.write("# as the package has it\n")
@@ -291,7 +291,7 @@ class MoveCase(unittest.TestCase):
         for folder, _, names in os.walk(self.root):
             for name in names:
                 path = os.path.join(folder, name)
-                if not path.endswith("weighbridge-move/lock"):
+                if not path.endswith("run/weighbridge-move.lock"):
                     with open(path, "rb") as file:
                         found[os.path.relpath(path, self.root)] = file.read()
         return found

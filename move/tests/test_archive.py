@@ -126,9 +126,17 @@ class ArchiveTest(MoveCase):
     def test_a_link_in_the_place_of_a_folder(self) -> None:
         os.makedirs(self.at("var/lib/elsewhere"))
         os.symlink(self.at("var/lib/elsewhere"), self.at("var/lib/weighbridge-counter"))
+        os.lchown(self.at("var/lib/weighbridge-counter"), 902, 902)
         self.assertEqual(self.move(COMMAND), 1)
         self.assertIn("weighbridge-counter: it is no folder", self.faults)
         self.assertEqual(os.listdir(self.at("var/lib/elsewhere")), [])
+
+    def test_a_link_of_root_in_the_place_of_a_folder(self) -> None:
+        os.rmdir(self.at("srv"))
+        os.mkdir(self.at("data"))
+        os.symlink("data", self.at("srv"))
+        self.assertEqual(self.move(COMMAND), 0, self.faults)
+        self.assertEqual(os.listdir(self.at("data")), ["kept"])
 
     def test_a_link_in_the_place_of_a_file(self) -> None:
         self.write(self.at("etc/passwd"), b"x")

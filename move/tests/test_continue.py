@@ -143,7 +143,7 @@ class ContinueTest(MoveCase):
             "/var/lib/weighbridge: it has journal.db already",
             "these are missing: 125 to 131",
             "--nothing-later: it is missing",
-            "8 mistakes were found, and nothing was changed",
+            "mistakes: 8; nothing was changed",
         )
 
     def test_a_journal_that_is_here_already(self) -> None:

@@ -223,8 +223,7 @@ class MeanwhileTest(MoveCase):
             self.refused("begin DISK --serial WB01B", "it is no note of a move")
 
     def test_two_moves_at_once(self) -> None:
-        os.makedirs(self.at("var/lib/weighbridge-move"))
-        with open(self.at("var/lib/weighbridge-move/lock"), "w", encoding="ascii") as file:
+        with open(self.at("run/weighbridge-move.lock"), "w", encoding="ascii") as file:
             fcntl.flock(file, fcntl.LOCK_EX)
             self.refused("begin DISK --serial WB01B", "another move runs")
 

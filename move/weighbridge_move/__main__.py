@@ -16,9 +16,11 @@ from .looking import look
 from .moving import Move, choice_of, need_room, report_path, setups_of
 from .report import looked
 from .state import FILE, FORM, STATE, State, read_state
-from .world import RealWorld, World, at, make_folder
+from .world import RealWorld, World, at
 
 LOOK = "look"
+# It is gone after a start of the machine, as the move is.
+LOCK = "/run/weighbridge-move.lock"
 
 
 def fault(words: str) -> None:
@@ -86,7 +88,7 @@ def move(asked: Asked, world: World) -> int:
     if faults:
         for it in faults:
             fault(it)
-        fault(f"{len(faults)} mistakes were found, and nothing was changed")
+        fault(f"mistakes: {len(faults)}; nothing was changed")
         return 1
     if state is None:
         state = State(world.now().strftime(FORM), command_of(asked), choice_of(asked, seen))
@@ -123,8 +125,7 @@ def other_move(folder: str, state: State) -> str:
 
 def locked(world: World) -> int | None:
     """Return a handle that holds the lock of moves. Return None if another move runs."""
-    make_folder(world, STATE, 0o700)
-    handle = os.open(os.path.join(at(world, STATE), "lock"), os.O_RDWR | os.O_CREAT, 0o600)
+    handle = os.open(at(world, LOCK), os.O_RDWR | os.O_CREAT, 0o600)
     try:
         fcntl.flock(handle, fcntl.LOCK_EX | fcntl.LOCK_NB)
     except BlockingIOError:
@@ -145,7 +146,7 @@ def run(asked: Asked, world: World) -> int:
         if not world.is_root():
             return move(asked, world)  # which names this and every other mistake
         if (handle := locked(world)) is None:
-            fault(f"{STATE}/lock: another move runs; wait for its end")
+            fault(f"{LOCK}: another move runs; wait for its end")
             return 1
         try:
             return move(asked, world)

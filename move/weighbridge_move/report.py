@@ -20,6 +20,10 @@ def standing(entries: list[Entry]) -> list[str]:
     return found
 
 
+def counted(count: int, what: str) -> str:
+    return f"{count} {what}" if count == 1 else f"{count} {what}s"
+
+
 def facts(seen: Seen) -> list[str]:
     """Return what the copy has."""
     newest, journal = seen.copied.journal.newest, seen.copied.journal
@@ -30,7 +34,7 @@ def facts(seen: Seen) -> list[str]:
         f"newest entry: {printable(str(newest)) if newest is not None else 'none'}",
         f"greatest number: {seen.copied.greatest}",
         f"serial of the entries: {', '.join(sorted(map(printable, journal.serials))) or 'none'}",
-        f"on site when the copy was made: {len(journal.open)} vehicles",
+        f"on site when the copy was made: {counted(len(journal.open), 'vehicle')}",
     ]
     return lines + standing(journal.open)
 
@@ -124,7 +128,8 @@ def looked(asked: Asked, seen: Seen, faults: list[str]) -> str:
     lines = facts(seen) if seen.copied.is_whole else [f"copy: {seen.copied.path}"]
     if seen.archive is not None:
         lines.append(
-            f"settings: {printable(seen.archive_path or 'of this machine')}, {len(seen.archive.members)} files"
+            f"settings: {printable(seen.archive_path or 'of this machine')},"
+            f" {counted(len(seen.archive.members), 'file')}"
         )
         lines += [f"  /{it}" for it in sorted(seen.archive.members)]
         versions = [f"{name} {it}" for name, it in sorted(seen.archive.versions.items())]

@@ -74,7 +74,8 @@ def make_folder(world: World, path: str, mode: int = 0o755) -> None:
     here, parts = world.root, [it for it in path.split("/") if it]
     for number, part in enumerate(parts, 1):
         above, here = here, os.path.join(here, part)
-        if os.path.islink(here) or (os.path.lexists(here) and not os.path.isdir(here)):
+        is_strange = os.path.islink(here) and os.lstat(here).st_uid != 0  # only root's links count
+        if is_strange or (os.path.lexists(here) and not os.path.isdir(here)):
             raise Fault(f"{here}: it is no folder; see who made it, and move it away")
         if not os.path.isdir(here):
             try:
