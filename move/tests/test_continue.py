@@ -27,6 +27,7 @@ class ContinueTest(MoveCase):
         self.assertEqual(self.read("etc/weighbridge.conf"), self.settings["etc/weighbridge.conf"])
         self.assertIn("set the zero", self.said)
         self.assertIn("Give the night a new disk", self.said)
+        self.assertIn("Print no slip or ticket again", self.said)
         report = self.read(f"srv/kept/move-WB01-{os.path.basename(self.copy)}.txt")
         self.assertIn("newest entry: 124, first Z-9, 2026-11-29 16:04:00 UTC", report)
         self.assertIn(report, self.said + "\n")
@@ -253,6 +254,20 @@ class ContinueTest(MoveCase):
         self.assertEqual(self.move(COMMAND), 1)
         self.assertIn("a move ended here on 2026-11-30T07:04:00Z", self.faults)
         self.assertEqual(os.listdir(self.at("var/lib/weighbridge")), [])
+
+    def test_a_greater_number_turns_up_later(self) -> None:
+        self.assertEqual(self.move(COMMAND), 0, self.faults)
+        line = "begin DISK --serial WB01B --last 125"
+        self.assertEqual(self.move(line), 1)
+        self.assertIn("run `systemctl disable --now weighbridge`", self.faults)
+        self.assertIn("move these files into another folder", self.faults)
+        self.programs.active.clear()
+        os.rename(self.at("var/lib/weighbridge"), self.at("srv/away"))
+        os.mkdir(self.at("var/lib/weighbridge"))
+        self.assertEqual(self.move("begin DISK --serial WB01 --last 125"), 1)
+        self.assertIn("--serial WB01: it was used before", self.faults)
+        self.assertEqual(self.move(line), 0, self.faults)
+        self.assertIn("known to be missing: 125 (1 number)", self.said)
 
     def test_no_room(self) -> None:
         little = mock.Mock(f_bavail=16_000, f_frsize=4096)

@@ -116,9 +116,10 @@ def neighbours_of(folder: str) -> set[str]:
 def contradicting(found: Found, greatest: int) -> list[Copy]:
     """Return the copies that show, or may show, an entry above the greatest number of the chosen copy."""
     own = found.chosen
+    # A later copy whose name has 0 doesn't show its number.
+    shown = {own.newest, greatest} - {0}
     return [
         it
         for it in found.copies
-        if it.newest > greatest
-        or (it.moment > own.moment and it.newest not in (own.newest, greatest))
+        if it.newest > greatest or (it.moment > own.moment and it.newest not in shown)
     ]

@@ -61,6 +61,11 @@ def by_hand(asked: Asked, seen: Seen, has: set[str]) -> list[str]:
         todo.append(
             "Tell the inspector that the machine was replaced. The values that were written down must be the same again."
         )
+        if PAPER in has:
+            todo.append(
+                "Print no slip or ticket again that was printed before the loss. The list of printed originals is lost, so such a"
+                " printout doesn't say that it is a copy."
+            )
     todo.append(
         "If others use this machine, load the rules of the ports: `systemctl enable --now weighbridge-ports`."
     )
