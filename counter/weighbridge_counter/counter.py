@@ -305,6 +305,7 @@ class Counter:
             "demo": setup.is_demo,
             "demo_page": setup.demo_page,
             "now": self.milliseconds(),
+            "resumed": False,  # whatever Last-Event-ID says: the events of the beginning have all
         }
 
     def tell_state(self) -> None:

@@ -12,6 +12,7 @@ from pathlib import Path
 from typing import Any, TypeVar
 
 from aiohttp import web
+from aiohttp.http import StreamWriter
 from aiohttp.http_exceptions import HttpProcessingError
 
 from weighbridge_paper.export import NoExport, has_key
@@ -214,7 +215,11 @@ class Routes:
         response = web.StreamResponse(
             headers={"Content-Type": "text/event-stream", "X-Accel-Buffering": "no", **NO_STORE}
         )
-        await response.prepare(request)
+        writer = await response.prepare(request)
+        if request.method == "HEAD":
+            if isinstance(writer, StreamWriter):
+                writer.chunked = False  # aiohttp would end chunks that never began
+            return response
         transport = request.transport
         if transport is None:
             return response
