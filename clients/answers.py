@@ -155,7 +155,7 @@ class Bridge:
 
 
 class Seen(NamedTuple):
-    """What a play saw: the answer, its line for the table, when to ask again by the JSON, and the request's key."""
+    """The findings of a play: the answer, its line for the table, when to ask again by the JSON, and the request's key."""
 
     line: str
     again: str | None = None
@@ -289,7 +289,7 @@ def cut_within_the_request(bridge: Bridge) -> Seen:
 
 
 def cut(bridge: Bridge, line: str, size: int) -> Seen:
-    """Play a connection that ends after so many bytes of the answer, and the same request again."""
+    """Play a connection that ends after `size` bytes of the answer, and the same request again."""
     bridge.next_vehicle(FULL)
     form = bridge.form()
     with bridge.counter.send(request_of(bridge, form), whole=True) as stream:

@@ -1,4 +1,4 @@
-"""JSON beside the texts: the texts stay byte for byte, the JSON has them as a field, and a refusal says what to do."""
+"""JSON next to the texts: the texts stay byte for byte, the JSON has them as a field, and a refusal says what to do."""
 
 import asyncio
 import json

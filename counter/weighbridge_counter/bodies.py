@@ -48,7 +48,7 @@ def object_in(body: bytes) -> dict[str, Any]:
         found = json.loads(
             body.decode("utf-8"), object_pairs_hook=once_each, parse_constant=refuse_constant
         )
-    except (ValueError, RecursionError):  # also what isn't UTF-8
+    except (ValueError, RecursionError):  # including a body that isn't UTF-8
         raise BadBody(400, MALFORMED) from None
     if not isinstance(found, dict):
         raise BadBody(400, MALFORMED)

@@ -1,6 +1,6 @@
 """Refusals, with what a program may do after each. `refusals.txt` is the one catalogue of their words and of when to ask again.
 
-The office's refusals are read here from its answers. Those of the counter are made here, as a value, and written as text or as JSON.
+The office's refusals are read here from its answers. A refusal of the counter is a value, which becomes text or JSON.
 """
 
 import functools
@@ -17,7 +17,7 @@ OFFICE = re.compile(r"(?:refused ([1-9]\d?)|fault ([1-9]\d\d)) ([a-z_]{1,40})\n"
 
 @dataclass(frozen=True)
 class Meaning:
-    """What a name of the catalogue means. `after` is the number of seconds after which a program may ask again, or None if nobody knows it."""
+    """The meaning of a name. `after` is the number of seconds after which a program may ask again, or None if nobody knows it."""
 
     words: str | None
     retry: str

@@ -15,7 +15,7 @@ MOST = 1000  # keys that are kept
 
 @dataclass(frozen=True)
 class Known:
-    """What the lists know: the digest of a key's entry, and the newest number, or None if an entry may be missing."""
+    """The knowledge of the lists: the digest of a key's entry, and the newest number, or None if an entry may be missing."""
 
     digest: str | None = None
     newest: int | None = None
@@ -23,7 +23,7 @@ class Known:
 
 @dataclass(frozen=True)
 class Before:
-    """What was known when a request was sent, and the second of the sending."""
+    """The knowledge at the sending of a request, and the second of the sending."""
 
     known: Known
     is_only: bool

@@ -29,7 +29,7 @@ from .health import health_of
 from .metrics import TEXT_FORM, metrics_of
 from .office import Answer, NoAnswer
 from .pages import Page, frame_of
-from .refusals import Refusal, refusal_in
+from .refusals import Refusal, catalogue, refusal_in
 from .shown import NotUnderstood, indication_shown, text_shown
 from .tares import BadTare
 from .terminal import NotSent, Unanswered
@@ -93,6 +93,7 @@ def allowed(it: web.HTTPException) -> dict[str, str]:
 class Routes:
     def __init__(self, counter: Counter, folder: Path) -> None:
         self.counter, self.folder = counter, folder
+        catalogue()  # so that a counter without its file doesn't start
         self.hosts = {"127.0.0.1", "localhost", counter.setup.listen[0], *counter.setup.hosts}
         self.asking, self.thinking = asyncio.Semaphore(MOST_ASKING), asyncio.Lock()
 

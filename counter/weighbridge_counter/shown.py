@@ -1,4 +1,4 @@
-"""JSON of the office's texts: the text as it is, and beside it what it says. The text is read by its one parser."""
+"""JSON of the office's texts: the text as it is, and the values that it says. The text is read by its one parser."""
 
 import re
 from typing import Any
