@@ -421,6 +421,16 @@ class Heads(Asked):
         )
         self.assertEqual(0, len(self.counter.pages.open))
 
+    async def test_the_stream_says_that_it_does_not_resume(self) -> None:
+        reader, writer = await asyncio.open_connection("127.0.0.1", self.port)
+        fields = f"Host: 127.0.0.1:{self.port}\r\nLast-Event-ID: 7\r\n"
+        writer.write(f"GET /events HTTP/1.1\r\n{fields}\r\n".encode())
+        got = await asyncio.wait_for(reader.readuntil(b"event: state"), 5)
+        writer.close()
+        (hello,) = re.findall(rb"event: hello\ndata: (.*)\n", got)
+        self.assertIs(False, json.loads(hello)["resumed"])
+        self.assertNotIn(b"\nid:", got)
+
     async def test_head_is_answered_after_a_standstill(self) -> None:
         with mock.patch.object(self.counter.terminal, "is_in_doubt", lambda: True):
             self.assertEqual(200, (await self.ask("HEAD", "/time")).status)

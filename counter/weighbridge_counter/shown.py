@@ -1,5 +1,6 @@
 """JSON of the office's texts: the text as it is, and the values that it says. The text is read by its one parser."""
 
+import datetime
 import re
 from typing import Any
 
@@ -15,12 +16,16 @@ class NotUnderstood(Exception):
     """Raised for an answer with status 200 that isn't one of the office."""
 
 
+def moment_shown(moment: datetime.datetime) -> str:
+    return moment.strftime("%Y-%m-%dT%H:%M:%SZ")
+
+
 def weighing_shown(it: Weighing) -> dict[str, Any]:
     """Return the block of an entry."""
     return {
         "number": it.number,
         "kind": it.kind,
-        "at": it.at.strftime("%Y-%m-%dT%H:%M:%SZ"),
+        "at": moment_shown(it.at),
         "gross_kg": it.gross,
         "preset_kg": it.preset,
         "interval_kg": it.interval,
