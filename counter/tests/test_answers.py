@@ -133,6 +133,23 @@ class TheTable(unittest.TestCase):
             {source for _, source in seen},
         )
 
+    def test_a_row_that_is_played_is_compared_with_what_came(self) -> None:
+        row, bridge = ANSWERS.Row("x", "counter", "no", "later", "till"), mock.Mock()
+        bridge.has = lambda key: key == "stored"
+        for seen, is_same in (
+            (ANSWERS.Seen("x", "later", "free"), True),
+            (ANSWERS.Seen("x", None, None), True),
+            (ANSWERS.Seen("y", "later", "free"), False),
+            (ANSWERS.Seen("x", "never", "free"), False),
+            (ANSWERS.Seen("x", "later", "stored"), False),
+        ):
+            with mock.patch.dict(ANSWERS.PLAYS, {"x": lambda bridge, it=seen: it}):
+                if is_same:
+                    ANSWERS.play(row, bridge)
+                    continue
+                with self.assertRaises(ANSWERS.Differs):
+                    ANSWERS.play(row, bridge)
+
     def test_each_status_of_nginx_s_example_is_there(self) -> None:
         text = (FOLDER.parent / "packaging" / "counter" / "nginx.conf").read_text(encoding="utf-8")
         named = set(re.findall(r"(?:return|_status) +(\d{3})", text)) - {"444"}
