@@ -265,6 +265,12 @@ def other_journal(bridge: Bridge) -> Seen:
     return Seen(f"{answer.status} {shown['name']}", shown["retry"])
 
 
+def no_printer(bridge: Bridge) -> Seen:
+    answer = bridge.counter.ask("POST", "/papers/1", "printer=unheard-of", **AS_JSON)
+    shown = json.loads(answer.text)
+    return Seen(f"{answer.status} {shown['name']}", shown["retry"])
+
+
 def no_connection(bridge: Bridge) -> Seen:
     with socket.socket() as unheard:
         unheard.bind(("127.0.0.1", 0))  # nobody listens there
@@ -345,6 +351,7 @@ PLAYS: Mapping[str, Play] = {
     "421 counter other_host": with_fields(Host="elsewhere.example"),
     "403 counter other_site": with_fields(Origin="http://elsewhere.example"),
     "409 other_journal": other_journal,
+    "422 no_printer": no_printer,
     "no connection": no_connection,
     "cut within the request": cut_within_the_request,
     "cut after the request": lambda bridge: cut(bridge, "cut after the request", 0),
@@ -369,6 +376,11 @@ WHY_NOT = {
     "503 counter too_many": "it takes 400 connections, and disconnects others",
     "502 counter no_answer": "the service must end",
     "503 no_export": "the counter must have started just now",
+    "503 not_sent": "the service must end",
+    "504 unanswered": "the service must be held up",
+    "422 unprintable": "it needs a printer",
+    "409 printed": "it needs a printer",
+    "409 is_void": "it concerns a paper, and no weighing",
     "TLS refused": "it needs nginx",
     "no answer in 30 seconds": "it is as `cut after the request`",
 }

@@ -18,7 +18,10 @@ from weighbridge_counter.refusals import (
     catalogue_of,
     refusal_in,
 )
+from weighbridge_counter.files import NoFile
 from weighbridge_counter.shown import NotUnderstood, indication_shown
+
+from weighbridge_counter.terminal import NotSent, Unanswered
 
 from .served import FOLDER, JSON, Answered, WithCounter, faults_of
 
@@ -338,6 +341,69 @@ class Refused(Asked):
                 (answer.status, *(answer.json[it] for it in ("name", "field", "retry"))),
             )
             self.assertIn("why", answer.json)
+
+
+class OfThePage(Asked):
+    """The routes that answer JSON in any case have a refusal's names too if JSON is asked for."""
+
+    async def refused(
+        self, method: str, target: str, path: str, body: bytes, wanted: dict[str, Any], name: str
+    ) -> None:
+        plain = await self.ask(method, target, body)
+        shown = await self.ask(method, target, body, **JSON)
+        for it in (plain, shown):
+            self.assertEqual([], list(faults_of(method, path, it)), (method, target, it))
+        self.assertEqual(json.dumps(wanted).encode(), plain.body, "as it was")
+        names = Refusal("gone").shown().keys()
+        self.assertEqual(plain.status, shown.status)
+        self.assertEqual(wanted, {it: value for it, value in shown.json.items() if it not in names})
+        self.assertEqual(
+            (name, Refusal(name).meaning().retry), (shown.json["name"], shown.json["retry"])
+        )
+
+    async def test_each_refusal(self) -> None:
+        await self.drives_on(18340)
+        await self.weighed(FIRST)
+        await self.post("/voids", "key=K2&plate=AB-12")
+        given, papers = "/entries/{number}/given", "/papers/{number}"
+        kg = 'send {"kg": a whole number}'
+        lines = "send texts, by the names goods, order, driver"
+        for row in (
+            ("POST", "/papers/1", papers, b"printer=x", {"why": "no_printer"}, "no_printer"),
+            ("POST", "/papers/1", papers, b"", {"why": "no_printer"}, "no_printer"),
+            ("PUT", "/entries/1/given", given, b"[]", {"why": lines}, "bad_value"),
+            ("PUT", "/entries/2/given", given, b'{"goods": ""}', {"why": "void"}, "is_void"),
+            ("PUT", "/entries/9/given", given, b"{}", {"why": "refused 16 no_ticket"}, "no_ticket"),
+            ("PUT", "/tares/AB-12", "/tares/{plate}", b"{}", {"why": kg}, "bad_value"),
+        ):
+            await self.refused(*row)
+
+    async def test_a_command_that_the_scale_does_not_answer(self) -> None:
+        for fault, status, name in (
+            (NotSent(), 503, "not_sent"),
+            (Unanswered(), 504, "unanswered"),
+        ):
+
+            async def fails(*_: object, it: Exception = fault) -> str:
+                raise it
+
+            with mock.patch.object(self.counter, "set_zero", fails), mock.patch.object(
+                self.counter, "clear_tare", fails
+            ):
+                for target in ("/zero", "/tare/clear"):
+                    wanted = {"said": None, "why": name}
+                    await self.refused("POST", target, target, b"", wanted, name)
+                    self.assertEqual(status, (await self.post(target, "")).status)
+
+    async def test_a_disk_that_takes_no_file(self) -> None:
+        async def fails(*_: object) -> None:
+            raise NoFile
+
+        with mock.patch.object(self.counter.tares, "drop", fails):
+            wanted = {"why": "no_file"}
+            await self.refused("DELETE", "/tares/A", "/tares/{plate}", b"", wanted, "no_file")
+            answer = await self.ask("DELETE", "/tares/A")
+            self.assertEqual((503, "5"), (answer.status, answer.fields["retry-after"]))
 
 
 class Repeated(Asked):

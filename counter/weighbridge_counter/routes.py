@@ -43,6 +43,7 @@ MOST_ASKING = 4  # of the office's places
 UNDER_WAY_FOR = 30.0  # seconds: longer than the office is waited for
 SAFE = ("GET", "HEAD")  # methods that change nothing
 NOT_SENT = {"X-Counter": "not_sent"}
+NOT_SAID: dict[str, object] = {"said": None}
 REPEATED: Mapping[bool | None, Mapping[str, str]] = {
     True: {"Idempotency-Replayed": "true"},
     False: {"Idempotency-Replayed": "false"},
@@ -68,6 +69,19 @@ def not_known(request: web.Request, status: int, refusal: Refusal) -> web.Stream
     return response
 
 
+def not_done(
+    request: web.Request, status: int, what: Mapping[str, object], refusal: Refusal
+) -> web.StreamResponse:
+    """Return why a wish isn't carried out. If the client asks for JSON, the answer has the names of a refusal too."""
+    response = as_json({**what, **(refusal.shown() if asks_for_json(request) else {})}, status)
+    response.headers.update(refusal.fields())
+    return response
+
+
+def no_file(request: web.Request) -> web.StreamResponse:
+    return not_done(request, 503, {"why": "no_file"}, Refusal("no_file"))
+
+
 @dataclass(frozen=True)
 class Found:
     """The text of an entry, with where it is from, or why there is none."""
@@ -80,6 +94,11 @@ class Found:
 
     def shown(self) -> dict[str, str]:
         return {"why": self.why} if self.text is None else {"text": self.text, "from": self.source}
+
+    def answered(self, request: web.Request) -> web.StreamResponse:
+        """Return why there is no text."""
+        refusal = self.refusal or Refusal("no_answer")
+        return not_done(request, self.status, self.shown(), refusal)
 
 
 DAMAGED = Found(409, why="refused 17 damaged", refusal=Refusal("damaged", 17))
@@ -159,7 +178,7 @@ class Routes:
         try:
             return await handler(request)
         except NoFile:
-            return as_json({"why": "no_file"}, 503)
+            return no_file(request)
         except ConnectionError:
             raise  # the client's connection is cut
         except BadBody as bad:
@@ -169,7 +188,7 @@ class Routes:
         except OSError:
             if not request.path.startswith(("/papers", "/jobs", "/entries")):
                 raise
-            return as_json({"why": "no_file"}, 503)
+            return no_file(request)
         except web.HTTPException as it:
             name = FAULTS.get(it.status, "malformed")
             # a key in another form is no route of its own
@@ -317,19 +336,21 @@ class Routes:
 
     async def zero(self, request: web.Request) -> web.StreamResponse:
         return await self.said(
-            lambda: self.counter.set_zero(request.headers.get("X-Remote-User", ""))
+            request, lambda: self.counter.set_zero(request.headers.get("X-Remote-User", ""))
         )
 
     async def clear_tare(self, request: web.Request) -> web.StreamResponse:
-        return await self.said(self.counter.clear_tare)
+        return await self.said(request, self.counter.clear_tare)
 
-    async def said(self, command: Callable[[], Awaitable[str]]) -> web.StreamResponse:
+    async def said(
+        self, request: web.Request, command: Callable[[], Awaitable[str]]
+    ) -> web.StreamResponse:
         try:
             return as_json({"said": await command()})
         except NotSent:
-            return as_json({"said": None, "why": "not_sent"}, 503)
+            return not_done(request, 503, NOT_SAID | {"why": "not_sent"}, Refusal("not_sent"))
         except Unanswered:
-            return as_json({"said": None, "why": "unanswered"}, 504)
+            return not_done(request, 504, NOT_SAID | {"why": "unanswered"}, Refusal("unanswered"))
 
     # ---- entries
 
@@ -366,21 +387,23 @@ class Routes:
             if not isinstance(wish, dict) or not is_text or set(wish) != set(fields):
                 raise ValueError
         except (ValueError, TypeError, RecursionError):
-            return as_json({"why": f"send texts, by the names {', '.join(FREE_LINES)}"}, 422)
+            why = {"why": f"send texts, by the names {', '.join(FREE_LINES)}"}
+            return not_done(request, 422, why, Refusal("bad_value"))
         if letters := self.counter.printing.unprintable(fields):
-            return as_json({"why": "unprintable", "letters": letters}, 422)
+            unprintable = {"why": "unprintable", "letters": letters}
+            return not_done(request, 422, unprintable, Refusal("unprintable"))
         found = await self.text_to_print(number)
         if found.text is None:
-            return as_json(found.shown(), found.status)
+            return found.answered(request)
         entry = self.counter.books.lists.entries.get(number)
         if entry is None or entry.kind == "void":
-            return as_json({"why": "void"}, 409)
+            return not_done(request, 409, {"why": "void"}, Refusal("is_void"))
         try:
             lines = await self.counter.give(number, found.text, fields)
         except NoText:
-            return as_json(DAMAGED.shown(), DAMAGED.status)
+            return DAMAGED.answered(request)
         if lines is None:
-            return as_json({"why": "printed"}, 409)
+            return not_done(request, 409, {"why": "printed"}, Refusal("printed"))
         return as_json({"given": dict(lines)})
 
     # ---- papers
@@ -396,14 +419,15 @@ class Routes:
         names = [form.get("printer"), papers.by_itself, *(it.name for it in papers.printers)]
         printer = next((it for it in names if it), "")
         if papers.printer(printer) is None:
-            return as_json({"why": "no_printer"}, 422)
+            refusal = Refusal("no_printer", field="printer")
+            return not_done(request, 422, {"why": "no_printer"}, refusal)
         found = await self.text_to_print(int(request.match_info["number"]))
         if found.text is None:
-            return as_json(found.shown(), found.status)
+            return found.answered(request)
         try:
             return as_json({"job": await self.counter.printing.print(found.text, printer)}, 202)
         except NoText:
-            return as_json(DAMAGED.shown(), DAMAGED.status)
+            return DAMAGED.answered(request)
 
     async def text_to_print(self, number: int) -> Found:
         """As it passed, if it did: so a paper needs no office."""
@@ -416,11 +440,11 @@ class Routes:
         """What the page prints itself, noted as printed."""
         found = await self.text_to_print(int(request.match_info["number"]))
         if found.text is None:
-            return as_json(found.shown(), found.status)
+            return found.answered(request)
         try:
             return as_json(await self.counter.printing.for_browser(found.text))
         except NoText:
-            return as_json(DAMAGED.shown(), DAMAGED.status)
+            return DAMAGED.answered(request)
 
     async def printable(self, request: web.Request) -> web.StreamResponse:
         """Answer with the letters of goods, order and driver that a printer can't print."""
@@ -494,9 +518,10 @@ class Routes:
                 request.match_info["plate"], wish["kg"], request.headers.get("X-Remote-User", "")
             )
         except (ValueError, KeyError, TypeError, RecursionError):
-            return as_json({"why": 'send {"kg": a whole number}'}, 422)
-        except BadTare as fault:
-            return as_json({"why": str(fault)}, 422)
+            why = {"why": 'send {"kg": a whole number}'}
+            return not_done(request, 422, why, Refusal("bad_value", field="kg"))
+        except BadTare as bad:
+            return not_done(request, 422, {"why": str(bad)}, Refusal("bad_value"))
         return as_json({})
 
     async def drop_tare(self, request: web.Request) -> web.StreamResponse:
