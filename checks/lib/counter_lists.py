@@ -402,11 +402,24 @@ def the_description(bridge):
             form | {"kind": "second"},
         ):
             answered("/weighings", "POST", port, form=given)
+            if port == bridge.http:
+                answered("/weighings", "POST", port, form=given, Accept="application/json")
         answered("/voids", "POST", port, form={"key": "describe-3", "plate": "ROUTES"})
         answered("/voids", "POST", port, form={"key": "describe-4", "plate": "NOBODY"})
         answered("/indication", "GET", port)
         for number in ("1", "999999"):
             answered("/tickets/{number}", "GET", port, f"/tickets/{number}")
+    as_json = {"Accept": "application/json"}
+    for body in ("{", '{"key": 1}', '{"unknown": 1}', json.dumps(form)):
+        how = {"body": body, "Content_Type": "application/json"}
+        answered("/weighings", "POST", bridge.http, **how)
+        answered("/weighings", "POST", bridge.http, **how, **as_json)
+    answered("/indication", "GET", bridge.http, **as_json)
+    for number in ("1", "999999"):
+        answered("/tickets/{number}", "GET", bridge.http, f"/tickets/{number}", **as_json)
+        answered("/entries/{number}", "GET", bridge.http, f"/entries/{number}", **as_json)
+    answered("/keys/{key}", "GET", bridge.http, "/keys/describe-1", **as_json)
+    answered("/keys/{key}", "GET", bridge.http, f"/keys/{36 * 'k'}", **as_json)
     for target in ("/journal.csv", "/tickets.csv", "/check"):
         answered(target, "GET", bridge.office)
     answered("/purge", "POST", bridge.office, body="")

@@ -364,8 +364,8 @@ def words_of_counter() -> set[str]:
     folder = os.path.join(TOP, "counter", "weighbridge_counter")
     names = set[str]()
     for module, pattern in (
-        ("acts.py", r'not_sent\(\d+, "(\w+)"\)'),
-        ("routes.py", r'"counter (\w+)\\n"'),
+        ("acts.py", r'(?:own|not_sent)\(\d+, "(\w+)"\)'),
+        ("routes.py", r'(?:own|not_sent)\(\d+, "(\w+)"\)'),
         ("connections.py", r'"counter (\w+)\\n"'),
     ):
         with open(os.path.join(folder, module)) as code:

@@ -4,6 +4,8 @@ from collections.abc import Callable
 
 from weighbridge_counter.fanout import Fanout
 
+MAX_KG = 60000  # the scale takes no tare above it
+
 
 async def at_once(work: Callable[[], None]) -> None:
     """A thread for files that is played: what it is asked is done before anything else."""
@@ -117,6 +119,8 @@ class PlayedTerminal:
         if line == "TAC":
             self.tare = 0
             return "TAC A"
+        if line.startswith("TA ") and int(line.split()[1]) > MAX_KG:
+            return "TA L"
         if line.startswith("TA "):
             self.tare = int(line.split(" ")[1])
             return f"TA A {self.tare:>10} kg"

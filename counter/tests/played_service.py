@@ -9,6 +9,8 @@ import hashlib
 import sys
 import urllib.parse
 
+from weighbridge_paper.export import KEY, KINDS, PLATE
+
 from .played import PlayedTerminal
 
 ZEROS = "0" * 64
@@ -65,7 +67,8 @@ class PlayedService:
                 ),
                 0,
             )
-            form = dict(urllib.parse.parse_qsl((await reader.readexactly(length)).decode()))
+            pairs = urllib.parse.parse_qsl((await reader.readexactly(length)).decode())
+            form = {} if len(dict(pairs)) < len(pairs) else dict(pairs)  # a field twice is none
             method, target = head.split(" ")[:2]
             status, text = self.judge(method, target, form)
             body = text.encode()
@@ -94,10 +97,13 @@ class PlayedService:
             )
         if method != "POST" or target not in ("/weighings", "/voids"):
             return 404, "fault 404 no_route\n"
-        key = form.get("key", "")
+        key, plate = form.get("key", ""), form.get("plate", "")
+        kind = form.get("kind", "") if target == "/weighings" else "void"
+        if not (KEY.fullmatch(key) and PLATE.fullmatch(plate) and kind in KINDS):
+            return 422, "fault 422 bad_field\n"
         if key in self.texts:
-            return 201, self.texts[key]
-        kind, plate = form.get("kind", "void"), form.get("plate", "")
+            is_same = [kind, plate] == next(it[2:4] for it in self.rows if it[1] == key)
+            return (201, self.texts[key]) if is_same else (409, "refused 1 key_reused\n")
         refusal = self.refusal(kind, plate)
         return (409, f"refused {refusal}\n") if refusal else (201, self.store(key, kind, plate))
 

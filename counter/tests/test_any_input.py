@@ -10,18 +10,23 @@ import json
 import os
 import tempfile
 import unittest
+import urllib.parse
 from collections import Counter as Counts
 from pathlib import Path
 from types import SimpleNamespace
 from typing import cast
 
+from weighbridge_counter.accepts import wants_json
 from weighbridge_counter.acts import Acts, Told
+from weighbridge_counter.bodies import FIELDS as BODIES
+from weighbridge_counter.bodies import BadBody, form_of
 from weighbridge_counter.counter import Counter
 from weighbridge_counter.files import Files
 from weighbridge_counter.health import health_of
 from weighbridge_counter.metrics import metrics_of
 from weighbridge_counter.office import Answer, Office
 from weighbridge_counter.setup import Setup, read_setup
+from weighbridge_counter.shown import NotUnderstood, indication_shown
 from weighbridge_counter.terminal import Connection, Terminal
 from weighbridge_counter.values import reply_of, value_of
 from weighbridge_paper.export import COLUMNS, HEADER, NoExport, rows_of
@@ -79,6 +84,11 @@ ANY_JSON = some.recursive(
     ),
     max_leaves=12,
 )
+
+
+FIELDS_OF_A_BODY = BODIES["/weighings"]
+JSON_VALUE = some.booleans() | some.integers() | some.text(max_size=8) | some.none()
+REFUSED_BODIES = ((400, "malformed"), (422, "bad_value"), (422, "unknown_field"))
 
 
 @some.composite
@@ -198,6 +208,44 @@ class Requests(unittest.TestCase):
             self.assertEqual([b"&".join(kept)], asked)
         else:
             self.assertFalse(told.is_sent)
+
+
+class Wishes(unittest.TestCase):
+    @given(
+        some.dictionaries(some.sampled_from([*FIELDS_OF_A_BODY, "x"]), JSON_VALUE, max_size=6).map(
+            lambda it: json.dumps(it).encode()
+        )
+        | some.binary(max_size=40)
+        | ANY_JSON.map(lambda it: json.dumps(it).encode())
+    )
+    def test_a_json_body_is_a_form_with_its_values_or_is_refused(self, body: bytes) -> None:
+        try:
+            form = form_of("application/json", body, FIELDS_OF_A_BODY)
+        except BadBody as fault:
+            self.assertIn((fault.status, fault.refusal.name), REFUSED_BODIES)
+            self.assertTrue(fault.refusal.meaning().words)
+            json.dumps(fault.refusal.shown()).encode("utf-8")
+            return
+        pairs = urllib.parse.parse_qsl(
+            form.decode("ascii"), keep_blank_values=True, strict_parsing=bool(form)
+        )
+        shown = {name: str(it) for name, it in json.loads(body).items() if it is not False}
+        self.assertEqual(shown, {name: "True" if name == "once" else it for name, it in pairs})
+
+    @given(
+        some.lists(some.text(alphabet='application/json text*;q=0.1,"\\', max_size=60), max_size=3)
+    )
+    def test_any_accept_is_a_wish_for_json_or_for_the_text(self, fields: list[str]) -> None:
+        if wants_json(fields):
+            self.assertTrue(any("application/" in it.lower() or "*/*" in it for it in fields))
+            self.assertFalse(
+                wants_json([*fields, "text/plain"]) and not any(";" in it for it in fields)
+            )
+
+    @given(some.text(alphabet="STABLEMOVINGDRUNO GN-0123456789kg\n٣", max_size=50))
+    def test_an_indication_is_read_or_refused(self, letters: str) -> None:
+        with contextlib.suppress(NotUnderstood):
+            self.assertEqual(letters, indication_shown(letters)["text"])
 
 
 class OwnFiles(unittest.IsolatedAsyncioTestCase):

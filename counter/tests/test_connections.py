@@ -4,6 +4,7 @@ import asyncio
 import collections
 import contextlib
 import io
+import json
 import os
 import socket
 import struct
@@ -466,7 +467,13 @@ class Slow(Served):
             self.assertIn(b"\r\nRetry-After: 1\r\n", answer)
             self.assertIn(b"\r\nX-Counter: not_sent\r\n", answer)
             self.assertTrue(answer.endswith(b"\r\n\r\ncounter too_many\n"))
-        self.assertEqual((4, 2), (len(self.taken), self.connections.counts["clients_refused"]))
+        reader, _ = await self.client(
+            REQUEST.replace(b"\r\n\r\n", b"\r\nAccept: application/json\r\n\r\n", 1),
+            local_addr=("127.0.0.1", 0),
+        )
+        shown = json.loads((await self.end_of(reader)).partition(b"\r\n\r\n")[2])
+        self.assertEqual(("too_many", "later"), (shown["name"], shown["retry"]))
+        self.assertEqual((4, 3), (len(self.taken), self.connections.counts["clients_refused"]))
         self.may_go.set()
         for reader, _ in readers:
             self.assertTrue((await reader.read(200)).endswith(b"stored\n"))

@@ -20,6 +20,7 @@ from weighbridge_counter.cursor import (
 )
 from weighbridge_counter.fetching import Fetching
 from weighbridge_counter.lists import MOST_TEXTS, Lists
+from weighbridge_counter.refusals import Refusal
 from weighbridge_paper.export import row_of
 from weighbridge_paper.text import digest_of
 
@@ -262,7 +263,12 @@ class TheRoutes(WithBooks):
         for target in ("/entries", "/tickets", "/vehicles"):
             status, answer, fields = await get(self.books, target)
             self.assertEqual(
-                (503, {"why": "no_export"}, "1"), (status, answer, fields["Retry-After"])
+                (503, "no_export", "no_export", "later", "1"),
+                (
+                    status,
+                    *(answer[it] for it in ("why", "name", "retry")),
+                    fields["Retry-After"],
+                ),
             )
 
     async def test_an_answer_has_the_journal(self) -> None:
@@ -277,8 +283,10 @@ class TheRoutes(WithBooks):
         await self.begin(3)
         for target in ("/entries", "/tickets", "/vehicles"):
             status, answer, _ = await get(self.books, f"{target}?journal={'0' * 32}")
-            own = {"why": "other_journal", "journal": self.books.journal.identifier}
-            self.assertEqual((409, own), (status, answer))
+            own = (409, "other_journal", "other_journal", self.books.journal.identifier)
+            found = (status, *(answer[it] for it in ("why", "name", "journal")))
+            self.assertEqual(own, found)
+            self.assertEqual({"why", "journal"}, answer.keys() - Refusal("gone").shown().keys())
 
     async def test_a_bad_field(self) -> None:
         await self.begin(1)

@@ -186,8 +186,8 @@ class TheRows(unittest.TestCase):
         found = {
             it.name for it in PROGRAMS.glob("weighbridge_*/*.py") if columns.search(it.read_text())
         }
-        # slips.py names fields of Row, and cursor.py those of the answers with entries and tickets
-        self.assertEqual({"cursor.py", "export.py", "slips.py"}, found)
+        # slips.py names fields of Row, and cursor.py and shown.py those of the answers with entries and tickets
+        self.assertEqual({"cursor.py", "export.py", "shown.py", "slips.py"}, found)
         self.assertNotRegex((PROGRAMS / "weighbridge_counter/slips.py").read_text(), '"gross_kg')
 
 

@@ -108,13 +108,12 @@ def composed():
         "job_": set(SHOWN),
         "sum_": {it.name for it in fields(Sums) if it.name.startswith("net_")},
         "way_": of_each(r'"(in|out)" if', inspect.getsource(direction_of)),
-        "from_": of_each(r'"from": "(\w+)"', routes)
+        "from_": of_each(r'Found\(200, [\w.]+, "(\w+)"\)', routes)
         | of_each(r', "(\w+)"\n', inspect.getsource(Lists.slip_again)),
         "refused_": {
             it for it in of_each(r"(?m)^(\d+) ", refusals) if int(it) < 400 or it == "422"
         },
-        "counter_": of_each(r'not_sent\(\d+, "(\w+)"\)', acts)
-        | of_each(r'b"counter (\w+)\\n", 503', routes),
+        "counter_": of_each(r'not_sent\(\d+, "(\w+)"\)', acts + routes),
         "link_": (of_each(r'"(\w+)"', link) | of_each(r"return '(\w+)'", known)) - {"up"},
     }
 

@@ -9,16 +9,19 @@ import re
 import urllib.parse
 from collections import Counter
 from collections.abc import AsyncIterator, Awaitable, Callable, Iterable, Mapping
-from dataclasses import dataclass
+from dataclasses import dataclass, replace
 from typing import ParamSpec
 
 from weighbridge_paper.text import NoText, read_text
 from weighbridge_paper.words import FREE_LINES
 
+from .bodies import bad_field
 from .fanout import Turn
 from .files import Files, NoFile, tell
 from .once import Once, Withdrawal
-from .office import NoAnswer, Office
+from .office import Answer, NoAnswer, Office
+from .refusals import Refusal, refusal_in
+from .repeats import Repeats
 from .terminal import NotSent, Terminal, Unanswered
 
 ACT_FILE = "act.json"
@@ -41,18 +44,31 @@ NOT_OPEN = b"refused 13 "
 
 @dataclass(frozen=True)
 class Told:
-    """What is answered to who asked. `is_sent` is False if it is certain that nothing went to the office."""
+    """What is answered to who asked. `is_sent` is False if it is certain that nothing went to the office.
+
+    `is_repeated` says whether the answer was given before, and is None if nobody knows.
+    """
 
     status: int
     body: bytes
     is_sent: bool = True
+    refusal: Refusal | None = None
+    is_repeated: bool | None = None
+
+
+def own(status: int, name: str) -> Told:
+    """Return a refusal of the counter's own."""
+    return Told(status, f"counter {name}\n".encode(), refusal=Refusal(name, field=FIELDS.get(name)))
 
 
 def not_sent(status: int, name: str) -> Told:
-    return Told(status, f"counter {name}\n".encode(), is_sent=False)
+    """Return a refusal of the counter's own, before which nothing went to the office. It is of this request, so it wasn't given before."""
+    return replace(own(status, name), is_sent=False, is_repeated=False)
 
 
-NO_ANSWER = Told(502, b"counter no_answer\n")
+# The fields that some of its refusals are about.
+FIELDS = {"bad_tare": "tare", "tare_refused": "tare", "bad_at": "at", "bad_once": "once"}
+NO_ANSWER = own(502, "no_answer")
 
 
 class Busy(Exception):
@@ -81,9 +97,10 @@ class Acts:
         interval: int,
         counts: Counter[str],
         once: Once | None = None,
+        repeats: Repeats | None = None,
     ) -> None:
-        """`once` has the vehicles that are weighed once. Without it such a weighing is refused."""
-        self.once = once
+        """`once` has the vehicles that are weighed once. Without it such a weighing is refused. Without `repeats` nobody knows what was answered before."""
+        self.once, self.repeats = once, repeats
         self.step_of: Callable[[str], Withdrawal | None] = lambda key: None
         self.terminal, self.office, self.files, self.interval, self.counts = (
             terminal,
@@ -157,6 +174,8 @@ class Acts:
         return not_sent(503, "late") if is_late else None
 
     async def _pass_on(self, target: str, body: bytes, asked: Mapping[str, str]) -> Told:
+        key = asked.get("key", "")
+        before = None if self.repeats is None else self.repeats.sends(key)
         try:
             answer = await self.office.ask("POST", target, body)
         except NoAnswer:
@@ -168,10 +187,23 @@ class Acts:
         )
         self.counts[f"office_{name}"] += 1
         self._tell(self.on_answer, answer.status, answer.text)
+        refusal, is_repeated = self._refusal_of(target, body, answer), None
+        if self.repeats is not None and before is not None:
+            if answer.status == 201:
+                is_repeated = self.repeats.answered(key, before, answer.text)
+            elif refusal is not None:
+                is_repeated = self.repeats.refused(key, before)
         if answer.status == 201:
             for take in self.on_text:
                 self._tell(take, answer.text, asked)
-        return Told(answer.status, answer.body)
+        return Told(answer.status, answer.body, refusal=refusal, is_repeated=is_repeated)
+
+    def _refusal_of(self, target: str, body: bytes, answer: Answer) -> Refusal | None:
+        """Return the refusal that the office answered, with the field that it can't use. Return None if it answered none."""
+        refusal = None if answer.status == 201 else refusal_in(answer.text)
+        if refusal is not None and refusal.name == "bad_field":
+            return replace(refusal, field=bad_field(target, body))
+        return refusal
 
     def _tell(self, take: Callable[P, None], *what: P.args, **more: P.kwargs) -> None:
         """Pass an answer to one of its listeners. If the listener fails, the client still gets the answer."""

@@ -7,6 +7,9 @@ from typing import Any
 
 from aiohttp import web
 
+from .accepts import wants_json
+from .refusals import Refusal
+
 POLICY = (
     "default-src 'none'; script-src 'self'; style-src 'self'; img-src 'self'; connect-src 'self'; "
     "base-uri 'none'; form-action 'none'; frame-ancestors 'none'; require-trusted-types-for 'script'"
@@ -18,6 +21,7 @@ FIELDS = {
     "Referrer-Policy": "no-referrer",
     "Cross-Origin-Resource-Policy": "same-origin",
 }
+PLAIN = "text/plain; charset=utf-8"
 NO_STORE = {"Cache-Control": "no-store", **FIELDS}
 NO_CACHE = {"Cache-Control": "no-cache", **FIELDS}
 
@@ -26,12 +30,25 @@ def as_json(what: Any, status: int = 200) -> web.Response:
     return web.json_response(what, status=status, headers=NO_STORE)
 
 
-def as_text(
-    body: bytes, status: int, kind: str = "text/plain; charset=utf-8", **fields: str
-) -> web.Response:
+def as_text(body: bytes, status: int, kind: str = PLAIN, **fields: str) -> web.Response:
     return web.Response(
         status=status, body=body, headers={"Content-Type": kind, **NO_STORE, **fields}
     )
+
+
+def asks_for_json(request: web.Request) -> bool:
+    return wants_json(request.headers.getall("Accept", []))
+
+
+def refused(
+    request: web.Request, status: int, refusal: Refusal, body: bytes, **fields: str
+) -> web.Response:
+    """Return a refusal: its text, or its JSON if the client asks for that. Both say when to ask again."""
+    if not asks_for_json(request):
+        return as_text(body, status, **refusal.fields(), **fields)
+    response = as_json(refusal.shown(), status)
+    response.headers.update({**refusal.fields(), **fields})
+    return response
 
 
 def file_of(request: web.Request, path: Path) -> web.Response:

@@ -11,6 +11,7 @@ from collections.abc import Callable, Mapping, Set
 from weighbridge_paper.export import NoExport
 from weighbridge_paper.text import NoText, Text, read_text
 
+from . import repeats
 from .given import Given
 from .journal import SHORTER, Journal, Known, changed_by, why_another
 from .lists import Lists
@@ -56,6 +57,13 @@ class Books:
 
     def is_whole(self) -> bool:
         return self.lists.is_whole and not self.wants_export
+
+    def known_of(self, key: str) -> repeats.Known:
+        """Return what the lists know of a key and of the newest entry."""
+        number = self.lists.number_of_key(key)
+        digest = None if number is None else self.lists.digest_of(number)
+        is_all = self.lists.is_of_export and self.is_whole()
+        return repeats.Known(digest, self.lists.last if is_all else None)
 
     # ---- what passes
 

@@ -15,8 +15,10 @@ from typing import Any
 from aiohttp import web
 from aiohttp.http_exceptions import HttpProcessingError
 
+from .answers import refused
 from .files import tell
 from .places import Client, Doing, Lines, Places
+from .refusals import Refusal
 
 WAITING = 512  # connections that the system accepts before the counter does
 ACCEPTED_AT_ONCE = 32  # more would take all descriptors, until those that have no place are closed
@@ -147,7 +149,7 @@ class Connection(web.RequestHandler):
         self.client.does(Doing.SENDING_BODY, self.now())
         request.content.on_eof(self.has_body)
         if self.client.is_refused:
-            return too_many()
+            return too_many(request)
         if self.client.ended is not None and self.client.doing is Doing.SENDING_BODY:
             self.force_close()
             raise NotTaken("it ended before the body was whole")
@@ -205,10 +207,10 @@ async def attend(request: web.Request, handler: Handler) -> web.StreamResponse:
     return await request.protocol.attended(request, handler)
 
 
-def too_many() -> web.Response:
+def too_many(request: web.Request) -> web.Response:
     """Return the response to a client for whose connection there is no place."""
-    fields = {"X-Counter": "not_sent", "Retry-After": "1", "Cache-Control": "no-store"}
-    response = web.Response(status=503, text="counter too_many\n", headers=fields)
+    refusal, fields = Refusal("too_many"), {"X-Counter": "not_sent"}
+    response = refused(request, 503, refusal, b"counter too_many\n", **fields)
     response.force_close()
     return response
 

@@ -17,6 +17,7 @@ from .office import NoAnswer, Office
 from .once import Once
 from .pages import FASTEST, SLOWEST, Pages
 from .papers import Printing, papers_of
+from .repeats import Repeats
 from .room import Room, capacity_of, room_of
 from .service import Service, find_service, program_of
 from .setup import Setup
@@ -46,8 +47,12 @@ class Counter:
         self.files = Files(setup.state)
         clock = self.terminal.clock
         self.once = Once(self.files, lambda: self.now().date(), clock) if setup.once else None
+        repeats = Repeats(
+            lambda key: self.books.known_of(key),
+            lambda: datetime.datetime.now(datetime.timezone.utc),
+        )
         self.acts = Acts(
-            self.terminal, self.office, self.files, setup.interval, self.counts, self.once
+            self.terminal, self.office, self.files, setup.interval, self.counts, self.once, repeats
         )
         self.given = Given()
         self.books = Books(self.office, setup.zone, self.counts, Journal(self.files), self.given)
@@ -300,6 +305,7 @@ class Counter:
             "demo": setup.is_demo,
             "demo_page": setup.demo_page,
             "now": self.milliseconds(),
+            "resumed": False,  # whatever Last-Event-ID says: the events of the beginning have all
         }
 
     def tell_state(self) -> None:

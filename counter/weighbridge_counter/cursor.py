@@ -5,7 +5,6 @@ so no entry is skipped.
 """
 
 import bisect
-import datetime
 import itertools
 import re
 from collections.abc import Iterable
@@ -13,6 +12,7 @@ from dataclasses import dataclass
 from typing import Any, Protocol
 
 from .lists import Lists
+from .shown import moment_shown, weighing_shown
 from .today import direction_of
 
 USUAL_LIMIT, MOST = 100, 1000
@@ -107,17 +107,9 @@ def entry_of(lists: Lists, number: int) -> dict[str, Any] | None:
     if own is None:
         return None
     return {
-        "number": number,
+        **weighing_shown(own),
         "key": lists.key_of(number),
-        "kind": entry.kind,
         "plate": entry.plate,
-        "at": shown(entry.at),
-        "gross_kg": entry.gross,
-        "preset_kg": entry.preset,
-        "interval_kg": own.interval,
-        "max_kg": own.max,
-        "serial": own.serial,
-        "digest": own.digest,
         "sound": lists.is_sound(number),
         "first": lists.partner.get(number),
         "net_kg": lists.net_of(number),
@@ -138,7 +130,7 @@ def ticket_of(lists: Lists, number: int) -> dict[str, Any] | None:
         "number": number,
         "kind": "preset" if entry.kind == "single" else "pair",
         "plate": entry.plate,
-        "at": shown(entry.at),
+        "at": moment_shown(entry.at),
         "gross_kg": weights[-1] if len(weights) == 2 else None,
         "tare_kg": weights[0] if len(weights) == 2 else None,
         "net_kg": lists.net_of(number),
@@ -147,7 +139,3 @@ def ticket_of(lists: Lists, number: int) -> dict[str, Any] | None:
         "sound": len(weights) == 2 and all(it["sound"] for it in parts),
         "weighings": parts,
     }
-
-
-def shown(moment: datetime.datetime) -> str:
-    return moment.strftime("%Y-%m-%dT%H:%M:%SZ")

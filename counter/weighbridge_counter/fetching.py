@@ -10,8 +10,7 @@ from .answers import as_json, with_tag
 from .counter import Counter
 from .cursor import Asked, BadField, asked_of, entries_after, tickets_after
 from .lists import Lists
-
-AGAIN_AFTER = "1"  # seconds: the lists have no export yet
+from .refusals import Refusal
 
 
 class InTurn(Protocol):
@@ -49,13 +48,17 @@ class Fetching:
         try:
             asked = asked_of(request.query)
         except BadField as fault:
-            return as_json({"why": fault.why, "field": fault.field}, 422)
+            refusal = Refusal("bad_value", field=fault.field)
+            return as_json({"why": fault.why, **refusal.shown()}, 422)
         if not books.lists.is_of_export:
-            response = as_json({"why": "no_export"}, 503)
-            response.headers["Retry-After"] = AGAIN_AFTER
+            refusal = Refusal("no_export")
+            response = as_json({"why": refusal.name, **refusal.shown()}, 503)
+            response.headers.update(refusal.fields())
             return response
         if asked.journal not in (None, books.journal.identifier):
-            return as_json({"why": "other_journal", "journal": books.journal.identifier}, 409)
+            refusal, identifier = Refusal("other_journal"), books.journal.identifier
+            shown = {"why": refusal.name, "journal": identifier, **refusal.shown()}
+            return as_json(shown, 409)
 
         def found() -> dict[str, Any]:
             return {

@@ -29,6 +29,7 @@ class Lists:
         self.texts: dict[int, Text] = {}  # as they passed
         self.places: dict[int, int] = {}  # of each text among all that passed
         self.keys: dict[int, str] = {}  # of the texts that passed
+        self.by_key: dict[str, int] = {}
         self.closed: dict[int, int] = {}  # by a First: the entry that closed it
         # the keys of the Firsts of vehicles that are weighed once
         self.once: Callable[[], Set[str]] = frozenset
@@ -55,6 +56,7 @@ class Lists:
             if not made.rows:
                 made.complete = row.number - 1  # earlier ones were purged
             made.rows[row.number] = row
+            made.by_key.setdefault(row.key, row.number)
             made._take(entry_of_row(row))
         made.first = min(made.rows, default=None)
         made.is_whole = made.is_of_export = True
@@ -85,6 +87,7 @@ class Lists:
             if number in self.rows and self.rows[number].digest == text.own.digest:
                 self.texts[number], self.places[number] = text, older.places[number]
                 self.keys[number] = older.keys[number]
+                self.by_key[self.keys[number]] = number
 
     def passed_since(self, place: int) -> list[tuple[int, Text]]:
         """Return the texts that passed after a place, each with its own place, in the order in which they passed."""
@@ -110,6 +113,8 @@ class Lists:
         entry = entry_of_text(text)
         self.texts[entry.number], self.places[entry.number] = text, place
         self.keys[entry.number] = key
+        if key:
+            self.by_key[key] = entry.number
         while len(self.texts) > MOST_TEXTS:
             oldest = next(iter(self.texts))
             del self.texts[oldest], self.places[oldest], self.keys[oldest]
@@ -191,8 +196,7 @@ class Lists:
 
     def number_of_key(self, key: str) -> int | None:
         """Return the number of the entry with a key, as the export and the texts since have it."""
-        passed = (number for number, it in self.keys.items() if it == key)
-        return next(passed, next((it for it, row in self.rows.items() if row.key == key), None))
+        return self.by_key.get(key)
 
     def is_once(self, number: int) -> bool:
         """Return whether an entry is the First of a vehicle that is weighed once, or its Void."""

@@ -6,18 +6,22 @@ import json
 import socket
 import sys
 import urllib.parse
-from collections.abc import Awaitable, Callable
+from collections.abc import Awaitable, Callable, Mapping
+from dataclasses import dataclass
 from pathlib import Path
-from typing import TypeVar
+from typing import Any, TypeVar
 
 from aiohttp import web
+from aiohttp.http import StreamWriter
 from aiohttp.http_exceptions import HttpProcessingError
 
 from weighbridge_paper.export import NoExport, has_key
 from weighbridge_paper.text import NoText
 from weighbridge_paper.words import FREE_LINES
 
-from .answers import NO_STORE, as_json, as_text, file_of
+from .acts import NO_ANSWER, Told, not_sent, own
+from .answers import NO_STORE, PLAIN, as_json, as_text, asks_for_json, file_of, refused
+from .bodies import FIELDS, MALFORMED, BadBody, form_of
 from .counter import Counter
 from .fetching import Fetching
 from .files import NoFile
@@ -25,6 +29,8 @@ from .health import health_of
 from .metrics import TEXT_FORM, metrics_of
 from .office import Answer, NoAnswer
 from .pages import Page, frame_of
+from .refusals import Refusal, catalogue, refusal_in
+from .shown import NotUnderstood, indication_shown, text_shown
 from .tares import BadTare
 from .terminal import NotSent, Unanswered
 from .today import table_of, whole_day_of
@@ -35,13 +41,78 @@ LOOK_AT_SLOW_PAGE_EVERY = 0.05  # seconds
 READS_NOTHING = 5.0  # seconds: a page that takes nothing for so long is closed, and begins anew
 MOST_ASKING = 4  # of the office's places
 UNDER_WAY_FOR = 30.0  # seconds: longer than the office is waited for
+SAFE = ("GET", "HEAD")  # methods that change nothing
+NOT_SENT = {"X-Counter": "not_sent"}
+NOT_SAID: dict[str, object] = {"said": None}
+REPEATED: Mapping[bool | None, Mapping[str, str]] = {
+    True: {"Idempotency-Replayed": "true"},
+    False: {"Idempotency-Replayed": "false"},
+    None: {},
+}
+FAULTS = {404: "no_route", 405: "wrong_method", 413: "too_large"}
 T = TypeVar("T")
 Handler = Callable[[web.Request], Awaitable[web.StreamResponse]]
+
+
+def fault(request: web.Request, status: int, refusal: Refusal, **fields: str) -> web.StreamResponse:
+    """Return a fault of a request."""
+    body = f"fault {status} {refusal.name}\n".encode()
+    return refused(request, status, refusal, body, **fields)
+
+
+def not_known(request: web.Request, status: int, refusal: Refusal) -> web.StreamResponse:
+    """Return that nobody knows if an entry has a key, with the reason if the client asks for JSON."""
+    response = as_json(
+        {"found": None, **(refusal.shown() if asks_for_json(request) else {})}, status
+    )
+    response.headers.update(refusal.fields())
+    return response
+
+
+def not_done(
+    request: web.Request, status: int, what: Mapping[str, object], refusal: Refusal
+) -> web.StreamResponse:
+    """Return why a wish isn't carried out. If the client asks for JSON, the answer has the names of a refusal too."""
+    response = as_json({**what, **(refusal.shown() if asks_for_json(request) else {})}, status)
+    response.headers.update(refusal.fields())
+    return response
+
+
+def no_file(request: web.Request) -> web.StreamResponse:
+    return not_done(request, 503, {"why": "no_file"}, Refusal("no_file"))
+
+
+@dataclass(frozen=True)
+class Found:
+    """The text of an entry, with where it is from, or why there is none."""
+
+    status: int
+    text: str | None = None
+    source: str = ""
+    why: str = ""
+    refusal: Refusal | None = None
+
+    def shown(self) -> dict[str, str]:
+        return {"why": self.why} if self.text is None else {"text": self.text, "from": self.source}
+
+    def answered(self, request: web.Request) -> web.StreamResponse:
+        """Return why there is no text."""
+        refusal = self.refusal or Refusal("no_answer")
+        return not_done(request, self.status, self.shown(), refusal)
+
+
+DAMAGED = Found(409, why="refused 17 damaged", refusal=Refusal("damaged", 17))
+
+
+def allowed(it: web.HTTPException) -> dict[str, str]:
+    """Return the field that names the methods of a route, which RFC 9110 wants with 405."""
+    return {"Allow": it.headers["Allow"]} if "Allow" in it.headers else {}
 
 
 class Routes:
     def __init__(self, counter: Counter, folder: Path) -> None:
         self.counter, self.folder = counter, folder
+        catalogue()  # so that a counter without its file doesn't start
         self.hosts = {"127.0.0.1", "localhost", counter.setup.listen[0], *counter.setup.hosts}
         self.asking, self.thinking = asyncio.Semaphore(MOST_ASKING), asyncio.Lock()
 
@@ -96,40 +167,43 @@ class Routes:
         host = request.headers.get("Host", "")
         origin = request.headers.get("Origin")
         if host.rpartition(":")[0] not in self.hosts and host not in self.hosts:
-            return as_text(b"counter other_host\n", 421)
+            return self.told(request, own(421, "other_host"))
         site = request.headers.get("Sec-Fetch-Site", "none")
         if (site not in ("none", "same-origin") and not self.is_link_of_demo(request)) or (
             origin is not None and origin.partition("://")[2] != host
         ):
-            return as_text(b"counter other_site\n", 403)
-        if request.method != "GET" and self.counter.terminal.is_in_doubt():
-            return as_text(b"counter late\n", 503, **{"X-Counter": "not_sent"})
+            return self.told(request, own(403, "other_site"))
+        if request.method not in SAFE and self.counter.terminal.is_in_doubt():
+            return self.told(request, not_sent(503, "late"))
         try:
             return await handler(request)
         except NoFile:
-            return as_json({"why": "no_file"}, 503)
+            return no_file(request)
         except ConnectionError:
             raise  # the client's connection is cut
+        except BadBody as bad:
+            return fault(request, bad.status, bad.refusal, **NOT_SENT)
         except (web.RequestPayloadError, HttpProcessingError):
-            return as_text(b"fault 400 malformed\n", 400)
+            return fault(request, 400, MALFORMED)
         except OSError:
             if not request.path.startswith(("/papers", "/jobs", "/entries")):
                 raise
-            return as_json({"why": "no_file"}, 503)
-        except web.HTTPException as fault:
-            name = {404: "no_route", 405: "wrong_method", 413: "too_large"}.get(
-                fault.status, "malformed"
-            )
-            return as_text(f"fault {fault.status} {name}\n".encode(), fault.status)
+            return no_file(request)
+        except web.HTTPException as it:
+            name = FAULTS.get(it.status, "malformed")
+            # a key in another form is no route of its own
+            is_key = name == "no_route" and request.path.startswith("/keys/")
+            field = "key" if is_key else None
+            return fault(request, it.status, Refusal(name, field=field), **allowed(it))
         except (
             Exception
-        ) as fault:  # a line for each, and no control characters: who sends such requests fills no log by them
+        ) as it:  # a line for each, and no control characters: who sends such requests fills no log by them
             print(
-                f"counter: {request.method} {request.rel_url.raw_path[:100]}: {repr(fault)[:200]}",
+                f"counter: {request.method} {request.rel_url.raw_path[:100]}: {repr(it)[:200]}",
                 file=sys.stderr,
                 flush=True,
             )
-            return as_text(b"fault 500 internal\n", 500)
+            return fault(request, 500, Refusal("internal"))
 
     def is_link_of_demo(self, request: web.Request) -> bool:
         """Return True if somebody follows a link of the played bridge's page, which has another port of this machine, to the clerk's page."""
@@ -161,7 +235,11 @@ class Routes:
         response = web.StreamResponse(
             headers={"Content-Type": "text/event-stream", "X-Accel-Buffering": "no", **NO_STORE}
         )
-        await response.prepare(request)
+        writer = await response.prepare(request)
+        if request.method == "HEAD":
+            if isinstance(writer, StreamWriter):
+                writer.chunked = False  # aiohttp would end chunks that never began
+            return response
         transport = request.transport
         if transport is None:
             return response
@@ -205,10 +283,32 @@ class Routes:
     # ---- weighings
 
     async def weigh(self, request: web.Request) -> web.StreamResponse:
-        told = await self.counter.acts.carry_out(request.path, await request.read())
-        return as_text(
-            told.body, told.status, **({} if told.is_sent else {"X-Counter": "not_sent"})
-        )
+        form = form_of(request.content_type, await request.read(), FIELDS[request.path])
+        told = await self.counter.acts.carry_out(request.path, form)
+        fields = REPEATED[told.is_repeated]
+        return self.told(request, told, text_shown, **fields)
+
+    def told(
+        self,
+        request: web.Request,
+        told: Told,
+        show: Callable[[str], dict[str, Any]] = text_shown,
+        kind: str = PLAIN,
+        **fields: str,
+    ) -> web.StreamResponse:
+        """Return an answer: its text byte for byte, or its JSON if the client asks for that, as `show` makes it."""
+        fields |= {} if told.is_sent else NOT_SENT
+        if told.refusal is not None:
+            return refused(request, told.status, told.refusal, told.body, **fields)
+        if not asks_for_json(request):
+            return as_text(told.body, told.status, kind, **fields)
+        try:
+            response = as_json(show(told.body.decode("utf-8")), told.status)
+        except (UnicodeDecodeError, NoText, NotUnderstood):
+            # what answered isn't the office
+            return self.told(request, NO_ANSWER)
+        response.headers.update(fields)
+        return response
 
     async def in_turn(self, think: Callable[[], T]) -> T:
         """What takes milliseconds is done once between two looks at what came, so that no weight waits for many of it."""
@@ -226,47 +326,56 @@ class Routes:
             # as it was written: request.path has %0D%0A as an end of a line
             answer = await self.ask_office(request.rel_url.raw_path)
         except NoAnswer:
-            return as_text(b"counter no_answer\n", 502)
-        return as_text(answer.body, answer.status, answer.kind)
+            return self.told(request, NO_ANSWER)
+        refusal = None if answer.status == 200 else refusal_in(answer.text)
+        told = Told(answer.status, answer.body, refusal=refusal)
+        show = indication_shown if request.path == "/indication" else text_shown
+        return self.told(request, told, show, answer.kind)
 
     # ---- the terminal
 
     async def zero(self, request: web.Request) -> web.StreamResponse:
         return await self.said(
-            lambda: self.counter.set_zero(request.headers.get("X-Remote-User", ""))
+            request, lambda: self.counter.set_zero(request.headers.get("X-Remote-User", ""))
         )
 
     async def clear_tare(self, request: web.Request) -> web.StreamResponse:
-        return await self.said(self.counter.clear_tare)
+        return await self.said(request, self.counter.clear_tare)
 
-    async def said(self, command: Callable[[], Awaitable[str]]) -> web.StreamResponse:
+    async def said(
+        self, request: web.Request, command: Callable[[], Awaitable[str]]
+    ) -> web.StreamResponse:
         try:
             return as_json({"said": await command()})
         except NotSent:
-            return as_json({"said": None, "why": "not_sent"}, 503)
+            return not_done(request, 503, NOT_SAID | {"why": "not_sent"}, Refusal("not_sent"))
         except Unanswered:
-            return as_json({"said": None, "why": "unanswered"}, 504)
+            return not_done(request, 504, NOT_SAID | {"why": "unanswered"}, Refusal("unanswered"))
 
     # ---- entries
 
     async def entry(self, request: web.Request) -> web.StreamResponse:
-        return as_json(*await self.text_of(int(request.match_info["number"])))
+        found = await self.text_of(int(request.match_info["number"]))
+        if not asks_for_json(request):
+            return as_json(found.shown(), found.status)
+        told = Told(found.status, (found.text or "").encode(), refusal=found.refusal)
+        return self.told(request, told, lambda it: {**text_shown(it), "from": found.source})
 
-    async def text_of(self, number: int) -> tuple[dict[str, str], int]:
-        """The text of an entry: of a ticket as the office gives it now, of a slip as it passed or as its row's digest proves it. Without one, why, and a status."""
+    async def text_of(self, number: int) -> Found:
+        """Return the text of an entry: of a ticket as the office gives it now, of a slip as it passed or as its row's digest proves it."""
         known = self.counter.books.lists.entries.get(number)
         if known is None or known.kind in ("second", "single"):
             try:
                 answer = await self.ask_office(f"/tickets/{number}")
             except NoAnswer:
-                return {"why": "no_answer"}, 502
+                return Found(502, why="no_answer", refusal=NO_ANSWER.refusal)
             if answer.status == 200:
-                return {"text": answer.text, "from": "office"}, 200
-            return {"why": answer.text.strip()}, answer.status
+                return Found(200, answer.text, "office")
+            return Found(answer.status, why=answer.text.strip(), refusal=refusal_in(answer.text))
         found = self.counter.books.lists.slip_again(number)
         if found is None or found[0] is None:
-            return {"why": "refused 17 damaged"}, 409
-        return {"text": found[0], "from": found[1]}, 200
+            return DAMAGED
+        return Found(200, found[0], found[1])
 
     async def give(self, request: web.Request) -> web.StreamResponse:
         """Change what stands on an entry's paper besides its text. A line that the body doesn't have stays, and an empty one goes."""
@@ -278,21 +387,23 @@ class Routes:
             if not isinstance(wish, dict) or not is_text or set(wish) != set(fields):
                 raise ValueError
         except (ValueError, TypeError, RecursionError):
-            return as_json({"why": f"send texts, by the names {', '.join(FREE_LINES)}"}, 422)
+            why = {"why": f"send texts, by the names {', '.join(FREE_LINES)}"}
+            return not_done(request, 422, why, Refusal("bad_value"))
         if letters := self.counter.printing.unprintable(fields):
-            return as_json({"why": "unprintable", "letters": letters}, 422)
-        found, status = await self.text_to_print(number)
-        if status != 200:
-            return as_json(found, status)
+            unprintable = {"why": "unprintable", "letters": letters}
+            return not_done(request, 422, unprintable, Refusal("unprintable"))
+        found = await self.text_to_print(number)
+        if found.text is None:
+            return found.answered(request)
         entry = self.counter.books.lists.entries.get(number)
         if entry is None or entry.kind == "void":
-            return as_json({"why": "void"}, 409)
+            return not_done(request, 409, {"why": "void"}, Refusal("is_void"))
         try:
-            lines = await self.counter.give(number, found["text"], fields)
+            lines = await self.counter.give(number, found.text, fields)
         except NoText:
-            return as_json({"why": "refused 17 damaged"}, 409)
+            return DAMAGED.answered(request)
         if lines is None:
-            return as_json({"why": "printed"}, 409)
+            return not_done(request, 409, {"why": "printed"}, Refusal("printed"))
         return as_json({"given": dict(lines)})
 
     # ---- papers
@@ -302,38 +413,38 @@ class Routes:
 
     async def print_paper(self, request: web.Request) -> web.StreamResponse:
         """Puts a paper of an entry to a printer: the one that the form names, else the one that prints by itself, else the first."""
-        form = dict(urllib.parse.parse_qsl((await request.read()).decode("latin-1")))
+        body = form_of(request.content_type, await request.read(), FIELDS["/papers"])
+        form = dict(urllib.parse.parse_qsl(body.decode("latin-1")))
         papers = self.counter.printing.papers
         names = [form.get("printer"), papers.by_itself, *(it.name for it in papers.printers)]
         printer = next((it for it in names if it), "")
         if papers.printer(printer) is None:
-            return as_json({"why": "no_printer"}, 422)
-        found, status = await self.text_to_print(int(request.match_info["number"]))
+            refusal = Refusal("no_printer", field="printer")
+            return not_done(request, 422, {"why": "no_printer"}, refusal)
+        found = await self.text_to_print(int(request.match_info["number"]))
+        if found.text is None:
+            return found.answered(request)
         try:
-            return (
-                as_json({"job": await self.counter.printing.print(found["text"], printer)}, 202)
-                if status == 200
-                else as_json(found, status)
-            )
+            return as_json({"job": await self.counter.printing.print(found.text, printer)}, 202)
         except NoText:
-            return as_json({"why": "refused 17 damaged"}, 409)
+            return DAMAGED.answered(request)
 
-    async def text_to_print(self, number: int) -> tuple[dict[str, str], int]:
+    async def text_to_print(self, number: int) -> Found:
         """As it passed, if it did: so a paper needs no office."""
         passed = self.counter.books.lists.texts.get(number)
-        return ({"text": passed.letters}, 200) if passed is not None else await self.text_of(number)
+        if passed is not None:
+            return Found(200, passed.letters, "passed")
+        return await self.text_of(number)
 
     async def paper_for_browser(self, request: web.Request) -> web.StreamResponse:
         """What the page prints itself, noted as printed."""
-        found, status = await self.text_to_print(int(request.match_info["number"]))
+        found = await self.text_to_print(int(request.match_info["number"]))
+        if found.text is None:
+            return found.answered(request)
         try:
-            return (
-                as_json(await self.counter.printing.for_browser(found["text"]))
-                if status == 200
-                else as_json(found, status)
-            )
+            return as_json(await self.counter.printing.for_browser(found.text))
         except NoText:
-            return as_json({"why": "refused 17 damaged"}, 409)
+            return DAMAGED.answered(request)
 
     async def printable(self, request: web.Request) -> web.StreamResponse:
         """Answer with the letters of goods, order and driver that a printer can't print."""
@@ -372,15 +483,15 @@ class Routes:
         """
         under_way = set(self.counter.acts.tasks)
         if under_way and (await asyncio.wait(under_way, timeout=UNDER_WAY_FOR))[1]:
-            return as_json({"found": None}, 503)
+            return not_known(request, 503, Refusal("busy"))
         try:
             answer, _ = await self.counter.books.export_of_now()
             if answer.status != 200:
-                return as_json({"found": None}, 503)
+                return not_known(request, 503, refusal_in(answer.text) or Refusal("no_answer"))
             look = functools.partial(has_key, answer.text, request.match_info["key"])
             return as_json({"found": await asyncio.get_running_loop().run_in_executor(None, look)})
         except (NoAnswer, NoExport):
-            return as_json({"found": None}, 502)
+            return not_known(request, 502, Refusal("no_answer"))
 
     async def refresh(self, request: web.Request) -> web.StreamResponse:
         self.counter.books.wants_export = True
@@ -407,9 +518,10 @@ class Routes:
                 request.match_info["plate"], wish["kg"], request.headers.get("X-Remote-User", "")
             )
         except (ValueError, KeyError, TypeError, RecursionError):
-            return as_json({"why": 'send {"kg": a whole number}'}, 422)
-        except BadTare as fault:
-            return as_json({"why": str(fault)}, 422)
+            why = {"why": 'send {"kg": a whole number}'}
+            return not_done(request, 422, why, Refusal("bad_value", field="kg"))
+        except BadTare as bad:
+            return not_done(request, 422, {"why": str(bad)}, Refusal("bad_value"))
         return as_json({})
 
     async def drop_tare(self, request: web.Request) -> web.StreamResponse:
