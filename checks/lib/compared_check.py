@@ -1,6 +1,6 @@
 #!/usr/bin/python3
-"""Stands in the place of the built program for checks/agreement. It runs the program, and before a `check --file` it compares the program's verdict about a
-copy of the journal with the second verifier's. @program@ is the program, @folder@ has the verifier and gets the verdicts."""
+"""Replaces the built program for checks/agreement. It runs the program. Before a `check --file`, it compares the program's verdict about a copy of the journal
+with the second verifier's. @program@ is the program, and @folder@ has the verifier and gets the verdicts."""
 
 import fcntl
 import json
@@ -11,7 +11,7 @@ import sys
 import tempfile
 
 PROGRAM, FOLDER, LIB = "@program@", "@folder@", "@lib@"
-# What a verifier needs to judge a journal by itself.
+# The endings of the files that a verifier needs.
 ENDINGS = ("", "-wal", "-newest")
 
 

@@ -1,4 +1,4 @@
-"""What the counter says of an answer that may have been given before: true or false only where it knows."""
+"""Tests of `Idempotency-Replayed`, which is true or false only where the counter knows it."""
 
 import datetime
 import unittest

@@ -26,12 +26,16 @@ from weighbridge_support.world import MOST_OF_A_FILE, Missing, RealWorld  # noqa
 
 NOW = datetime(2026, 12, 1, 7, 0, tzinfo=timezone.utc)
 UUID = "0f5b8a3e-5a0c-4f0e-9d57-3c6f3c1d9b10"
-LOG = """2026-12-01T06:58:01+0000 wb weighbridge[412]: office 127.0.0.1: POST /weighings key K7abc-1: 201 WEIGHING SLIP 124
-2026-12-01T06:58:02+0000 wb weighbridge[412]: office 127.0.0.1: POST /weighings key 20261201: 409 refused 8 below_min
-2026-12-01T06:58:03+0000 wb weighbridge-counter[500]: counter: GET /keys/0f5b8a3e5a0c4f0e9d573c6f3c1d9b10 404
-2026-12-01T06:58:04+0000 wb weighbridge-counter[500]: counter: plate=AB-12 key=K9 asked by clerk anna@example.com
-2026-12-01T06:58:05+0000 wb weighbridge[412]: no line from the converter for 2.0 s; every reading is lost
-2026-12-01T06:58:06+0000 wb weighbridge-counter[500]: counter: HH-XY-123 was taken from the list, e = 20 kg, serial WB01"""
+LOG = "\n".join(
+    [
+        "2026-12-01T06:58:01+0000 wb weighbridge[412]: office 127.0.0.1: POST /weighings key K7abc-1: 201 WEIGHING SLIP 124",
+        "2026-12-01T06:58:02+0000 wb weighbridge[412]: office 127.0.0.1: POST /weighings key 20261201: 409 refused 8 below_min",
+        "2026-12-01T06:58:03+0000 wb weighbridge-counter[500]: counter: GET /keys/0f5b8a3e5a0c4f0e9d573c6f3c1d9b10 404",
+        "2026-12-01T06:58:04+0000 wb weighbridge-counter[500]: counter: plate=AB-12 key=K9 asked by clerk anna@example.com",
+        "2026-12-01T06:58:05+0000 wb weighbridge[412]: no line from the converter for 2.0 s; every reading is lost",
+        "2026-12-01T06:58:06+0000 wb weighbridge-counter[500]: counter: HH-XY-123 was taken from the list, e = 20 kg, serial WB01",
+    ]
+)
 ALARM_SETUP = """bridge = "WB01"
 counter = "127.0.0.1:882"
 daily = "07:00"
@@ -265,7 +269,7 @@ class OfThisMachine(unittest.TestCase):
         for words, status, says in (
             (["--output", path], 0, f"{path}: written, "),
             (["--output", path], 1, "File exists; name a new file with --output"),
-            (["--output", "-"], 0, "What this bridge says of itself"),
+            (["--output", "-"], 0, "The state of this bridge"),
         ):
             out, err = io.StringIO(), io.StringIO()
             with (

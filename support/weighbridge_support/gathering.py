@@ -1,4 +1,4 @@
-"""The parts of the file. Each is had by itself, so that one that fails takes no other with it."""
+"""The parts of the file. Each is gathered alone, so that one that fails leaves the others whole."""
 
 import json
 import re
@@ -179,7 +179,7 @@ def sizes(world: World, folder: str) -> str:
 def text_of(found: list[Part], begun: str) -> str:
     """Return the whole file."""
     head = [
-        "What this bridge says of itself, for its service company",
+        "The state of this bridge, for its service company",
         f"Made {begun}. Times are in UTC unless a line says otherwise.",
         "Plates, keys, passwords and addresses of persons are replaced by [hidden]. Read it before you send it.",
     ]

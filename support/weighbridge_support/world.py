@@ -21,7 +21,7 @@ class Missing(Exception):
 
 
 class World(Protocol):
-    """What the file is made of."""
+    """The sources of the file."""
 
     def now(self) -> datetime:
         """Return the wall clock, in UTC."""

@@ -1,10 +1,10 @@
-//! What another program set in a database, so that a store can't read it. The kit's SQLite reads UTF-8, and no database with an automatic vacuum. A store
-//! reads no table that has a column with a default.
+//! Settings of a database by which a store can't read it. The kit's SQLite reads only UTF-8, and no database with an automatic vacuum. A store reads no table
+//! that has a column with a default.
 use crate::cause::FileCause;
 use std::fs::File;
 use std::os::unix::fs::FileExt;
 
-/// How many bytes at the begin of the file are inspected: a page of the size that a store makes. The texts of its tables are there.
+/// Number of bytes at the beginning of the file that are inspected: a page of the size that a store makes. It has the texts of the tables.
 const INSPECTED: usize = 4_096;
 
 /// The last byte of the encoding in a database's header: 1 is UTF-8, 2 and 3 are UTF-16, and 0 is a database without a table.

@@ -1,4 +1,4 @@
--- `weighbridge_terminal_take` meets its contract: a walk of its code by hand, since it follows a raw pointer. A null is refused; else the
+-- `weighbridge_terminal_take` meets its contract: a walk of its code by hand, because it follows a raw pointer. A null is refused; else the
 -- terminal is lent for the call of `hear_all`, and comes back at its last value.
 use Rattle.wb_terminal_c.proofs.Steps.{◌≡◌, ℕ, length, List, [], ◌∷◌, ◌++◌, refl, w64, proved, full_share, id⊢, Fml, ftrue, flft, flent, fex, fsep, named, vint, vptr, fact, tables, WpFn, ‵, raw, ◌⊛◌, some, later, at_ret, ◌$◌, ◌∵◌, !, qed, done, by, move, keep, drop, use1, use3, split, join, fsplit, fjoin, fpack, fpick, pick, await, suffices, frame, group, enter, of_opd, lit, bin, addr, stop, no_more, and_then, first, branches, skips, exec, returns, returns_within, alloc_all, pass_all, free_all, look_at, get, through, sets, lands_as, env, Body, lft_new, lft_end, u8, usize, yes, Is, shows, mem, part_at, uint_Makes, uint_Lawful, Ptr, RawPtr, block_ptr, lies_at, rawptr_vals, rawptr_Tells, MutRef, lends_ref, ref_back, plain, nothing, owned, heard, peeks, calls_at, lasts, triple_of, framed, Stays, walk_of, says, stay_dropped, Goes-dropped, ends_at, owns, lit<, ◌<◌, ◌^◌, if_non_null, null_ptr, Testable, tests_null, Logic, sem, SProp, ent, Ura, Model, Wired, Running, Lft, Share}
 use Rattle.wb_instrument.specs.Setup.{Setup}
