@@ -1,4 +1,4 @@
-"""The parts of the file. Each is gathered alone, so that one that fails leaves the others whole."""
+"""The parts of the file. Each is gathered separately, so that one that fails leaves the others whole."""
 
 import json
 import re
