@@ -10,7 +10,10 @@ from dataclasses import dataclass
 from pathlib import Path
 from typing import Any
 
-FILE = Path(__file__).resolve().parent.parent / "refusals.txt"
+HERE = Path(__file__).resolve().parent.parent
+# The package has the catalogue next to its folders, and a checkout has it in the folder of the clients.
+INSTALLED, OF_CLIENTS = HERE / "refusals.txt", HERE.parent / "clients" / "refusals.txt"
+FILE = INSTALLED if INSTALLED.exists() else OF_CLIENTS
 RETRIES = ("never", "later", "after_restart", "with_new_key")
 OFFICE = re.compile(r"(?:refused ([1-9]\d?)|fault ([1-9]\d\d)) ([a-z_]{1,40})\n", re.ASCII)
 
