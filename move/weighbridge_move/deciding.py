@@ -64,6 +64,7 @@ class Seen:
     running: list[str] = field(default_factory=list)  # units
     used: set[str] = field(default_factory=set)  # names that may have been serials
     faults: list[str] = field(default_factory=list)  # of what was read
+    local: str = ""  # the moment of the copy on the clock of this machine, if it isn't in UTC
 
     @property
     def greatest(self) -> int:

@@ -149,11 +149,14 @@ def looked(asked: Asked, seen: Seen, faults: list[str]) -> str:
         lines += ["", "Nothing can be moved yet:", *(f"- {it}" for it in faults)]
         return "\n".join(lines) + "\n"
     newest = seen.copied.greatest
+    after = seen.copy.moment.strftime(MOMENT)
+    if seen.local:
+        after += f" ({seen.local} on the clock of this machine)"
     lines += [
         "",
         "Look for the greatest number on slips and tickets, at the tills and at the head office. Let every vehicle leave the bridge.",
         "",
-        f"If it is {newest}, and it is certain that nothing was stored after {seen.copy.moment.strftime(MOMENT)}, run as root:",
+        f"If it is {newest}, and it is certain that nothing was stored after {after}, run as root:",
         f"  weighbridge-move continue {folder} --last {newest} --nothing-later",
         "",
         "In every other case, agree with the inspector on a serial that was never used, and run as root, with that number:",
