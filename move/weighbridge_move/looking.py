@@ -97,7 +97,8 @@ def of_this_machine(world: World) -> Archive:
         place, one = at(world, path), rule_of(path)
         if os.path.lexists(place) and one is not None:
             data = read_bounded(place, MOST_SETUP)
-            found.members[path] = Member(path, data, one.user, one.group, one.mode, one.package)
+            mode = os.stat(place).st_mode & 0o777
+            found.members[path] = Member(path, data, one.user, one.group, mode, one.package)
     return found
 
 
