@@ -26,7 +26,8 @@ def seen_of(newest: int, greatest: int, other: Copy | None = None) -> Seen:
     copied.is_whole = True
     own = Copy(NIGHT, SOUND, newest, 1)
     found = Found("/", [own] if other is None else [own, other], own)
-    seen = Seen(NOW, True, own, copied, contradicting(found, greatest), plate=PLATE)
+    seen = Seen(NOW, True, own, copied, plate=PLATE)
+    seen.contradicting = contradicting(found, greatest)
     return seen
 
 

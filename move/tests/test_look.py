@@ -63,7 +63,30 @@ class LookTest(MoveCase):
         self.assertEqual(self.move("look DISK"), 1)
         self.assertIn("weighbridge check printed DAMAGED 2", self.said)
         self.assertNotIn("the check says", self.said)
-        self.assertNotIn("newest entry", self.said)
+        self.assertNotIn("newest entry:", self.said)
+
+    def test_the_copies_that_are_there(self) -> None:
+        for hours in range(1, 25):
+            self.make_copy(self.later(-24 * hours))
+        doubtful = os.path.basename(self.make_copy(self.later(2), "doubtful"))
+        self.assertEqual(self.move("look DISK"), 0, self.said)
+        name = os.path.basename(self.copy)
+        self.assertIn(
+            f"copies in {self.bridge}: 26, the newest first\n"
+            f"  {doubtful}  newest entry 124, 2 hours old\n"
+            f"  {name}  newest entry 124, 4 hours old, the newest sound one\n"
+            f"  {name.replace('-30T', '-29T')}  newest entry 124, 28 hours old\n"
+            f"  {name.replace('-30T', '-28T')}  newest entry 124, 2 days old\n",
+            self.said,
+        )
+        self.assertEqual(self.said.count(" old"), 20)
+        self.assertIn("\n  and 6 more\n", self.said)
+
+    def test_the_copy_that_was_given(self) -> None:
+        older = self.make_copy(self.later(-24))
+        self.move(f"look {older}")
+        self.assertIn("28 hours old, the one that was given\n", self.said)
+        self.assertIn("4 hours old\n", self.said)
 
     def test_the_local_time(self) -> None:
         zone = os.environ.get("TZ")

@@ -55,6 +55,7 @@ class Seen:
     is_root: bool
     copy: Copy
     copied: Copied
+    copies: list[Copy] = field(default_factory=list)  # the newest first
     contradicting: list[Copy] = field(default_factory=list)
     archive: Archive | None = None
     archive_path: str | None = None

@@ -32,6 +32,7 @@ def look(asked: Asked, world: World) -> tuple[Found, Seen]:
     found = find(asked.folder)
     copied, faults = examine(found.path, found.chosen, world.programs)
     seen = Seen(world.now(), world.is_root(), found.chosen, copied, faults=faults)
+    seen.copies = found.copies
     local = found.chosen.moment.astimezone()
     seen.local = local.strftime("%H:%M:%S") if local.utcoffset() else ""
     seen.contradicting = contradicting(found, copied.greatest) if copied.is_whole else []
