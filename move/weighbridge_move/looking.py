@@ -19,8 +19,8 @@ UNITS = ("weighbridge", "weighbridge-converter", "weighbridge-counter")
 FOLDER = "/var/lib/weighbridge"
 # Files of this program in the journal's folder, until they are whole.
 STAGED = ".move-"
-# The words of systemd for a unit that doesn't run.
-STOPPED = ("inactive", "failed")
+# The words of systemd for a unit that doesn't run, or isn't installed.
+STOPPED = ("inactive", "failed", "unknown")
 MOST_SETUP = 1 << 20
 
 
