@@ -84,6 +84,20 @@ class ArchiveTest(MoveCase):
         self.assertEqual(self.move(COMMAND), 0, self.faults)
         self.assertEqual(self.owner("etc/weighbridge.conf"), (0, 0, "644"))
 
+    def test_a_file_that_only_root_could_read_stays_so(self) -> None:
+        names = {0o600: "etc/weighbridge-a.conf", 0o640: "etc/weighbridge-b.conf"}
+        with tarfile.open(self.make_archive(), "a") as tar:
+            for mode, name in names.items():
+                self.add(tar, name, b"PGPASSWORD=x\n", mode=mode)
+            self.add(tar, "etc/weighbridge-c.conf", b"x\n", mode=0)
+            self.add(tar, "etc/weighbridge-d.toml", b"", mode=0o600)
+        self.assertEqual(self.move(COMMAND), 0, self.faults)
+        for mode, name in names.items():
+            self.assertEqual(self.owner(name), (0, 0, f"{mode:o}"))
+        self.assertEqual(self.owner("etc/weighbridge-c.conf"), (0, 0, "600"))
+        # the user of a program reads this one
+        self.assertEqual(self.owner("etc/weighbridge-d.toml"), (0, 0, "644"))
+
     def test_a_path_that_is_there_twice(self) -> None:
         self.refuse("etc/weighbridge.conf", "etc/weighbridge.conf: it is there twice")
 

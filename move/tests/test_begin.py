@@ -166,6 +166,20 @@ class BeginTest(MoveCase):
         self.assertNotIn(os.path.basename(self.copy), os.listdir(self.at("srv/kept")))
         self.assertEqual(self.move(COMMAND), 0, self.faults)
 
+    def test_setups_of_this_machine_keep_their_modes(self) -> None:
+        os.unlink(os.path.join(self.disk, "settings-2026-11-20-bridge.tar"))
+        for path, mode in (("etc/weighbridge.conf", 0o600), ("etc/weighbridge-night.toml", 0o640)):
+            self.write(self.at(path), self.settings[path].encode())
+            os.chmod(self.at(path), mode)
+        self.assertEqual(self.move(f"{COMMAND} --no-settings"), 0, self.faults)
+        self.assertEqual(self.owner("etc/weighbridge.conf"), (0, 0, "600"))
+        self.assertEqual(self.owner("etc/weighbridge-night.toml"), (0, 0, "640"))
+        self.assertIn("--serial WB01B ", self.read("etc/weighbridge.conf"))
+        self.assertIn('bridge = "WB01B"', self.read("etc/weighbridge-night.toml"))
+        self.assertIn(
+            "--serial WB01 ", self.read("var/lib/weighbridge-move/before/etc/weighbridge.conf")
+        )
+
     def test_a_second_move_needs_another_serial(self) -> None:
         self.assertEqual(self.move(COMMAND), 0, self.faults)
         self.programs.active.clear()

@@ -1,12 +1,16 @@
 """Shows the program as a person calls it, with the real world's users and files."""
 
+import contextlib
+import io
 import os
 import subprocess
+import sys
 import tempfile
 import unittest
 from unittest import mock
 
 from tests.played import TOP, MoveCase
+from weighbridge_move import __main__ as program
 from weighbridge_move.archive import RULES, is_parent, rule_of, versions_of
 from weighbridge_move.deciding import STEPS, missing, next_step
 from weighbridge_move.editing import NoEdit, edited, plate_of, uses_converter, with_value
@@ -63,6 +67,20 @@ class CommandTest(unittest.TestCase):
         self.assertEqual(status, 1)
         self.assertIn("Nothing can be moved yet", text)
         self.assertNotIn("\x1b", text)
+
+    def test_ctrl_c(self) -> None:
+        stopped = mock.patch("weighbridge_move.__main__.run", side_effect=KeyboardInterrupt)
+        words = mock.patch.object(sys, "argv", ["weighbridge-move", "look", "/x"])
+        said = io.StringIO()
+        with stopped, words, contextlib.redirect_stderr(said):
+            self.assertEqual(program.main(), 1)
+        self.assertIn("it was stopped; run the same command again", said.getvalue())
+
+    def test_where_programs_keep_what_they_need(self) -> None:
+        # a folder of root's own, as libpam-tmpdir makes it, is closed to the service's user
+        with mock.patch.dict(os.environ, {"TMPDIR": "/root"}):
+            ran = RealWorld().programs.run(["/usr/bin/printenv", "TMPDIR"], 20)
+        self.assertEqual(ran.out, "/tmp\n")
 
     def test_the_help_names_each_command(self) -> None:
         status, text = called("--help")

@@ -161,6 +161,14 @@ class ContinueTest(MoveCase):
         self.assertEqual(self.move(COMMAND), 0, self.faults)
         self.assertEqual(self.programs.starts, 1)
 
+    def test_a_unit_that_is_not_installed(self) -> None:
+        self.programs.stopped = "unknown"
+        self.assertEqual(self.move(COMMAND), 0, self.faults)
+
+    def test_a_unit_that_begins(self) -> None:
+        self.programs.stopped = "activating"
+        self.refused(COMMAND, "weighbridge: it runs on this machine")
+
     def test_versions_that_differ_only_if_told(self) -> None:
         self.programs.versions = "weighbridge\t2.1.2\nweighbridge-counter\t2.1.1\n"
         self.refused(COMMAND, "weighbridge: the lost machine had 2.1.1, and this one has 2.1.2")

@@ -22,10 +22,12 @@ def entry(number: int, serial: str = "WB01") -> Entry:
 def seen_of(newest: int, greatest: int, other: Copy | None = None) -> Seen:
     """Return what is found of a copy with this newest entry, whose witness names the greatest number, and of another copy."""
     journal = Journal(1, entry(newest), [], {"WB01"}) if newest else Journal()
-    copied = Copied("/copy", {"journal.db": "d"}, "d", 1, journal.count, journal, greatest)
+    copied = Copied("/copy", entries=journal.count, journal=journal, greatest=greatest)
+    copied.is_whole = True
     own = Copy(NIGHT, SOUND, newest, 1)
     found = Found("/", [own] if other is None else [own, other], own)
-    seen = Seen(NOW, True, own, copied, contradicting(found, greatest), plate=PLATE)
+    seen = Seen(NOW, True, own, copied, plate=PLATE)
+    seen.contradicting = contradicting(found, greatest)
     return seen
 
 

@@ -3,6 +3,7 @@
 import os
 import shutil
 import tarfile
+import time
 import unittest
 from unittest import mock
 
@@ -56,6 +57,57 @@ class LookTest(MoveCase):
         self.assertIn("this one has none", self.said)
         self.assertIn("weighbridge: it runs on this machine", self.said)
         self.assertNotIn("weighbridge-move continue", self.said)
+
+    def test_a_copy_that_failed_is_called_sound_nowhere(self) -> None:
+        self.programs.check = "DAMAGED 2"
+        self.assertEqual(self.move("look DISK"), 1)
+        self.assertIn("weighbridge check printed DAMAGED 2", self.said)
+        self.assertNotIn("the check says", self.said)
+        self.assertNotIn("newest entry:", self.said)
+
+    def test_the_copies_that_are_there(self) -> None:
+        for hours in range(1, 25):
+            self.make_copy(self.later(-24 * hours))
+        doubtful = os.path.basename(self.make_copy(self.later(2), "doubtful"))
+        self.assertEqual(self.move("look DISK"), 0, self.said)
+        name = os.path.basename(self.copy)
+        self.assertIn(
+            f"copies in {self.bridge}: 26, the newest first\n"
+            f"  {doubtful}  newest entry 124, 2 hours old\n"
+            f"  {name}  newest entry 124, 4 hours old, the newest sound one\n"
+            f"  {name.replace('-30T', '-29T')}  newest entry 124, 28 hours old\n"
+            f"  {name.replace('-30T', '-28T')}  newest entry 124, 2 days old\n",
+            self.said,
+        )
+        self.assertEqual(self.said.count(" old"), 20)
+        self.assertIn("\n  and 6 more\n", self.said)
+
+    def test_the_copy_that_was_given(self) -> None:
+        older = self.make_copy(self.later(-24))
+        self.move(f"look {older}")
+        self.assertIn("28 hours old, the one that was given\n", self.said)
+        self.assertIn("4 hours old\n", self.said)
+
+    def test_the_local_time(self) -> None:
+        zone = os.environ.get("TZ")
+        try:
+            os.environ["TZ"] = "Europe/Berlin"
+            time.tzset()
+            self.move("look DISK")
+            self.assertIn(
+                "after 2026-11-30 02:35:12 UTC (03:35:12 on the clock of this machine), run",
+                self.said,
+            )
+            self.world.said.clear()
+            os.environ["TZ"] = "UTC"
+            time.tzset()
+            self.move("look DISK")
+            self.assertIn("after 2026-11-30 02:35:12 UTC, run", self.said)
+        finally:
+            os.environ.pop("TZ")
+            if zone is not None:
+                os.environ["TZ"] = zone
+            time.tzset()
 
     def test_a_serial_that_is_free(self) -> None:
         os.mkdir(os.path.join(self.disk, "WB01B"))
@@ -193,15 +245,21 @@ class CopyTest(MoveCase):
         self.refused(COMMAND, "no copy of the night is there")
 
     def test_a_journal_that_is_not_sound(self) -> None:
-        for said in ("DAMAGED 2", "store 2 disk", "SOUND", "SOUND 7 or so"):
+        for said in ("DAMAGED 2", "store 2 disk", "SOUND", "SOUND 7 or so", " ", "x\nSOUND 7"):
             self.programs.check = said
-            self.refused(COMMAND, f"weighbridge check printed {said}")
+            last = said.strip().splitlines()[-1] if said.strip() else "nothing"
+            self.refused(COMMAND, f"weighbridge check printed {last};")
         self.programs.check = "SOUND 6"
         self.refused(COMMAND, "the check counted 6 entries, and the export has 7")
 
     def test_a_name_that_says_another_number(self) -> None:
         os.rename(self.copy, self.copy.replace("_124_", "_125_"))
         self.refused(COMMAND, "its name says that the newest entry is 125")
+
+    def test_many_files_in_a_copy(self) -> None:
+        for it in range(30):
+            self.write(os.path.join(self.copy, f"f{it}"), b"")
+        self.refused(COMMAND, "it has more than 20 files")
 
     def test_a_huge_copy(self) -> None:
         with mock.patch.object(copied, "MOST_BYTES", 100):

@@ -248,7 +248,11 @@ def main() -> int:
     for it in (sys.stdout, sys.stderr):
         if isinstance(it, io.TextIOWrapper):
             it.reconfigure(errors="backslashreplace")
-    return run(words_of(None), RealWorld())
+    try:
+        return run(words_of(None), RealWorld())
+    except KeyboardInterrupt:
+        fault("it was stopped; run the same command again")
+        return 1
 
 
 if __name__ == "__main__":

@@ -199,7 +199,7 @@ def archive_of(data: bytes, without: frozenset[str]) -> tuple[Archive, list[str]
                 content = file.read() if file is not None else b""
                 if len(content) != it.size:
                     raise tarfile.TarError(f"{name} is cut")
-                faults += add(found, path, content)
+                faults += add(found, path, content, it.mode)
     except (tarfile.TarError, ValueError, OverflowError, EOFError, RecursionError) as error:
         faults.append(
             f"it can't be read as a tar ({printable(str(error))[:200]}); take another archive"
@@ -208,7 +208,7 @@ def archive_of(data: bytes, without: frozenset[str]) -> tuple[Archive, list[str]
     return found, faults
 
 
-def add(found: Archive, path: str, content: bytes) -> list[str]:
+def add(found: Archive, path: str, content: bytes, mode: int) -> list[str]:
     """Add a file, and return its faults."""
     if path == VERSIONS:
         found.versions = versions_of(content.decode("utf-8", "replace"))
@@ -221,5 +221,9 @@ def add(found: Archive, path: str, content: bytes) -> list[str]:
                 return [
                     f"{path}: it has `{wrong}`, which the list of settings doesn't have; {HAND}"
                 ]
-        found.members[path] = Member(path, content, one.user, one.group, one.mode, one.package)
+        wanted = one.mode
+        if path.endswith(".conf"):
+            # only root reads it, for a unit, so what was hidden from others stays so
+            wanted = 0o600 | (one.mode & mode)
+        found.members[path] = Member(path, content, one.user, one.group, wanted, one.package)
     return []

@@ -21,7 +21,7 @@ JOURNAL = "journal.db"
 ENDINGS = ("-newest", "-zero", "", "-wal")
 NEEDED = {f"{JOURNAL}", f"{JOURNAL}-wal", f"{JOURNAL}-newest"}
 KNOWN = NEEDED | {f"{JOURNAL}-zero", "journal.csv", "tickets.csv"}
-MOST_BYTES = 2 << 30
+MOST_BYTES, MOST_FILES = 2 << 30, 20
 OTHER = "take another copy, or call your service company"
 
 
@@ -36,17 +36,17 @@ class Copied:
     entries: int = 0  # that the check counted
     journal: Journal = field(default_factory=Journal)
     greatest: int = 0  # the greatest number that the copy shows, of purged entries too
-
-    @property
-    def is_whole(self) -> bool:
-        return bool(self.sums)
+    is_whole: bool = False  # nothing is wrong with it
 
 
 def sizes_of(path: str) -> dict[str, int]:
     """Return the size of each file of a copy."""
     found = {}
     try:
-        for name in sorted(os.listdir(path)):
+        names = sorted(os.listdir(path))
+        if len(names) > MOST_FILES:
+            raise Fault(f"{path}: it has more than {MOST_FILES} files; {OTHER}")
+        for name in names:
             about = os.lstat(os.path.join(path, name))
             if not stat.S_ISREG(about.st_mode):
                 raise Fault(f"{path}/{printable(name)}: it is no file; {OTHER}")
@@ -93,6 +93,7 @@ def examine(path: str, copy: Copy, programs: Programs) -> tuple[Copied, list[str
         it.entries = sound(os.path.join(path, JOURNAL), [], programs)
         it.journal = exported(path, programs)
         it.greatest = greatest_of(it, copy)
+        it.is_whole = True
     except Fault as why:
         return it, [str(why)]
     except OSError as error:
@@ -105,12 +106,10 @@ def sound(journal: str, before: list[str], programs: Programs) -> int:
     ran = programs.run([*before, WEIGHBRIDGE, "check", "--file", journal], CHECKING)
     found = SOUND_LINE.fullmatch(ran.out.strip())
     if ran.status != 0 or found is None:
-        said = (
-            printable((ran.out + ran.err).strip().splitlines()[-1:][0]) if ran.out + ran.err else ""
-        )
+        said = [one.strip() for one in (ran.out + ran.err).splitlines() if one.strip()]
+        last = printable(said[-1]) if said else "nothing"
         raise Fault(
-            f"{journal}: weighbridge check printed {said or 'nothing'}; {OTHER}, and see"
-            " troubleshooting.md, A damaged journal"
+            f"{journal}: weighbridge check printed {last}; {OTHER}, and see troubleshooting.md, A damaged journal"
         )
     return int(found[1])
 

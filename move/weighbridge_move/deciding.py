@@ -55,6 +55,7 @@ class Seen:
     is_root: bool
     copy: Copy
     copied: Copied
+    copies: list[Copy] = field(default_factory=list)  # the newest first
     contradicting: list[Copy] = field(default_factory=list)
     archive: Archive | None = None
     archive_path: str | None = None
@@ -64,6 +65,7 @@ class Seen:
     running: list[str] = field(default_factory=list)  # units
     used: set[str] = field(default_factory=set)  # names that may have been serials
     faults: list[str] = field(default_factory=list)  # of what was read
+    local: str = ""  # the moment of the copy on the clock of this machine, if it isn't in UTC
 
     @property
     def greatest(self) -> int:

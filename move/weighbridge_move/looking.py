@@ -19,8 +19,8 @@ UNITS = ("weighbridge", "weighbridge-converter", "weighbridge-counter")
 FOLDER = "/var/lib/weighbridge"
 # Files of this program in the journal's folder, until they are whole.
 STAGED = ".move-"
-# The words of systemd for a unit that doesn't run.
-STOPPED = ("inactive", "failed")
+# The words of systemd for a unit that doesn't run, or isn't installed.
+STOPPED = ("inactive", "failed", "unknown")
 MOST_SETUP = 1 << 20
 
 
@@ -32,6 +32,9 @@ def look(asked: Asked, world: World) -> tuple[Found, Seen]:
     found = find(asked.folder)
     copied, faults = examine(found.path, found.chosen, world.programs)
     seen = Seen(world.now(), world.is_root(), found.chosen, copied, faults=faults)
+    seen.copies = found.copies
+    local = found.chosen.moment.astimezone()
+    seen.local = local.strftime("%H:%M:%S") if local.utcoffset() else ""
     seen.contradicting = contradicting(found, copied.greatest) if copied.is_whole else []
     seen.used = {*found.neighbours}
     look_at_settings(asked, found, seen, world)
@@ -95,7 +98,8 @@ def of_this_machine(world: World) -> Archive:
         place, one = at(world, path), rule_of(path)
         if os.path.lexists(place) and one is not None:
             data = read_bounded(place, MOST_SETUP)
-            found.members[path] = Member(path, data, one.user, one.group, one.mode, one.package)
+            mode = os.stat(place).st_mode & 0o777
+            found.members[path] = Member(path, data, one.user, one.group, mode, one.package)
     return found
 
 

@@ -1,12 +1,13 @@
 """The words for the operator and the inspector."""
 
+from weighbridge_night.keep import newest_sound
 from weighbridge_night.programs import printable
 
 from .deciding import BEGIN, MOMENT, Asked, Seen, missing, next_serial
 from .editing import ALARM, COUNTER, NIGHT, PAPER
 from .entries import Entry
 
-MOST_SHOWN = 200
+MOST_SHOWN, MOST_LISTED = 200, 20
 
 
 def standing(entries: list[Entry]) -> list[str]:
@@ -127,10 +128,30 @@ def known(asked: Asked, seen: Seen) -> int | None:
     return max(asked.last or 0, seen.greatest)
 
 
+def listed(seen: Seen) -> list[str]:
+    """Return a line for each copy on the disk."""
+    folder = seen.copied.path.rpartition("/")[0]
+    lines = [f"copies in {folder}: {len(seen.copies)}, the newest first"]
+    own = (
+        "the newest sound one"
+        if seen.copy == newest_sound(seen.copies)
+        else "the one that was given"
+    )
+    for it in seen.copies[:MOST_LISTED]:
+        hours = round((seen.now - it.moment).total_seconds() / 3600)
+        age = f"{counted(hours, 'hour')} old" if hours < 48 else f"{hours // 24} days old"
+        mark = f", {own}" if it == seen.copy else ""
+        lines.append(f"  {it.name}  {it.newest_in_words}, {age}{mark}")
+    if len(seen.copies) > MOST_LISTED:
+        lines.append(f"  and {len(seen.copies) - MOST_LISTED} more")
+    return lines
+
+
 def looked(asked: Asked, seen: Seen, faults: list[str]) -> str:
     """Return what `look` prints."""
     folder = asked.folder
-    lines = facts(seen) if seen.copied.is_whole else [f"copy: {seen.copied.path}"]
+    lines = listed(seen)
+    lines += facts(seen) if seen.copied.is_whole else [f"copy: {seen.copied.path}"]
     if seen.archive is not None:
         lines.append(
             f"settings: {printable(seen.archive_path or 'of this machine')},"
@@ -149,11 +170,14 @@ def looked(asked: Asked, seen: Seen, faults: list[str]) -> str:
         lines += ["", "Nothing can be moved yet:", *(f"- {it}" for it in faults)]
         return "\n".join(lines) + "\n"
     newest = seen.copied.greatest
+    after = seen.copy.moment.strftime(MOMENT)
+    if seen.local:
+        after += f" ({seen.local} on the clock of this machine)"
     lines += [
         "",
         "Look for the greatest number on slips and tickets, at the tills and at the head office. Let every vehicle leave the bridge.",
         "",
-        f"If it is {newest}, and it is certain that nothing was stored after {seen.copy.moment.strftime(MOMENT)}, run as root:",
+        f"If it is {newest}, and it is certain that nothing was stored after {after}, run as root:",
         f"  weighbridge-move continue {folder} --last {newest} --nothing-later",
         "",
         "In every other case, agree with the inspector on a serial that was never used, and run as root, with that number:",

@@ -3,7 +3,6 @@
 import grp
 import os
 import pwd
-import tempfile
 from datetime import datetime, timezone
 from typing import Protocol
 
@@ -12,6 +11,8 @@ from weighbridge_night.programs import Programs, RealPrograms, printable
 
 # The temporary name of a file that isn't whole yet.
 NEW = ".weighbridge-move"
+# The service's user must be able to write there too, when it checks the journal. $TMPDIR of root may be closed to it.
+SCRATCH = "/tmp"
 FULL = "see whether the disk is full"
 
 
@@ -45,7 +46,7 @@ class RealWorld:
     root = "/"
 
     def __init__(self) -> None:
-        self.programs: Programs = RealPrograms(tempfile.gettempdir())
+        self.programs: Programs = RealPrograms(SCRATCH)
 
     def now(self) -> datetime:
         return datetime.now(timezone.utc)
