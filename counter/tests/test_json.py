@@ -344,7 +344,7 @@ class Refused(Asked):
 
 
 class OfThePage(Asked):
-    """The routes that answer JSON in any case have a refusal's names too if JSON is asked for."""
+    """The routes that answer JSON in any case have a refusal's names too for a client that asks for JSON."""
 
     async def refused(
         self, method: str, target: str, path: str, body: bytes, wanted: dict[str, Any], name: str

@@ -1,4 +1,4 @@
-"""What the counter says of an answer that may have been given before: true or false only where it knows."""
+"""The counter says that an answer is repeated, or new, only where it knows it."""
 
 import datetime
 import unittest
