@@ -19,7 +19,6 @@ TABLE = (
     (("application/json, */*",), True),
     (("*/*, application/json",), True),
     (("application/json, text/plain",), False),
-    (("application/json, text/plain, */*",), False),
     (("application/json, text/plain;q=0.9",), True),
     (("application/json;q=0.9, text/plain",), False),
     (("application/json;q=0.9, text/plain;q=0.8",), True),
@@ -35,6 +34,10 @@ TABLE = (
     (("text/*;q=0.9, text/plain;q=0.1, application/json;q=0.5",), True),
     (("*/*;q=0.9, text/*;q=0.1",), True),
     (("text/html, application/json",), True),
+    # what libraries send without a wish of their own: axios, Java and jQuery
+    (("application/json, text/plain, */*",), False),
+    (("text/html, image/gif, image/jpeg, *; q=.2, */*; q=.2",), False),
+    (("application/json, text/javascript, */*; q=0.01",), True),
     (("text/html", "application/json"), True),
     (("text/plain", "application/json;q=0.3"), False),
     (("image/png",), False),
