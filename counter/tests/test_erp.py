@@ -61,6 +61,11 @@ class TheProgram(WithCounter):
         except sqlite3.OperationalError:
             return []  # its tables aren't made yet
 
+    def place(self) -> list[tuple[object, ...]]:
+        """Return what the program sends next: the journal, and the number up to which it has everything."""
+        with contextlib.closing(sqlite3.connect(f"file:{self.path}?mode=ro", uri=True)) as database:
+            return database.execute("SELECT journal, after FROM place").fetchall()
+
     async def single(self, plate: str) -> None:
         await self.drives_on(18340)
         form = f"key={plate}&kind=single&plate={plate}&tare=5000"
@@ -92,6 +97,7 @@ class TheProgram(WithCounter):
         self.counter.books.lists.is_of_export = True
         await self.single("A-4")
         await self.until(lambda: len(self.stored()) == 4)
+        await self.until(lambda: self.place() == [(32 * "a", 4)])
         await self.kill(process)
 
     def test_it_has_at_most_forty_lines(self) -> None:

@@ -230,7 +230,11 @@ class AKeyThatIsKnown(Asked):
         """Return the answer, and what the office was asked for it."""
         self.service.came.clear()
         answer = await self.ask("GET", f"/keys/{key}")
-        of_keys = ("/tickets/2", "/journal.csv")  # and not what the counter asks regularly
+        of_keys = (
+            "/tickets/2",
+            "/tickets/4",
+            "/journal.csv",
+        )  # and not what the counter asks regularly
         return answer.json["found"], [it for _, it, _ in self.service.came if it in of_keys]
 
     async def weighs(self) -> None:
@@ -250,6 +254,11 @@ class AKeyThatIsKnown(Asked):
         await self.weighs()
         for key, is_found in (("K3", True), ("K4", True), ("K9", False)):
             self.assertEqual((is_found, ["/journal.csv"]), await self.asks(key), key)
+
+    async def test_a_row_that_was_changed_shows_nothing(self) -> None:
+        await self.weighs()
+        with mock.patch.object(self.counter.books.lists, "is_sound", lambda number: False):
+            self.assertEqual((True, ["/journal.csv"]), await self.asks("K2"))
 
     async def test_of_another_journal_a_ticket_shows_nothing(self) -> None:
         await self.weighs()
