@@ -62,7 +62,7 @@ class Service(PlayedService):
 class WithCounter(unittest.IsolatedAsyncioTestCase):
     async def asyncSetUp(self) -> None:
         asyncio.get_running_loop().slow_callback_duration = 60
-        folder = tempfile.TemporaryDirectory()
+        folder = tempfile.TemporaryDirectory(ignore_cleanup_errors=True)
         self.addCleanup(folder.cleanup)
         self.service = Service()
         await self.service.start()
@@ -85,6 +85,9 @@ class WithCounter(unittest.IsolatedAsyncioTestCase):
             server.close()
         with contextlib.suppress(asyncio.CancelledError):
             await self.running
+        with contextlib.suppress(asyncio.TimeoutError):
+            # so that no thread writes into the folder that is removed
+            await asyncio.wait_for(self.counter.files.bring(), 5)
 
     async def until(self, is_so: Any, seconds: float = 10.0) -> None:
         for _ in range(int(seconds / 0.01)):

@@ -8,7 +8,8 @@ from weighbridge_counter.repeats import MOST, Known, Repeats
 from weighbridge_paper.text import read_text
 
 from .papers import USUAL
-from .test_cursor import BERLIN, ROWS
+from .test_cursor import ROWS
+from .test_journal import BERLIN
 from .test_lists import export
 
 TEXT = next(it.text for it in USUAL.values() if "SINGLE" in it.text)
