@@ -51,6 +51,8 @@ class Service(PlayedService):
     def judge(self, method: str, target: str, form: dict[str, str]) -> tuple[int, str]:
         self.came.append((method, target, form))
         judged = super().judge(method, target, form)
+        if target == "/indication":
+            self.scale.state = "S"  # so that a load that moves stands still once it is asked for
         if self.is_mute:
             raise OSError
         return judged
@@ -89,7 +91,7 @@ class WithCounter(unittest.IsolatedAsyncioTestCase):
             # so that no thread writes into the folder that is removed
             await asyncio.wait_for(self.counter.files.bring(), 5)
 
-    async def until(self, is_so: Any, seconds: float = 10.0) -> None:
+    async def until(self, is_so: Any, seconds: float = 60.0) -> None:
         for _ in range(int(seconds / 0.01)):
             if is_so():
                 return
@@ -123,7 +125,7 @@ async def asked(
     lines += [f"{name.replace('_', '-')}: {value}" for name, value in fields.items()]
     lines += [] if body is None else [f"Content-Length: {len(body)}"]
     writer.write("\r\n".join([*lines, "", ""]).encode() + (body or b""))
-    head, _, rest = (await asyncio.wait_for(reader.read(), 20)).partition(b"\r\n\r\n")
+    head, _, rest = (await asyncio.wait_for(reader.read(), 60)).partition(b"\r\n\r\n")
     writer.close()
     status, *given = head.decode().split("\r\n")
     pairs = dict(it.split(": ", 1) for it in given)

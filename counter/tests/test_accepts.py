@@ -82,9 +82,9 @@ class Accept(unittest.TestCase):
     def test_a_long_field_takes_no_longer_than_its_length(self) -> None:
         for begin in ("", "application/json", 'a/b;c="'):
             for piece in ('"', '"\\', "\\", "; ", ";c=", " ", "\t;", ",", "a/b;c=d", ';c="d"', "/"):
-                began = time.perf_counter()
+                began = time.process_time()
                 wants_json([begin + piece * (LONG // len(piece)) + "\0"])
-                self.assertLess(time.perf_counter() - began, 0.1, (begin, piece))
+                self.assertLess(time.process_time() - began, 0.1, (begin, piece))
 
 
 if __name__ == "__main__":

@@ -529,7 +529,7 @@ class Heads(Asked):
                     self.assertEqual(got.fields.get(name), head.fields.get(name), (target, name))
 
     async def test_head_of_the_event_stream_ends(self) -> None:
-        head = await asyncio.wait_for(self.ask("HEAD", "/events"), 5)
+        head = await asyncio.wait_for(self.ask("HEAD", "/events"), 30)
         self.assertEqual(
             (200, "text/event-stream", b""), (head.status, head.fields["content-type"], head.body)
         )
@@ -539,7 +539,7 @@ class Heads(Asked):
         reader, writer = await asyncio.open_connection("127.0.0.1", self.port)
         fields = f"Host: 127.0.0.1:{self.port}\r\nLast-Event-ID: 7\r\n"
         writer.write(f"GET /events HTTP/1.1\r\n{fields}\r\n".encode())
-        got = await asyncio.wait_for(reader.readuntil(b"event: state"), 5)
+        got = await asyncio.wait_for(reader.readuntil(b"event: state"), 30)
         writer.close()
         (hello,) = re.findall(rb"event: hello\ndata: (.*)\n", got)
         self.assertIs(False, json.loads(hello)["resumed"])
