@@ -11,6 +11,7 @@ from collections.abc import Iterator, Mapping
 from dataclasses import dataclass
 from pathlib import Path
 from typing import Any
+from unittest import mock
 
 from weighbridge_counter.connections import Connections, listen
 from weighbridge_counter.counter import Counter
@@ -44,7 +45,7 @@ class Service(PlayedService):
     """The played service, which also notes what comes to its office, and can stop to answer."""
 
     def __init__(self) -> None:
-        super().__init__(free_port(), free_port(), pace=50.0)
+        super().__init__(free_port(), free_port(), pace=20.0)
         self.came: list[tuple[str, str, dict[str, str]]] = []
         self.is_mute = False
 
@@ -72,6 +73,10 @@ class WithCounter(unittest.IsolatedAsyncioTestCase):
         setup = Setup(state=Path(folder.name), terminal=terminal, office=office)
         self.counter = Counter(setup, lambda address: None)
         self.addCleanup(self.counter.printing.notes.shutdown)
+        # a busy machine's standstill is none of the counter
+        steady = mock.patch.object(self.counter.terminal, "is_in_doubt", lambda: False)
+        steady.start()
+        self.addCleanup(steady.stop)
         self.connections = Connections(collections.Counter())
         routes = Routes(self.counter, FOLDER)
         self.server = await listen(routes.application(), ("127.0.0.1", 0), self.connections)
