@@ -53,7 +53,7 @@ class Service(PlayedService):
         self.came.append((method, target, form))
         judged = super().judge(method, target, form)
         if target == "/indication":
-            self.scale.state = "S"  # so that a load that moves stands still once it is asked for
+            self.scale.state = "S"  # a load that moves stands still from the next question on
         if self.is_mute:
             raise OSError
         return judged

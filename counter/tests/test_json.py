@@ -227,7 +227,7 @@ class AKeyThatIsKnown(Asked):
     """A ticket that the office has shows that a key is stored, without an export."""
 
     async def asks(self, key: str) -> tuple[object, list[str]]:
-        """Return the answer, and what the office was asked for it."""
+        """Return the answer, and the questions to the office for it."""
         self.service.came.clear()
         answer = await self.ask("GET", f"/keys/{key}")
         of_keys = (
