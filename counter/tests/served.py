@@ -11,6 +11,7 @@ from collections.abc import Iterator, Mapping
 from dataclasses import dataclass
 from pathlib import Path
 from typing import Any
+from unittest import mock
 
 from weighbridge_counter.connections import Connections, listen
 from weighbridge_counter.counter import Counter
@@ -44,13 +45,15 @@ class Service(PlayedService):
     """The played service, which also notes what comes to its office, and can stop to answer."""
 
     def __init__(self) -> None:
-        super().__init__(free_port(), free_port(), pace=50.0)
+        super().__init__(free_port(), free_port(), pace=20.0)
         self.came: list[tuple[str, str, dict[str, str]]] = []
         self.is_mute = False
 
     def judge(self, method: str, target: str, form: dict[str, str]) -> tuple[int, str]:
         self.came.append((method, target, form))
         judged = super().judge(method, target, form)
+        if target == "/indication":
+            self.scale.state = "S"  # a load that moves stands still from the next question on
         if self.is_mute:
             raise OSError
         return judged
@@ -62,7 +65,7 @@ class Service(PlayedService):
 class WithCounter(unittest.IsolatedAsyncioTestCase):
     async def asyncSetUp(self) -> None:
         asyncio.get_running_loop().slow_callback_duration = 60
-        folder = tempfile.TemporaryDirectory()
+        folder = tempfile.TemporaryDirectory(ignore_cleanup_errors=True)
         self.addCleanup(folder.cleanup)
         self.service = Service()
         await self.service.start()
@@ -70,6 +73,10 @@ class WithCounter(unittest.IsolatedAsyncioTestCase):
         setup = Setup(state=Path(folder.name), terminal=terminal, office=office)
         self.counter = Counter(setup, lambda address: None)
         self.addCleanup(self.counter.printing.notes.shutdown)
+        # a busy machine's standstill is none of the counter
+        steady = mock.patch.object(self.counter.terminal, "is_in_doubt", lambda: False)
+        steady.start()
+        self.addCleanup(steady.stop)
         self.connections = Connections(collections.Counter())
         routes = Routes(self.counter, FOLDER)
         self.server = await listen(routes.application(), ("127.0.0.1", 0), self.connections)
@@ -85,8 +92,11 @@ class WithCounter(unittest.IsolatedAsyncioTestCase):
             server.close()
         with contextlib.suppress(asyncio.CancelledError):
             await self.running
+        with contextlib.suppress(asyncio.TimeoutError):
+            # so that no thread writes into the folder that is removed
+            await asyncio.wait_for(self.counter.files.bring(), 5)
 
-    async def until(self, is_so: Any, seconds: float = 10.0) -> None:
+    async def until(self, is_so: Any, seconds: float = 60.0) -> None:
         for _ in range(int(seconds / 0.01)):
             if is_so():
                 return
@@ -120,7 +130,7 @@ async def asked(
     lines += [f"{name.replace('_', '-')}: {value}" for name, value in fields.items()]
     lines += [] if body is None else [f"Content-Length: {len(body)}"]
     writer.write("\r\n".join([*lines, "", ""]).encode() + (body or b""))
-    head, _, rest = (await asyncio.wait_for(reader.read(), 20)).partition(b"\r\n\r\n")
+    head, _, rest = (await asyncio.wait_for(reader.read(), 60)).partition(b"\r\n\r\n")
     writer.close()
     status, *given = head.decode().split("\r\n")
     pairs = dict(it.split(": ", 1) for it in given)

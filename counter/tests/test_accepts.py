@@ -19,7 +19,6 @@ TABLE = (
     (("application/json, */*",), True),
     (("*/*, application/json",), True),
     (("application/json, text/plain",), False),
-    (("application/json, text/plain, */*",), False),
     (("application/json, text/plain;q=0.9",), True),
     (("application/json;q=0.9, text/plain",), False),
     (("application/json;q=0.9, text/plain;q=0.8",), True),
@@ -35,6 +34,10 @@ TABLE = (
     (("text/*;q=0.9, text/plain;q=0.1, application/json;q=0.5",), True),
     (("*/*;q=0.9, text/*;q=0.1",), True),
     (("text/html, application/json",), True),
+    # what libraries send without a wish of their own: axios, Java and jQuery
+    (("application/json, text/plain, */*",), False),
+    (("text/html, image/gif, image/jpeg, *; q=.2, */*; q=.2",), False),
+    (("application/json, text/javascript, */*; q=0.01",), True),
     (("text/html", "application/json"), True),
     (("text/plain", "application/json;q=0.3"), False),
     (("image/png",), False),
@@ -79,9 +82,9 @@ class Accept(unittest.TestCase):
     def test_a_long_field_takes_no_longer_than_its_length(self) -> None:
         for begin in ("", "application/json", 'a/b;c="'):
             for piece in ('"', '"\\', "\\", "; ", ";c=", " ", "\t;", ",", "a/b;c=d", ';c="d"', "/"):
-                began = time.perf_counter()
+                began = time.process_time()
                 wants_json([begin + piece * (LONG // len(piece)) + "\0"])
-                self.assertLess(time.perf_counter() - began, 0.1, (begin, piece))
+                self.assertLess(time.process_time() - began, 0.1, (begin, piece))
 
 
 if __name__ == "__main__":

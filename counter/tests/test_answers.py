@@ -43,14 +43,13 @@ class Played(WithCounter):
         await super().asyncTearDown()
 
     async def put(self, reader: asyncio.StreamReader, writer: asyncio.StreamWriter) -> None:
-        """Put a load on the bridge as the played bridge of the demo does: it moves for a moment."""
+        """Put a load on the bridge as the played bridge of the demo does. It moves until somebody asks for the indication."""
         head = (await reader.readuntil(b"\r\n\r\n")).decode()
         length = re.search(r"Content-Length: (\d+)", head)
         assert length is not None
         scale = self.service.scale
         scale.kg = json.loads(await reader.readexactly(int(length[1])))["kg"]
         scale.state = "D"
-        asyncio.get_running_loop().call_later(0.3, setattr, scale, "state", "S")
         writer.write(b"HTTP/1.1 200 OK\r\nContent-Length: 2\r\nConnection: close\r\n\r\n{}")
         writer.close()
 

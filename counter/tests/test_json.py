@@ -223,6 +223,54 @@ class AsJson(Asked):
         self.assertEqual((200, {"found": False}), await self.json_of("GET", "/keys/K9"))
 
 
+class AKeyThatIsKnown(Asked):
+    """A ticket that the office has shows that a key is stored, without an export."""
+
+    async def asks(self, key: str) -> tuple[object, list[str]]:
+        """Return the answer, and the questions to the office for it."""
+        self.service.came.clear()
+        answer = await self.ask("GET", f"/keys/{key}")
+        of_keys = (
+            "/tickets/2",
+            "/tickets/4",
+            "/journal.csv",
+        )  # and not what the counter asks regularly
+        return answer.json["found"], [it for _, it, _ in self.service.came if it in of_keys]
+
+    async def weighs(self) -> None:
+        for key, kind, kg in (("K1", "first", 18340), ("K2", "second", 8140)):
+            await self.drives_on(kg)
+            await self.weighed(f"key={key}&kind={kind}&plate=AB-12")
+        await self.drives_on(9000)
+        await self.weighed("key=K3&kind=first&plate=CD-34")
+        await self.post("/voids", "key=K4&plate=CD-34")
+
+    async def test_a_ticket_is_enough(self) -> None:
+        await self.weighs()
+        self.assertEqual((True, ["/tickets/2"]), await self.asks("K2"))
+        self.assertEqual((True, ["/tickets/2"]), await self.asks("K1"), "its second has it")
+
+    async def test_what_has_no_ticket_needs_an_export(self) -> None:
+        await self.weighs()
+        for key, is_found in (("K3", True), ("K4", True), ("K9", False)):
+            self.assertEqual((is_found, ["/journal.csv"]), await self.asks(key), key)
+
+    async def test_a_row_that_was_changed_shows_nothing(self) -> None:
+        await self.weighs()
+        with mock.patch.object(self.counter.books.lists, "is_sound", lambda number: False):
+            self.assertEqual((True, ["/journal.csv"]), await self.asks("K2"))
+
+    async def test_of_another_journal_a_ticket_shows_nothing(self) -> None:
+        await self.weighs()
+        was = self.service.tickets[2]
+        for ticket in (None, "", was.replace(self.service.rows[1][10], "f" * 64)):
+            self.service.tickets.clear()
+            self.service.tickets |= {} if ticket is None else {2: ticket}
+            self.assertEqual((True, ["/tickets/2", "/journal.csv"]), await self.asks("K2"), ticket)
+        self.service.rows.clear()
+        self.assertEqual((False, ["/tickets/2", "/journal.csv"]), await self.asks("K2"))
+
+
 class Refused(Asked):
     async def test_a_refusal_says_what_to_do(self) -> None:
         status, what = await self.json_of("POST", "/weighings", FIRST.encode())
@@ -344,7 +392,7 @@ class Refused(Asked):
 
 
 class OfThePage(Asked):
-    """The routes that always answer JSON have a refusal's names too if the client asks for JSON."""
+    """The routes that answer JSON in any case have a refusal's names too for a client that asks for JSON."""
 
     async def refused(
         self, method: str, target: str, path: str, body: bytes, wanted: dict[str, Any], name: str
@@ -481,7 +529,7 @@ class Heads(Asked):
                     self.assertEqual(got.fields.get(name), head.fields.get(name), (target, name))
 
     async def test_head_of_the_event_stream_ends(self) -> None:
-        head = await asyncio.wait_for(self.ask("HEAD", "/events"), 5)
+        head = await asyncio.wait_for(self.ask("HEAD", "/events"), 30)
         self.assertEqual(
             (200, "text/event-stream", b""), (head.status, head.fields["content-type"], head.body)
         )
@@ -491,7 +539,7 @@ class Heads(Asked):
         reader, writer = await asyncio.open_connection("127.0.0.1", self.port)
         fields = f"Host: 127.0.0.1:{self.port}\r\nLast-Event-ID: 7\r\n"
         writer.write(f"GET /events HTTP/1.1\r\n{fields}\r\n".encode())
-        got = await asyncio.wait_for(reader.readuntil(b"event: state"), 5)
+        got = await asyncio.wait_for(reader.readuntil(b"event: state"), 30)
         writer.close()
         (hello,) = re.findall(rb"event: hello\ndata: (.*)\n", got)
         self.assertIs(False, json.loads(hello)["resumed"])

@@ -1,4 +1,4 @@
-"""Tests of `Idempotency-Replayed`, which is true or false only where the counter knows it."""
+"""The counter says that an answer is repeated, or new, only where it knows it."""
 
 import datetime
 import unittest
@@ -8,7 +8,8 @@ from weighbridge_counter.repeats import MOST, Known, Repeats
 from weighbridge_paper.text import read_text
 
 from .papers import USUAL
-from .test_cursor import BERLIN, ROWS
+from .test_cursor import ROWS
+from .test_journal import BERLIN
 from .test_lists import export
 
 TEXT = next(it.text for it in USUAL.values() if "SINGLE" in it.text)

@@ -191,6 +191,13 @@ class Lists:
     def open_first(self, plate: str) -> int | None:
         return self.open.get(plate)
 
+    def ticket_with(self, number: int) -> int | None:
+        """Return the number of the ticket that has an entry, or None if none has it."""
+        kind, second = self.entries[number].kind, self.closed.get(number, 0)
+        if kind in TICKETS:
+            return number
+        return second if second in self.entries and self.entries[second].kind == "second" else None
+
     def key_of(self, number: int) -> str:
         return self.rows[number].key if number in self.rows else self.keys.get(number, "")
 

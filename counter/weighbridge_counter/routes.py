@@ -16,7 +16,7 @@ from aiohttp.http import StreamWriter
 from aiohttp.http_exceptions import HttpProcessingError
 
 from weighbridge_paper.export import NoExport, has_key
-from weighbridge_paper.text import NoText
+from weighbridge_paper.text import NoText, read_text
 from weighbridge_paper.words import FREE_LINES
 
 from .acts import NO_ANSWER, Told, not_sent, own
@@ -477,10 +477,12 @@ class Routes:
         return as_text(table.encode(), 200, "text/csv; charset=utf-8; header=present", **fields)
 
     async def key(self, request: web.Request) -> web.StreamResponse:
-        """Answer if an entry of the journal has the key. This asks for an export, and stores nothing.
+        """Answer if an entry of the journal has the key. Unless a ticket shows it, this asks for an export. It stores nothing.
 
         The request with this key may still be on its way to the office, although its client is gone. So the acts that were begun come to their end before.
         """
+        if await self.is_confirmed(request.match_info["key"]):
+            return as_json({"found": True})
         under_way = set(self.counter.acts.tasks)
         if under_way and (await asyncio.wait(under_way, timeout=UNDER_WAY_FOR))[1]:
             return not_known(request, 503, Refusal("busy"))
@@ -492,6 +494,22 @@ class Routes:
             return as_json({"found": await asyncio.get_running_loop().run_in_executor(None, look)})
         except (NoAnswer, NoExport):
             return not_known(request, 502, Refusal("no_answer"))
+
+    async def is_confirmed(self, key: str) -> bool:
+        """Return True if the office now has a ticket with the digest of the key's entry. A digest covers its key, so this needs no export."""
+        lists = self.counter.books.lists
+        number = lists.number_of_key(key)
+        if number is None or not lists.is_sound(number):
+            return False
+        digest, ticket = lists.digest_of(number), lists.ticket_with(number)
+        if ticket is None:
+            return False
+        try:
+            answer = await self.ask_office(f"/tickets/{ticket}")
+            weighings = read_text(answer.text).weighings if answer.status == 200 else ()
+        except (NoAnswer, NoText):
+            return False
+        return any(it.digest == digest for it in weighings)
 
     async def refresh(self, request: web.Request) -> web.StreamResponse:
         self.counter.books.wants_export = True
