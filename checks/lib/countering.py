@@ -378,6 +378,8 @@ def without_reset(folder: str) -> str:
         os.path.join(folder, "copy"),
         ignore=shutil.ignore_patterns("__pycache__", "tests"),
     )
+    # next to the program, as the package has it
+    shutil.copy(os.path.join(TOP, "clients", "refusals.txt"), os.path.join(folder, "copy"))
     path = os.path.join(folder, "copy", "weighbridge_counter", "terminal.py")
     with open(path) as file:
         text = file.read()

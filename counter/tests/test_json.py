@@ -680,7 +680,7 @@ class TheCatalogue(unittest.TestCase):
             ("key_reused", "with_new_key", None),
             ("gone", "never", None),
             ("below_min", "later", None),
-            ("not_cleared", "later", None),
+            ("not_cleared", "with_new_key", None),
             ("store", "after_restart", None),
             ("damaged", "never", None),
             ("busy", "later", "1"),

@@ -211,5 +211,27 @@ class AtTheOffice(unittest.IsolatedAsyncioTestCase):
         self.assertEqual([f"GET {target} HTTP/1.1\r\nHost: {host}\r\n\r\n".encode()], self.came)
 
 
+class ProbeTest(unittest.IsolatedAsyncioTestCase):
+    """A ticket that another client stored at the office, after a First that the lists lack too, asks for an export."""
+
+    async def test_asks_for_numbers_after_the_newest_in_turn(self):
+        asked = []
+
+        class PlayedOffice:
+            async def ask(self, method, target, within):
+                asked.append(target)
+                return Answer(200 if target == "/tickets/2" else 404, "text/plain", b"")
+
+        books = Books(PlayedOffice(), zoneinfo.ZoneInfo("UTC"), Counter())
+        books.wants_export = False
+        await books.probe()
+        self.assertEqual((asked, books.wants_export), (["/tickets/1"], False))
+        await books.probe()
+        self.assertEqual((asked[1:], books.wants_export), (["/tickets/2"], True))
+        for _ in range(3):
+            await books.probe()
+        self.assertEqual(asked[2:], ["/tickets/3", "/tickets/4", "/tickets/1"])
+
+
 if __name__ == "__main__":
     unittest.main()

@@ -15,6 +15,7 @@ from .boards import Sender, open_board
 from .connections import Connections, listen
 from .counter import Counter
 from .ports import open_port
+from .refusals import FILE, catalogue
 from .routes import Routes
 from .setup import Setup, gaps_of, read_setup, warning_of
 
@@ -126,6 +127,14 @@ def warn(line: str) -> None:
 
 def main(given: list[str] | None = None) -> int:
     words = words_of(sys.argv[1:] if given is None else given)
+    try:
+        catalogue()
+    except (OSError, ValueError) as fault:
+        print(
+            f"weighbridge-counter: {FILE}: the words of the refusals can't be read ({fault}); install the package again",
+            file=sys.stderr,
+        )
+        return 2
     try:
         setup = read_setup(words.setup, FOLDER / "web")
         lacking, misfitting = gaps_of(FOLDER / "web", setup.languages)

@@ -23,6 +23,7 @@ EMPTY_FOR = 3.0  # seconds that the bridge is empty before the counter asks for 
 NOT_SOONER_THAN = 2.0  # seconds after the last try
 READ_EVERY = 3600.0  # seconds
 PROBE_EVERY = 20.0  # seconds
+PROBED = 4  # numbers after the newest one that are asked in turn, because the next entry may be a First, which has no ticket
 PROBE_WITHIN = 5.0
 EXPORT_WITHIN = 60.0
 REST = 4  # times as long as an export took the office does other things before the next one
@@ -48,6 +49,7 @@ class Books:
         )
         self.wants_export = True
         self.tried_at = self.read_at = self.probed_at = 0.0
+        self.probes = 0
         self.export_seconds = self.rest_until = 0.0
         self.one_export = asyncio.Lock()
         self.next_export: asyncio.Future[tuple[Answer, int]] | None = None
@@ -212,9 +214,9 @@ class Books:
         """Is the office there, is its journal open, and is there a ticket that didn't pass? It costs the office next to nothing."""
         self.probed_at = time.monotonic()
         try:
-            answer = await self.office.ask(
-                "GET", f"/tickets/{self.lists.last + 1}", within=PROBE_WITHIN
-            )
+            number = self.lists.last + 1 + self.probes % PROBED
+            self.probes += 1
+            answer = await self.office.ask("GET", f"/tickets/{number}", within=PROBE_WITHIN)
         except NoAnswer:
             self.state = "no_answer"
             return
