@@ -43,7 +43,8 @@ def compare(path: str) -> dict[str, object] | None:
         own = run([PROGRAM, "check", "--file", copy])
         second = run([f"{FOLDER}/verify", copy])
         said = second.stdout.decode("utf-8", "backslashreplace")
-        wanted = verdict_of(copy, said)
+        # A verifier ends with status 2 if it can't read the file as a journal.
+        wanted = "store" if second.returncode == 2 else verdict_of(copy, said)
         found = (own.stdout or own.stderr).decode().rstrip("\n").rpartition("\n")[2]
         same = wanted is None or found == wanted or wanted == "store" == found[:5]
         kind = "follows from nothing" if wanted is None else f"both say {found.split()[0]}"
