@@ -14,7 +14,7 @@
  * - No other null. A pointer to a setup, bytes, a buffer or an indication isn't null, not even with a length of 0. It is aligned for
  *   its type and has the length that is passed, and nobody writes there during the call.
  *
- * A null for the terminal itself is refused: the result is #WEIGHBRIDGE_TERMINAL_NO_TERMINAL. Calls that return a number of bytes or
+ * A null for the terminal itself is refused: the result is WEIGHBRIDGE_TERMINAL_NO_TERMINAL. Calls that return a number of bytes or
  * replies return 0, except weighbridge_terminal_take().
  *
  * Unless NDEBUG is defined, GCC and Clang check calls by assertions as far as they can: alignment, lengths, the other nulls, the size

@@ -1,4 +1,5 @@
-/* The declarations of the terminal as a library: types, constants and calls.
+/** @file
+ * The declarations of the terminal as a library: types, constants and calls.
  *
  * A program in C or C++ includes weighbridge_terminal.h, which includes this file and adds assertions, inline calls and the attributes
  * of the compiler. Tools that read declarations get this file alone, because its only directives are constants:
@@ -93,7 +94,7 @@ uint32_t weighbridge_terminal_byte(weighbridge_terminal *terminal, uint8_t byte)
  * it processed: at least one, if `length` isn't 0. Returns 0 if the pointer to the terminal is null. */
 size_t weighbridge_terminal_bytes(weighbridge_terminal *terminal, const uint8_t *bytes, size_t length);
 
-/** As weighbridge_terminal_bytes(), but returns #WEIGHBRIDGE_TERMINAL_NO_COUNT if the pointer to the terminal is null, so that 0 means only that
+/** As weighbridge_terminal_bytes(), but returns WEIGHBRIDGE_TERMINAL_NO_COUNT if the pointer to the terminal is null, so that 0 means only that
  * `length` is 0. */
 size_t weighbridge_terminal_take(weighbridge_terminal *terminal, const uint8_t *bytes, size_t length);
 

@@ -173,15 +173,15 @@ static void bytes(void) {
     IS(weighbridge_terminal_replies(terminal), 1);
     IS(weighbridge_terminal_bytes(terminal, (const uint8_t *)text, 3), 3);
     IS(weighbridge_terminal_replies(terminal), 0);
+    for (const char *byte = text + 3; byte < text + 7; byte++) {
+        IS(weighbridge_terminal_byte(terminal, (uint8_t)*byte), 0);
+    }
+    IS(weighbridge_terminal_replies(terminal), 10);
     IS(weighbridge_terminal_take(terminal, (const uint8_t *)"", 0), 0);
     IS(weighbridge_terminal_take(terminal, (const uint8_t *)text + 4, 7), 3);
     IS(weighbridge_terminal_replies(terminal), 10);
     IS(weighbridge_terminal_take(terminal, (const uint8_t *)text + 7, 4), 4);
     IS(weighbridge_terminal_replies(terminal), 1);
-    for (const char *byte = text + 3; byte < text + 7; byte++) {
-        IS(weighbridge_terminal_byte(terminal, (uint8_t)*byte), 0);
-    }
-    IS(weighbridge_terminal_replies(terminal), 10);
     free(terminal);
 }
 
