@@ -31,7 +31,7 @@ pub enum FileCause {
     TextEncoding,
     /// Pages that an automatic vacuum keeps.
     AutoVacuum,
-    /// A table with a column that has a default.
+    /// A column with a default, which another program added to a table that has rows.
     ColumnDefault,
     /// The folder of a file that isn't there isn't there either.
     NoFolder,

@@ -1,5 +1,5 @@
-//! Settings of a database by which a store can't read it. The kit's SQLite reads only UTF-8, and no database with an automatic vacuum. A store reads no table
-//! that has a column with a default.
+//! Settings of a database by which a store can't read it. The kit's SQLite reads only UTF-8, and no database with an automatic vacuum. It reads no row that is
+//! older than a column with a default, which another program added.
 use crate::cause::FileCause;
 use std::fs::File;
 use std::os::unix::fs::FileExt;
@@ -15,7 +15,7 @@ const UTF_8: u8 = 1;
 /// Where the four bytes of the greatest root page begin in the header. They are 0 without an automatic vacuum.
 const GREATEST_ROOT: usize = 52;
 
-/// The word in a table's text that gives a column a default.
+/// The word in a table's text that gives a column a default. A table that was made with one is read, so it is a cause only if a file can't be read.
 const DEFAULT: &[u8] = b"DEFAULT";
 
 /// Clears the bit by which a small letter differs from its capital.
