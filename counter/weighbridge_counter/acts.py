@@ -44,7 +44,7 @@ NOT_OPEN = b"refused 13 "
 
 @dataclass(frozen=True)
 class Told:
-    """What is answered to who asked. `is_sent` is False if it is certain that nothing went to the office.
+    """The answer to a client. `is_sent` is False if it is certain that nothing went to the office.
 
     `is_repeated` says whether the answer was given before, and is None if nobody knows.
     """
