@@ -30,7 +30,7 @@ HasHeader log = IsSigned (header log) × IsPageSize (be32 (header log) 8)
 abbrev pub page_size : List ℕ → ℕ
 page_size log = be32 (header log) 8
 
--- Rule 3: where the frames stop to pass the kit's test, it is behind a shut gate, or in the last commit.
+-- Rule 3: where the frames stop to pass the kit's test, no commit of one sync begins behind it, and it is a shut gate, or in the last commit.
 
 -- the log has all bytes of frame i
 abbrev pub Has : ℕ → List ℕ → ℕ → Type 0
@@ -48,31 +48,41 @@ pub record IsDamaged (page : ℕ) (log : List ℕ) (k : ℕ) : Type 0 where
   pub within : Has page log k
   pub fails : ¬ IsFrame (header log) (sum_before page log k) (frame page log k)
 
--- A frame's gate is its first byte of salt. It is 0 before the frames of a commit are synced, and the log's first byte of salt after.
+-- A frame's gate is its first byte of salt. That of a commit's first frame is 0 before the frames are synced, and the log's first byte of salt after.
 abbrev pub gate : ℕ → List ℕ → ℕ → ℕ
 gate page log i = slice_index (frame page log i) 8
 
 abbrev pub IsOpen : ℕ → List ℕ → ℕ → Type 0
 IsOpen page log i = gate page log i ≡ slice_index (header log) 16
 
--- It is shut, or the frame is one of a log before this one, of which sqlite3 leaves some: its other salts are others.
-abbrev pub IsShut : ℕ → List ℕ → ℕ → Type 0
-IsShut page log i =
-    (¬ IsOpen page log i) × ((gate page log i ≡ 0) ⊎ (part (frame page log i) 9 7 ≢ part (header log) 17 7))
-
--- No frame from k on with the log's salts stands behind one that ends a commit: a commit is synced before the next is written.
-abbrev pub IsOfLastCommit : ℕ → List ℕ → ℕ → Type 0
-IsOfLastCommit page log k =
-    (i j : ℕ) → k ≤ i → i < j → Has page log j → HasSalts page log i → Commits page log i → ¬ HasSalts page log j
-
--- Rule 4: the last commit is one of one sync, written over zeros. What a power cut took of it is 0, so that it lacks more than its first frame counts,
--- or just that, with each other byte of its salts and checksums right.
+-- No frame behind k with the log's salts counts: a commit of one sync is written once all before it was synced.
+abbrev pub NoneCounts : ℕ → List ℕ → ℕ → Type 0
+NoneCounts page log k =
+    (j : ℕ) → k < j → Has page log j → HasSalts page log j → page_number (frame page log j) ≢ count_page
 
 -- frame first is the first of the commit that frame k is of
 pub record Begins (page : ℕ) (log : List ℕ) (first k : ℕ) : Type 0 where
   pub order : first ≤ k
   pub behind : (i : ℕ) → suc i ≡ first → Commits page log i
   pub one : (i : ℕ) → first ≤ i → i < k → commit_size (frame page log i) ≡ 0
+
+-- The gate of a commit is shut. A transaction that didn't fit into memory has several that end, and only the first of them has a gate.
+abbrev pub IsShut : ℕ → List ℕ → ℕ → Type 0
+IsShut page log k = Begins page log k k × (¬ IsOpen page log k) × (gate page log k ≡ 0)
+
+-- No frame from k on with the log's salts stands behind one that ends a commit: a commit is synced before the next is written.
+abbrev pub IsOfLastCommit : ℕ → List ℕ → ℕ → Type 0
+IsOfLastCommit page log k =
+    (i j : ℕ) → k ≤ i → i < j → Has page log j → HasSalts page log i → Commits page log i → ¬ HasSalts page log j
+
+-- Or the frame is one of a log before this one, of which sqlite3 leaves some: its salts are others, and not only the first.
+abbrev pub IsFormer : ℕ → List ℕ → ℕ → Type 0
+IsFormer page log k =
+    IsOfLastCommit page log k × (¬ IsOpen page log k) × (gate page log k ≢ 0)
+    × (part (frame page log k) 9 7 ≢ part (header log) 17 7)
+
+-- Rule 4: the last commit is one of one sync, written over zeros. What a power cut took of it is 0, so that it lacks more than its first frame counts,
+-- or just that, with each other byte of its salts and checksums right.
 
 -- frames first to first + n are a commit that ends
 pub record IsCommit (page : ℕ) (log : List ℕ) (first n : ℕ) : Type 0 where
@@ -140,7 +150,7 @@ pub record MayHaveLost (page : ℕ) (log : List ℕ) (first : ℕ) : Type 0 wher
 
 -- frame k is of the last commit, which was being written
 pub record IsTorn (page : ℕ) (log : List ℕ) (k : ℕ) : Type 0 where
-  pub opened : IsOpen page log k
+  pub opened : IsOpen page log k ⊎ (gate page log k ≡ 0)
   pub last : IsOfLastCommit page log k
   pub first : ℕ
   pub begins : Begins page log first k
@@ -148,7 +158,7 @@ pub record IsTorn (page : ℕ) (log : List ℕ) (k : ℕ) : Type 0 where
 
 -- a power cut may have left frame k so
 abbrev pub MayStop : ℕ → List ℕ → ℕ → Type 0
-MayStop page log k = IsShut page log k ⊎ IsTorn page log k
+MayStop page log k = NoneCounts page log k × (IsShut page log k ⊎ IsFormer page log k ⊎ IsTorn page log k)
 
 -- What is refused, and why.
 

@@ -1,7 +1,7 @@
 //! The look: four rules, in this order.
 ghost use Rattle.std.specs.Prelude.{◌≡◌, ◌↔◌, ◌≤◌, ◌<◌, IsTrue, IfErr, OnOk, length};
 ghost use Rattle.sqlite_wal.specs.Recovery.{frame_at};
-ghost use Rattle.wb_wal.specs.Look.{IsOfLastCommit, IsRefused, MayHaveLost, MayStop, NeedsFile, page_size};
+ghost use Rattle.wb_wal.specs.Look.{IsOfLastCommit, IsRefused, MayHaveLost, MayStop, NeedsFile, NoneCounts, page_size};
 ghost use Rattle.wb_wal.specs.helpers.Stop.{StopsAt};
 
 use crate::bytes::number_at;
@@ -84,20 +84,56 @@ fn needs_file(log: &[u8]) -> bool
     log.len() >= LEAST || (is_signed(head) && !is_begun(head))
 }
 
-/// Whether the first frame that doesn't pass may be so: it is behind a shut gate, or of the commit that was being written.
+/// Whether the first frame that doesn't pass may be so: no commit of one sync begins behind it, and it is a shut gate, of a former log, or of the
+/// commit that was being written.
 fn may_stop(log: &[u8], page: usize, stop: &Stop) -> bool
     requires head { 32 ≤ length log.now }
     requires page { (8 ≤ page) × (page ≤ 65536) }
     requires stop { StopsAt page log.now stop.now }
     ensures { IsTrue result ↔ MayStop page log.now (stop.now.frame) }
 {
+    if !none_counts(log, page, stop) {
+        return false;
+    }
     let head = &log[..HEADER];
     let frame = &log[stop.at..stop.at + (FRAME_HEADER + page)];
     if frame[8] == head[16] {
-        is_of_last_commit(log, page, stop) && may_have_lost(log, page, stop)
-    } else {
-        frame[8] == 0 || frame[9..16] != head[17..24]
+        return is_torn(log, page, stop);
     }
+    if frame[8] == 0 {
+        return stop.first == stop.frame || is_torn(log, page, stop);
+    }
+    frame[9..16] != head[17..24] && is_of_last_commit(log, page, stop)
+}
+
+/// Whether a stop is in the last commit, and that lost bytes and nothing else.
+fn is_torn(log: &[u8], page: usize, stop: &Stop) -> bool
+    requires head { 32 ≤ length log.now }
+    requires page { (8 ≤ page) × (page ≤ 65536) }
+    requires stop { StopsAt page log.now stop.now }
+    ensures last { IsTrue result → IsOfLastCommit page log.now (stop.now.frame) }
+    ensures lost { IsTrue result → MayHaveLost page log.now (stop.now.first) }
+    ensures torn { IsOfLastCommit page log.now (stop.now.frame) → MayHaveLost page log.now (stop.now.first) → IsTrue result }
+{
+    is_of_last_commit(log, page, stop) && may_have_lost(log, page, stop)
+}
+
+/// Whether no frame behind a stop with the log's salts counts.
+fn none_counts(log: &[u8], page: usize, stop: &Stop) -> bool
+    requires head { 32 ≤ length log.now }
+    requires page { page ≤ 65536 }
+    requires stop { StopsAt page log.now stop.now }
+    ensures { IsTrue result ↔ NoneCounts page log.now (stop.now.frame) }
+{
+    let head = &log[..HEADER];
+    let mut at = stop.at + (FRAME_HEADER + page);
+    while let Some(frame) = frame_from(log, page, at) {
+        if has_salts(head, frame) && number_at(frame, 0) == COUNT {
+            return false;
+        }
+        at += frame.len();
+    }
+    true
 }
 
 /// Whether no frame from a stop on with the log's salts stands behind one that ends a commit.

@@ -1,5 +1,5 @@
 //! The look at a log of three commits, whole, torn and damaged.
-use self::Change::{Cut, Lost, Nothing, Set};
+use self::Change::{Cut, Fill, Lost, Nothing, Set};
 use crate::{Refusal, look};
 use sqlite_wal::checksum_of;
 use std::alloc::Global;
@@ -24,6 +24,8 @@ enum Change {
     Set(usize, u8),
     /// The bytes from a place on, so many, are 0.
     Lost(usize, usize),
+    /// The bytes from a place on, so many, are this one.
+    Fill(usize, usize, u8),
     /// The log ends there.
     Cut(usize),
 }
@@ -46,7 +48,7 @@ const FRAME_4: usize = 2_176;
 const FRAME_5: usize = 2_712;
 
 /// Two commits of which the first was of two syncs, and the last, of frames 4 and 5, behind them; then zeros.
-static ROWS: [Row; 26] = [
+static ROWS: [Row; 35] = [
     Row(FILE, Nothing, Ok(())),
     // the file
     Row(0, Nothing, Err(Refusal::File)),
@@ -71,16 +73,31 @@ static ROWS: [Row; 26] = [
         Lost(FRAME_3 + 24 + 200, 9),
         Err(Refusal::Frame(FRAME_3)),
     ),
-    // a gate that is shut, one that is damaged, and a frame of another log
-    Row(FILE, Set(FRAME_2 + 8, 0), Ok(())),
+    // a gate that is shut or damaged, salts that are others, and a frame that is lost, with a commit of one sync behind it
+    Row(FILE, Set(FRAME_2 + 8, 0), Err(Refusal::Frame(FRAME_2))),
     Row(FILE, Set(FRAME_2 + 8, 6), Err(Refusal::Frame(FRAME_2))),
-    Row(FILE, Lost(FRAME_2 + 8, 8), Ok(())),
+    Row(FILE, Lost(FRAME_2 + 8, 8), Err(Refusal::Frame(FRAME_2))),
+    Row(FILE, Lost(FRAME_0, 536), Err(Refusal::Frame(FRAME_0))),
+    Row(FILE, Lost(FRAME_1, 536), Err(Refusal::Frame(FRAME_1))),
+    Row(FILE, Lost(FRAME_3, 536), Err(Refusal::Frame(FRAME_3))),
+    // the same in the last commit: the gate of its first frame has no frame behind it that counts
+    Row(FILE, Set(FRAME_4 + 8, 0), Ok(())),
+    Row(FILE, Set(FRAME_4 + 8, 6), Err(Refusal::Frame(FRAME_4))),
+    Row(FILE, Fill(FRAME_4 + 8, 8, 6), Ok(())),
+    Row(FILE, Fill(FRAME_2 + 8, 8, 6), Err(Refusal::Frame(FRAME_2))),
+    Row(FILE, Set(FRAME_5 + 8, 0), Ok(())),
     // the last commit, of which something was lost
     Row(FILE, Lost(FRAME_4, 1_072), Ok(())),
     Row(FILE, Lost(FRAME_5, 536), Ok(())),
     Row(FILE, Lost(FRAME_5 + 24 + 200, 9), Ok(())),
     Row(FILE, Lost(FRAME_5 + 16, 1), Ok(())),
     Row(FILE, Lost(FRAME_4 + 24, 8), Ok(())),
+    // the last two, of which the first lost its end
+    Row(
+        FILE,
+        Lost(FRAME_2 + 24, 536 + 9),
+        Err(Refusal::Frame(FRAME_2)),
+    ),
     // and one in which a byte is another
     Row(
         FILE,
@@ -170,17 +187,39 @@ fn log(alloc: Global) -> Result<Vec<u8>, Fail> {
     Ok(bytes)
 }
 
+/// A commit of two syncs, and a transaction that didn't fit into memory: three commits of which the last two have no gate.
+fn spilled(alloc: Global) -> Result<Vec<u8>, Fail> {
+    let mut writer = Writer::new(alloc)?;
+    for size in [0, 2, 0, 2, 2, 2] {
+        writer.frame(1, size, &page())?;
+    }
+    Ok(writer.bytes)
+}
+
+/// The same of a log in which no frame counts.
+static SPILLED: [Row; 6] = [
+    Row(FILE, Nothing, Ok(())),
+    // the gate of the transaction is shut, or its first frame isn't there yet
+    Row(FILE, Set(FRAME_2 + 8, 0), Ok(())),
+    Row(FILE, Lost(FRAME_2, 536), Ok(())),
+    // no later frame has a gate
+    Row(FILE, Set(FRAME_3 + 8, 0), Err(Refusal::Frame(FRAME_3))),
+    Row(FILE, Lost(FRAME_1, 536), Err(Refusal::Frame(FRAME_1))),
+    // a frame of a former log has no commits behind it
+    Row(FILE, Fill(FRAME_2 + 8, 8, 6), Err(Refusal::Frame(FRAME_2))),
+];
+
 /// What the look says of a log to which that happened.
-fn judged(alloc: Global, row: &Row) -> Result<Result<(), Refusal>, Fail> {
+fn judged(mut bytes: Vec<u8>, row: &Row) -> Result<(), Refusal> {
     let Row(file, change, _) = row;
-    let mut bytes = log(alloc)?;
     match change {
         Nothing => {}
         Set(place, byte) => fill(&mut bytes, *place, 1, *byte),
         Lost(place, count) => fill(&mut bytes, *place, *count, 0),
+        Fill(place, count, byte) => fill(&mut bytes, *place, *count, *byte),
         Cut(length) => bytes.truncate(*length),
     }
-    Ok(look(*file, bytes.as_slice()))
+    look(*file, bytes.as_slice())
 }
 
 /// Sets so many bytes from a place on to this one.
@@ -194,7 +233,15 @@ fn fill(bytes: &mut [u8], place: usize, count: usize, byte: u8) {
 fn refuses_what_no_power_cut_leaves(rt: HostRuntime) -> Result<(), Fail> {
     for (index, row) in ROWS.iter().enumerate() {
         let Row(_, _, wanted) = row;
-        assert_eq!(rt; judged(rt.alloc(), row)?, *wanted, "row {index}");
+        assert_eq!(rt; judged(log(rt.alloc())?, row), *wanted, "row {index}");
+    }
+    for (index, row) in SPILLED.iter().enumerate() {
+        let Row(_, _, wanted) = row;
+        assert_eq!(rt;
+            judged(spilled(rt.alloc())?, row),
+            *wanted,
+            "row {index} of a transaction that didn't fit"
+        );
     }
     Ok(())
 }
