@@ -1,10 +1,10 @@
 -- A walk over the frames from a stop on, for those behind the end of a commit.
-use Rattle.std.proofs.Common.{◌≡◌, ◌≢◌, inl, inr, ℕ, suc, ◌+◌, ◌<◌, ◌≤◌, ◌↔◌, Bool, true, false, IsTrue, List, length, refl, sym, ◌∙◌, subst, arith}
+use Rattle.std.proofs.Common.{◌≡◌, inl, inr, ℕ, suc, ◌+◌, ◌<◌, ◌≤◌, ◌↔◌, Bool, true, false, IsTrue, List, length, refl, sym, ◌∙◌, subst, arith}
 use Rattle.std.proofs.lemmas.Bool.{cases_lt, cases_eq, false≢true}
-use Rattle.sqlite_wal.specs.Format.{commit_size, page_number, count_page}
+use Rattle.sqlite_wal.specs.Format.{commit_size}
 use Rattle.sqlite_wal.specs.Recovery.{frame_at, frame}
-use Rattle.wb_wal.specs.Look.{Has, HasSalts, Commits, IsOfLastCommit, NoneCounts}
-use Rattle.wb_wal.specs.helpers.Behind.{HasSeen, CountsNone}
+use Rattle.wb_wal.specs.Look.{Has, HasSalts, Commits, IsOfLastCommit}
+use Rattle.wb_wal.specs.helpers.Behind.{HasSeen, HasPassed}
 use Rattle.wb_wal.proofs.Walk.{Has-less, at-next}
 
 pub HasSeen-none : (page : ℕ) (log : List ℕ) (k at : ℕ) → at ≡ frame_at page k → at ≤ length log → HasSeen page log k at false
@@ -74,33 +74,34 @@ HasSeen-all page log k at is s none i b l h has = elim (cases_lt b s.j) [
   | inr high ↦ absurd (omega (arith, Has-less page log s.j b high has, none, s.place))
 ]
 
--- No frame was seen yet.
-pub CountsNone-first : (page : ℕ) (log : List ℕ) (k at : ℕ) → at ≡ frame_at page (suc k) → at ≤ length log → CountsNone page log k at
-CountsNone-first page log k at place within = record {
-  j = suc k;
+-- No frame was passed yet.
+pub HasPassed-none : (IsSuch : ℕ → Type 0) (page : ℕ) (log : List ℕ) (first at : ℕ) → at ≡ frame_at page first → at ≤ length log → HasPassed IsSuch page log first at
+HasPassed-none IsSuch page log first at place within = record {
+  j = first;
   order = omega arith;
   place = place;
   within = within;
   none = λ i l h. absurd (omega (arith, l, h));
 }
 
--- the next frame doesn't count
-pub CountsNone-more : (page : ℕ) (log : List ℕ) (k at next : ℕ) (s : CountsNone page log k at) → Has page log s.j → next ≡ at + (24 + page)
-    → (HasSalts page log s.j → page_number (frame page log s.j) ≢ count_page) → CountsNone page log k next
-CountsNone-more page log k at next s has place other = record {
+-- the next frame is no such one
+pub HasPassed-more : (IsSuch : ℕ → Type 0) (page : ℕ) (log : List ℕ) (first at next : ℕ) (s : HasPassed IsSuch page log first at) → Has page log s.j
+    → next ≡ at + (24 + page) → (¬ IsSuch s.j) → HasPassed IsSuch page log first next
+HasPassed-more IsSuch page log first at next s has place other = record {
   j = suc s.j;
   order = omega (arith, s.order);
   place = omega (arith, place, s.place, at-next page s.j);
   within = omega (arith, place, s.place, has);
   none = λ i l h. elim (cases_eq i s.j) [
-    | inl same ↦ subst (λ f. HasSalts page log f → page_number (frame page log f) ≢ count_page) (sym same) other
+    | inl same ↦ subst (λ f. ¬ IsSuch f) (sym same) other
     | inr before ↦ s.none i l (omega (arith, h, before))
   ];
 }
 
 -- there is no next frame
-pub CountsNone-all : (page : ℕ) (log : List ℕ) (k at : ℕ) → CountsNone page log k at → length log < at + (24 + page) → NoneCounts page log k
-CountsNone-all page log k at s none j l has = elim (cases_lt j s.j) [
+pub HasPassed-all : (IsSuch : ℕ → Type 0) (page : ℕ) (log : List ℕ) (first at : ℕ) → HasPassed IsSuch page log first at → length log < at + (24 + page)
+    → (j : ℕ) → first ≤ j → Has page log j → ¬ IsSuch j
+HasPassed-all IsSuch page log first at s none j l has = elim (cases_lt j s.j) [
   | inl low ↦ s.none j l low
   | inr high ↦ absurd (omega (arith, Has-less page log s.j j high has, none, s.place))
 ]

@@ -75,11 +75,15 @@ abbrev pub IsOfLastCommit : ℕ → List ℕ → ℕ → Type 0
 IsOfLastCommit page log k =
     (i j : ℕ) → k ≤ i → i < j → Has page log j → HasSalts page log i → Commits page log i → ¬ HasSalts page log j
 
--- Or the frame is one of a log before this one, of which sqlite3 leaves some: its salts are others, and not only the first.
-abbrev pub IsFormer : ℕ → List ℕ → ℕ → Type 0
-IsFormer page log k =
-    IsOfLastCommit page log k × (¬ IsOpen page log k) × (gate page log k ≢ 0)
-    × (part (frame page log k) 9 7 ≢ part (header log) 17 7)
+-- No frame from k on has the log's salts.
+abbrev pub NoneSigned : ℕ → List ℕ → ℕ → Type 0
+NoneSigned page log k = (j : ℕ) → k ≤ j → Has page log j → ¬ HasSalts page log j
+
+-- Or the frame is one of a log before this one, of which sqlite3 leaves some: both its salts are others.
+pub record IsFormer (page : ℕ) (log : List ℕ) (k : ℕ) : Type 0 where
+  pub first : be32 (frame page log k) 8 ≢ be32 (header log) 16
+  pub second : be32 (frame page log k) 12 ≢ be32 (header log) 20
+  pub none : NoneSigned page log k
 
 -- Rule 4: the last commit is one of one sync, written over zeros. What a power cut took of it is 0, so that it lacks more than its first frame counts,
 -- or just that, with each other byte of its salts and checksums right.

@@ -1,7 +1,7 @@
 //! The look: four rules, in this order.
-ghost use Rattle.std.specs.Prelude.{◌≡◌, ◌↔◌, ◌≤◌, ◌<◌, IsTrue, IfErr, OnOk, length};
-ghost use Rattle.sqlite_wal.specs.Recovery.{frame_at};
-ghost use Rattle.wb_wal.specs.Look.{IsOfLastCommit, IsRefused, MayHaveLost, MayStop, NeedsFile, NoneCounts, page_size};
+ghost use Rattle.std.specs.Prelude.{◌≡◌, ◌↔◌, ◌+◌, ◌≤◌, ◌<◌, IsTrue, IfErr, OnOk, length};
+ghost use Rattle.sqlite_wal.specs.Recovery.{frame, frame_at};
+ghost use Rattle.wb_wal.specs.Look.{IsFormer, IsOfLastCommit, IsRefused, IsShut, IsTorn, MayHaveLost, MayStop, NeedsFile, NoneCounts, NoneSigned, page_size};
 ghost use Rattle.wb_wal.specs.helpers.Stop.{StopsAt};
 
 use crate::bytes::number_at;
@@ -95,27 +95,82 @@ fn may_stop(log: &[u8], page: usize, stop: &Stop) -> bool
     if !none_counts(log, page, stop) {
         return false;
     }
-    let head = &log[..HEADER];
-    let frame = &log[stop.at..stop.at + (FRAME_HEADER + page)];
-    if frame[8] == head[16] {
-        return is_torn(log, page, stop);
-    }
-    if frame[8] == 0 {
-        return stop.first == stop.frame || is_torn(log, page, stop);
-    }
-    frame[9..16] != head[17..24] && is_of_last_commit(log, page, stop)
+    is_shut(log, page, stop) || is_former(log, page, stop) || is_torn(log, page, stop)
 }
 
-/// Whether a stop is in the last commit, and that lost bytes and nothing else.
+/// The frame at a stop.
+fn frame_at<'a>(log: &'a [u8], page: usize, stop: &Stop) -> &'a [u8]
+    requires stop { StopsAt page log.now stop.now }
+    ensures value { result.now ≡ frame page log.now (stop.now.frame) }
+    ensures long { length result.now ≡ 24 + page }
+{
+    &log[stop.at..stop.at + (FRAME_HEADER + page)]
+}
+
+/// Whether a stop is the first frame of its commit, whose gate is shut.
+fn is_shut(log: &[u8], page: usize, stop: &Stop) -> bool
+    requires head { 32 ≤ length log.now }
+    requires page { (8 ≤ page) × (page ≤ 65536) }
+    requires stop { StopsAt page log.now stop.now }
+    ensures { IsTrue result ↔ IsShut page log.now (stop.now.frame) }
+{
+    let head = &log[..HEADER];
+    let gate = frame_at(log, page, stop)[8];
+    if stop.first != stop.frame || gate == head[16] {
+        return false;
+    }
+    gate == 0
+}
+
+/// Whether the frame at a stop is one of a log before this one.
+fn is_former(log: &[u8], page: usize, stop: &Stop) -> bool
+    requires head { 32 ≤ length log.now }
+    requires page { (8 ≤ page) × (page ≤ 65536) }
+    requires stop { StopsAt page log.now stop.now }
+    ensures { IsTrue result ↔ IsFormer page log.now (stop.now.frame) }
+{
+    let head = &log[..HEADER];
+    let frame = frame_at(log, page, stop);
+    if number_at(frame, 8) == number_at(head, 16) {
+        return false;
+    }
+    if number_at(frame, 12) == number_at(head, 20) {
+        return false;
+    }
+    none_signed(log, page, stop)
+}
+
+/// Whether a stop is in the last commit, which was being written.
 fn is_torn(log: &[u8], page: usize, stop: &Stop) -> bool
     requires head { 32 ≤ length log.now }
     requires page { (8 ≤ page) × (page ≤ 65536) }
     requires stop { StopsAt page log.now stop.now }
-    ensures last { IsTrue result → IsOfLastCommit page log.now (stop.now.frame) }
-    ensures lost { IsTrue result → MayHaveLost page log.now (stop.now.first) }
-    ensures torn { IsOfLastCommit page log.now (stop.now.frame) → MayHaveLost page log.now (stop.now.first) → IsTrue result }
+    ensures { IsTrue result ↔ IsTorn page log.now (stop.now.frame) }
 {
+    let head = &log[..HEADER];
+    let gate = frame_at(log, page, stop)[8];
+    if gate != 0 && gate != head[16] {
+        return false;
+    }
     is_of_last_commit(log, page, stop) && may_have_lost(log, page, stop)
+}
+
+/// Whether no frame from a stop on has the log's salts.
+fn none_signed(log: &[u8], page: usize, stop: &Stop) -> bool
+    requires head { 32 ≤ length log.now }
+    requires page { page ≤ 65536 }
+    requires stop { StopsAt page log.now stop.now }
+    ensures { IsTrue result ↔ NoneSigned page log.now (stop.now.frame) }
+{
+    let head = &log[..HEADER];
+    let mut at = stop.at;
+    while let Some(frame) = frame_from(log, page, at) {
+        if has_salts(head, frame) {
+            return false;
+        }
+        at += frame.len();
+    }
+    true
 }
 
 /// Whether no frame behind a stop with the log's salts counts.

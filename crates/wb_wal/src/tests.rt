@@ -48,7 +48,7 @@ const FRAME_4: usize = 2_176;
 const FRAME_5: usize = 2_712;
 
 /// Two commits of which the first was of two syncs, and the last, of frames 4 and 5, behind them; then zeros.
-static ROWS: [Row; 35] = [
+static ROWS: [Row; 38] = [
     Row(FILE, Nothing, Ok(())),
     // the file
     Row(0, Nothing, Err(Refusal::File)),
@@ -83,7 +83,10 @@ static ROWS: [Row; 35] = [
     // the same in the last commit: the gate of its first frame has no frame behind it that counts
     Row(FILE, Set(FRAME_4 + 8, 0), Ok(())),
     Row(FILE, Set(FRAME_4 + 8, 6), Err(Refusal::Frame(FRAME_4))),
-    Row(FILE, Fill(FRAME_4 + 8, 8, 6), Ok(())),
+    Row(FILE, Fill(FRAME_4 + 8, 8, 6), Err(Refusal::Frame(FRAME_4))),
+    Row(FILE, Fill(FRAME_5 + 8, 8, 6), Ok(())),
+    Row(FILE, Fill(FRAME_5 + 9, 3, 6), Err(Refusal::Frame(FRAME_5))),
+    Row(FILE, Fill(FRAME_5 + 9, 4, 6), Ok(())),
     Row(FILE, Fill(FRAME_2 + 8, 8, 6), Err(Refusal::Frame(FRAME_2))),
     Row(FILE, Set(FRAME_5 + 8, 0), Ok(())),
     // the last commit, of which something was lost

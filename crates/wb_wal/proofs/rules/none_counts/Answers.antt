@@ -1,9 +1,10 @@
-use Rattle.std.proofs.Common.{◌≡◌, ◌+◌, ◌∙◌, ap, refl, sym, subst, arith, length}
+use Rattle.std.proofs.Common.{◌≡◌, suc, ◌+◌, ◌∙◌, ap, refl, sym, subst, arith, length}
 use Rattle.std.proofs.lemmas.Bool.{false≢true}
 use Rattle.sqlite_wal.specs.Format.{part, be32, page_number, count_page}
 use Rattle.sqlite_wal.specs.Recovery.{header, frame}
 use Rattle.wb_wal.specs.Look.{Has, HasSalts}
-use Rattle.wb_wal.proofs.Behind.{CountsNone-first, CountsNone-more, CountsNone-all}
+use Rattle.wb_wal.specs.helpers.Behind.{IsCounting}
+use Rattle.wb_wal.proofs.Behind.{HasPassed-none, HasPassed-more, HasPassed-all}
 use Rattle.wb_wal.proofs.Walk.{at-next, whole}
 use Rattle.wb_wal.proofs.rules.none_counts.Goals.{else-has_salts-via-then-has_salts+else-number_at, else-has_salts-via-else-has_salts}
 use Rattle.wb_wal.proofs.rules.none_counts.Goals as goal
@@ -11,9 +12,10 @@ use Rattle.wb_wal.proofs.rules.none_counts.Goals as goal
 pub loop-frame-init : goal.loop-frame-init
 loop-frame-init c =
     let page = c.args.page in
+    let log = c.args.log.now in
     let stop = c.args.stop.now in
     let s = c.requires.stop in
-    CountsNone-first page c.args.log.now stop.frame _ (omega (arith, s.stands.place, at-next page stop.frame)) (omega (arith, s.stands.place, s.damaged.within))
+    HasPassed-none (IsCounting page log) page log (suc stop.frame) _ (omega (arith, s.stands.place, at-next page stop.frame)) (omega (arith, s.stands.place, s.damaged.within))
 
 pub has_salts-requires-clause-frame : goal.has_salts-requires-clause-frame
 has_salts-requires-clause-frame c =
@@ -52,12 +54,15 @@ loop-frame-preserved c =
     let has : Has page log s.j = omega (arith, is.0, s.place) in
     let next : c.loop-frame.at + length c.in-Some.frame.now ≡ c.loop-frame.at + (24 + page) = ap (λ n. c.loop-frame.at + n) (whole _ _ _ _ is.0 is.1) in
     let same = is.1 ∙ ap (λ at. part log at (24 + page)) s.place in
-    CountsNone-more page log c.args.stop.now.frame c.loop-frame.at _ s has next (elim (c.else-has_salts.branch) [
-      | else-has_salts-via-then-has_salts+else-number_at w ↦ λ _ number. w.if-number_at.false (w.number_at.ensures ∙ ap (λ f. be32 f 0) same ∙ number)
+    HasPassed-more (IsCounting page log) page log (suc c.args.stop.now.frame) c.loop-frame.at _ s has next (elim (c.else-has_salts.branch) [
+      | else-has_salts-via-then-has_salts+else-number_at w ↦ λ it. w.if-number_at.false (w.number_at.ensures ∙ ap (λ f. be32 f 0) same ∙ it.1)
       | else-has_salts-via-else-has_salts w ↦
-          λ salts. absurd (false≢true (sym w.if-has_salts.false ∙ c.has_salts.ensures.1 (subst (λ f. part f 8 8 ≡ part (header log) 16 8) (sym same) salts)))
+          λ it. false≢true (sym w.if-has_salts.false ∙ c.has_salts.ensures.1 (subst (λ f. part f 8 8 ≡ part (header log) 16 8) (sym same) it.0))
     ])
 
 pub returns : goal.returns
 returns c =
-    (λ _. CountsNone-all _ _ _ _ c.loop-frame.invariant (c.in_default.ensures.none refl), λ _. refl)
+    let page = c.args.page in
+    let log = c.args.log.now in
+    let all = HasPassed-all (IsCounting page log) page log _ _ c.loop-frame.invariant (c.in_default.ensures.none refl) in
+    (λ _ j l has salts number. all j l has (salts, number), λ _. refl)
