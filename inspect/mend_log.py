@@ -93,26 +93,6 @@ class Log(verify.Log):
             at += self.length
         return None if self.is_end(at) and not self.signed_behind(at + self.length) else at
 
-    def refusal(self, size: int) -> str | None:
-        """Return why the program refuses this log of a journal file of `size` bytes. Return None if it accepts the log.
-
-        The program checks more than SQLite, and accepts less.
-        """
-        damage = self.damage(size)
-        stop = self.first_stop() if damage is None and self.is_signed() else None
-        if stop is not None:
-            frame = self.frame(stop[0])
-            assert frame is not None  # the log has it whole
-            salts = frame[8:16]
-            is_open = salts[0] == self.salts[0]
-            if (is_open and not self.is_torn(*stop)) or (
-                not is_open and salts[0] != 0 and salts[1:] == self.salts[1:]
-            ):
-                return (
-                    f"the frame from byte {stop[0]} isn't of this log, and no power cut leaves it"
-                )
-        return damage
-
 
 def turned(data: bytes, bit: int) -> bytes:
     """Return the data with one bit turned over."""
@@ -329,9 +309,9 @@ def mend(path: str, folder: str, program: str | None) -> int:
     bits = flipped_bits(data)
     before, data["-wal"] = data["-wal"], with_bits(data["-wal"], bits)
     log = Log(data["-wal"])
-    if (refusal := log.refusal(len(data[""]))) is not None:
+    if (damage := log.damage(len(data[""]))) is not None:
         sys.exit(
-            f"nothing was written: {len(bits)} flipped bits are found, and the program still refuses the log: {refusal}"
+            f"nothing was written: {len(bits)} flipped bits are found, and the program still refuses the log: {damage}"
         )
     os.mkdir(folder, 0o700)
     copy = os.path.join(folder, os.path.basename(path))

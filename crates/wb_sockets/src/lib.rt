@@ -7,6 +7,7 @@ mod clients;
 mod requests;
 mod sockets;
 mod telling;
+mod wall_clock;
 
 pub use requests::StationRequests;
 pub use sockets::{Sockets, StartFault};

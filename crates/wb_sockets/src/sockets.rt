@@ -4,7 +4,9 @@ ghost use Rattle.wb_input.specs.Converted.{IsConverted};
 
 use crate::clients::Clients;
 use crate::telling::{Answered, RequestText, asked};
+use crate::wall_clock::WallClock;
 use std::alloc::AllocError;
+use std::fs::File;
 use std::io::{Read, Write};
 use std::net::{OpenListener, OpenStream, SocketAddr};
 use std::thread;
@@ -57,6 +59,7 @@ where
     report: Report<'a, R>,
     converter: ConverterLink<L::Stream>,
     clients: Clients<L>,
+    clock: WallClock,
     /// When the clock was last read.
     now: Instant,
     /// When the request that isn't answered yet was handed out.
@@ -73,8 +76,9 @@ impl<'a, R: Clock + Eprint + AllocGlobal, L: OpenListener + Drop> Sockets<'a, R,
 where
     L::Stream: Read + Write + OpenStream,
 {
-    /// Over a terminal's listener and an office's, which don't wait, and a converter. With `verbose` it tells on standard error
-    /// what happens, a line each, and otherwise nothing.
+    /// Over a terminal's listener and an office's, which don't wait, and a converter. `uptime` is a file like `/proc/uptime`: while the wall clock differs
+    /// from it by more than a minute since this call, no request is handed out. Without it every clock is believed. With `verbose` it tells on standard
+    /// error what happens, a line each. Otherwise it tells only that the clock jumped.
     ///
     /// # Errors
     ///
@@ -84,6 +88,7 @@ where
         terminal: L,
         office: L,
         converter: ConverterLink<L::Stream>,
+        uptime: Option<File>,
         verbose: bool,
     ) -> Result<Self, StartFault> {
         let Ok(now) = Instant::now(rt) else {
@@ -98,6 +103,7 @@ where
                 report,
                 converter,
                 clients,
+                clock: WallClock::new(rt, uptime),
                 now,
                 asked: None,
                 request: RequestText::new(),
@@ -163,7 +169,8 @@ where
         self.clients.step(self.rt.alloc(), now, &self.report);
     }
 
-    /// The next request, with which an exchange begins, unless the reading before it is old.
+    /// The next request, with which an exchange begins, unless the reading before it is old. A client that asks while the clock is off is hung up
+    /// without an answer, and nothing of its request is judged.
     fn next_request(&mut self) -> Option<Judged> {
         self.step();
         if !self.is_current() {
@@ -171,6 +178,10 @@ where
         }
         let now = self.look_at_clock();
         let request = self.clients.office.take(now)?;
+        if !self.clock.agrees(self.rt) {
+            self.clients.office.respond(self.rt.alloc(), now, b"");
+            return None;
+        }
         self.asked = Some(now);
         if self.report.is_on() {
             self.request = asked(&request);

@@ -3,6 +3,7 @@ use crate::explaining::{Files, explain};
 use crate::start::tell_start;
 use sqlite::Alter;
 use std::fmt::Display;
+use std::fs::File;
 use std::io::IsTerminal;
 use std::net::{TcpListener, TcpStream};
 use thiserror::Error;
@@ -14,6 +15,9 @@ use wb_sockets::{AddressFault, ConverterFault, ConverterLink, Sockets, StartFaul
 use wb_station::Station;
 use wb_store::{Store, StoreFault};
 use wb_window::DequeWindow;
+
+/// Where the kernel says for how long the machine runs.
+const UPTIME: &str = "/proc/uptime";
 
 /// Why a service didn't start, in the order in which it is found.
 #[derive(Clone, Copy, Debug, PartialEq, Eq, Error)]
@@ -143,7 +147,8 @@ fn open_sources<'a>(
     let terminal = listen_at(rt, service, "terminal", &service.terminal)?;
     let office = listen_at(rt, service, "office", &service.office)?;
     let converter = open_converter(rt, service)?;
-    let sources = Sockets::new(rt, terminal, office, converter, service.is_verbose)?;
+    let uptime = File::open(rt, UPTIME).ok();
+    let sources = Sockets::new(rt, terminal, office, converter, uptime, service.is_verbose)?;
     Ok(sources)
 }
 

@@ -2,8 +2,10 @@
 use super::store;
 use sqlite::{Alter, Connection};
 use std::alloc::Global;
+use std::fs;
+use std::fs::File;
 use std::io::{Read, Write};
-use std::net::{OpenListener, TcpListener, TcpStream};
+use std::net::{OpenListener, SocketAddr, TcpListener, TcpStream};
 use std::process::Abort;
 use std::test::Fail;
 use wb_fixtures::ROAD;
@@ -32,6 +34,8 @@ struct Ends {
     converter: TcpStream,
     client: TcpStream,
     typist: TcpStream,
+    /// Where the office listens.
+    office: SocketAddr,
 }
 
 impl Ends {
@@ -72,18 +76,23 @@ impl Ends {
     }
 }
 
-/// A service that listens on ports of its own, and its other ends.
-fn connected(rt: &HostRuntime) -> Result<(Sockets<'_, HostRuntime, TcpListener>, Ends), Fail> {
+/// A service that listens on ports of its own, and its other ends. `uptime` is its file with the time that passed.
+fn connected(
+    rt: &HostRuntime,
+    uptime: Option<File>,
+) -> Result<(Sockets<'_, HostRuntime, TcpListener>, Ends), Fail> {
     let terminal = listen(rt, "127.0.0.1:0")?;
     let office = listen(rt, "127.0.0.1:0")?;
-    let client = TcpStream::connect(rt, office.local_addr()?)?;
+    let address = office.local_addr()?;
+    let client = TcpStream::connect(rt, address)?;
     let typist = TcpStream::connect(rt, terminal.local_addr()?)?;
     let (source, converter) = played(rt)?;
-    let sockets = Sockets::new(rt, terminal, office, source, false)?;
+    let sockets = Sockets::new(rt, terminal, office, source, uptime, false)?;
     let ends = Ends {
         converter,
         client,
         typist,
+        office: address,
     };
     Ok((sockets, ends))
 }
@@ -107,7 +116,7 @@ fn serves<D: Alter + Drop>(
     conn: Connection<D>,
 ) -> Result<(), Fail> {
     let mut station = road(rt.alloc(), conn)?;
-    let (mut sockets, mut ends) = connected(rt)?;
+    let (mut sockets, mut ends) = connected(rt, None)?;
     answers(abort, &mut station, &mut sockets, &mut ends)?;
     drop(ends);
     sockets.finish();
@@ -132,4 +141,48 @@ fn answers<D: Alter>(
 #[test]
 fn serves_ten_turns(rt: HostRuntime) -> Result<(), Fail> {
     serves(&rt, &rt, Connection::open_in_memory(rt.alloc())?)
+}
+
+/// The file that stands for the kernel's uptime.
+const UPTIME: &str = "uptime.txt";
+
+/// Serves thirty turns: while less time passed than by the wall clock, a client is hung up without an answer, and the terminal is answered.
+fn withholds<D: Alter + Drop>(
+    abort: &impl Abort,
+    rt: &HostRuntime,
+    conn: Connection<D>,
+) -> Result<(), Fail> {
+    let mut station = road(rt.alloc(), conn)?;
+    fs::write(rt, UPTIME, "5000.25 9000.00\n")?;
+    let (mut sockets, mut ends) = connected(rt, Some(File::open(rt, UPTIME)?))?;
+    fs::write(rt, UPTIME, "5059.00 9000.00\n")?;
+    answers(abort, &mut station, &mut sockets, &mut ends)?;
+    hangs_up(abort, rt, &mut station, &mut sockets, &mut ends)?;
+    drop(ends);
+    sockets.finish();
+    Ok(())
+}
+
+/// Serves twenty turns after a client that was answered.
+fn hangs_up<D: Alter>(
+    abort: &impl Abort,
+    rt: &HostRuntime,
+    station: &mut Station<RingWindow, D>,
+    sockets: &mut Sockets<'_, HostRuntime, TcpListener>,
+    ends: &mut Ends,
+) -> Result<(), Fail> {
+    fs::write(rt, UPTIME, "4930.00 9000.00\n")?;
+    ends.client = TcpStream::connect(rt, ends.office)?;
+    ends.send()?;
+    assert_eq!(abort; serve(station, sockets, 10), ServeEnd::Turns(10));
+    ends.typist_is_answered(abort)?;
+    assert!(abort; ends.client_has_all()?, "it gets no answer");
+    fs::write(rt, UPTIME, "5000.00 9000.00\n")?;
+    ends.client = TcpStream::connect(rt, ends.office)?;
+    answers(abort, station, sockets, ends)
+}
+
+#[test]
+fn answers_no_request_while_the_clock_is_off(rt: HostRuntime) -> Result<(), Fail> {
+    withholds(&rt, &rt, Connection::open_in_memory(rt.alloc())?)
 }

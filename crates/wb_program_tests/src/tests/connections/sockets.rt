@@ -230,7 +230,7 @@ impl<'a> Desk<'a> {
         Ok(Desk {
             bench,
             wires,
-            sockets: Sockets::new(bench, terminal, office, converter, course.is_verbose)?,
+            sockets: Sockets::new(bench, terminal, office, converter, None, course.is_verbose)?,
             is_by_bytes: false,
         })
     }
