@@ -49,6 +49,16 @@ CATALOGUE = {
         "troubleshooting.md#store-faults",
         stops=True,
     ),
+    "clock_jumped": Words(
+        "The PC's clock jumped",
+        "set the clock, or restart the PC",
+        "The clock of this PC was put while the service ran. No vehicle can be weighed.",
+        "If the clock is wrong, set it. If it is right now, empty the bridge, restart the PC, and set"
+        f" the zero (F9). {CALL}",
+        "operating.md#if-the-clock-jumped",
+        stops=True,
+        covers=("office",),
+    ),
     "zero": Words(
         "Zero isn't set",
         "empty the bridge, press F9",

@@ -10,6 +10,7 @@ from .faults import Fault, fault
 MOST_NAMES = 40
 # Without the counter nobody knows whether these are still wrong. The office knows the others.
 OF_COUNTER = {
+    "clock_jumped",
     "zero",
     "tare_left",
     "lists",

@@ -2,6 +2,7 @@
 
 from typing import Any
 
+from .clock import has_jumped
 from .counter import Counter
 
 
@@ -33,6 +34,7 @@ def faults_of(counter: Counter) -> list[str]:
         "terminal": state["link"] != "up",
         "weight": not has_weight,
         "office": state["office"] != "ok",
+        "clock_jumped": has_jumped(counter.service),
         "zero": not state["zero"]["known"],
         "tare_left": state["tare_left"],
         "lists": not state["lists_whole"],
@@ -46,7 +48,7 @@ def faults_of(counter: Counter) -> list[str]:
     return [name for name, is_so in found.items() if is_so]
 
 
-STOPS_WEIGHING = {"terminal", "weight", "office", "full"}
+STOPS_WEIGHING = {"terminal", "weight", "office", "clock_jumped", "full"}
 
 
 def health_of(counter: Counter) -> dict[str, Any]:
