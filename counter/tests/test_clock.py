@@ -10,11 +10,11 @@ from pathlib import Path
 from weighbridge_counter.clock import has_jumped, jump_of
 from weighbridge_counter.service import Service
 
-AGO = 5000.0  # the service was started so many seconds ago
+AGO = 5000.0  # in seconds: how long ago the service was started
 
 
 class JumpTest(unittest.TestCase):
-    def setUp(self):
+    def setUp(self) -> None:
         folder = tempfile.TemporaryDirectory()
         self.addCleanup(folder.cleanup)
         self.started, self.proc = Path(folder.name) / "started", Path(folder.name) / "proc"
@@ -22,30 +22,30 @@ class JumpTest(unittest.TestCase):
         ticks = (time.clock_gettime(time.CLOCK_BOOTTIME) - AGO) * os.sysconf("SC_CLK_TCK")
         self.service = Service(77, round(ticks), "boot", ("weighbridge", "serve"))
 
-    def put(self, ahead, form="%Y-%m-%dT%H:%M:%SZ\n"):
-        """Write that the service was started when the clock said so many seconds more than it says now."""
+    def put(self, ahead: float) -> None:
+        """Write that the clock was `ahead` by these seconds when the service was started."""
         moment = datetime.fromtimestamp(time.time() - AGO + ahead, timezone.utc)
-        self.started.write_text(moment.strftime(form), encoding="ascii")
+        self.started.write_text(moment.strftime("%Y-%m-%dT%H:%M:%SZ\n"), encoding="ascii")
 
-    def jump(self):
+    def jump(self) -> float | None:
         return jump_of(self.service, self.started, self.proc)
 
-    def jumped(self):
+    def jumped(self) -> bool:
         return has_jumped(self.service, self.started, self.proc)
 
-    def test_a_clock_that_nobody_put_agrees(self):
+    def test_a_clock_that_nobody_put_agrees(self) -> None:
         self.put(0)
-        self.assertAlmostEqual(self.jump(), 0, delta=2)
+        self.assertAlmostEqual(self.jump() or 0.0, 0, delta=2)
         self.assertFalse(self.jumped())
 
-    def test_more_than_a_minute_is_a_jump(self):
+    def test_more_than_a_minute_is_a_jump(self) -> None:
         for ahead, is_jump in ((-55, False), (55, False), (-65, True), (65, True), (1e8, True)):
             with self.subTest(ahead):
                 self.put(ahead)
-                self.assertAlmostEqual(self.jump(), -ahead, delta=2)
+                self.assertAlmostEqual(self.jump() or 0.0, -ahead, delta=2)
                 self.assertEqual(self.jumped(), is_jump)
 
-    def test_what_cannot_be_told_is_no_jump(self):
+    def test_what_cannot_be_told_is_no_jump(self) -> None:
         self.assertIsNone(self.jump(), "there is no file")
         for text in ("", "now\n", "2026-11-28\n", "2026-11-28T25:00:00Z\n", "\udcff"):
             with self.subTest(text):
@@ -57,7 +57,7 @@ class JumpTest(unittest.TestCase):
         self.assertIsNone(self.jump(), "the process has ended")
 
     @unittest.skipUnless(os.getuid() == 0, "needs root")
-    def test_a_service_of_another_user_was_not_started_by_the_unit(self):
+    def test_a_service_of_another_user_was_not_started_by_the_unit(self) -> None:
         self.put(1e6)
         os.chown(self.started, 65534, 65534)
         self.assertIsNone(self.jump())

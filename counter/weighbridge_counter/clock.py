@@ -15,7 +15,7 @@ MOST_SECONDS = 60.0
 
 
 def jump_of(service: Service | None, started: Path = STARTED, proc: Path = PROC) -> float | None:
-    """By how many seconds the clock was put since the service's start. None if that can't be told, as of a service that no unit started."""
+    """Return by how many seconds the clock was put since the service's start. Return None if nothing says so, for example if no unit started the service."""
     if service is None:
         return None
     try:

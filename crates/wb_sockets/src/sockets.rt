@@ -77,8 +77,8 @@ where
     L::Stream: Read + Write + OpenStream,
 {
     /// Over a terminal's listener and an office's, which don't wait, and a converter. `uptime` is a file like `/proc/uptime`: while the wall clock differs
-    /// from it by more than a minute since this call, no request is handed out. Without it every clock is believed. With `verbose` it tells on standard
-    /// error what happens, a line each. Otherwise it tells only that the clock jumped.
+    /// from it by more than a minute since this call, no request is returned. Without it, each clock is believed. With `verbose`, each event is logged on
+    /// standard error. Otherwise only a jump of the clock is logged.
     ///
     /// # Errors
     ///
@@ -169,8 +169,8 @@ where
         self.clients.step(self.rt.alloc(), now, &self.report);
     }
 
-    /// The next request, with which an exchange begins, unless the reading before it is old. A client that asks while the clock is off is hung up
-    /// without an answer, and nothing of its request is judged.
+    /// Returns the next request, with which an exchange begins, unless the reading before it is old. While the clock is off, a client that asks is
+    /// disconnected without an answer, and its request isn't judged.
     fn next_request(&mut self) -> Option<Judged> {
         self.step();
         if !self.is_current() {

@@ -35,8 +35,8 @@ impl WallClock {
         }
     }
 
-    /// Returns true if as much time passed by the wall clock as by the uptime since the start, but for a minute. Standard error is told once when it no
-    /// longer did, and once when it does again.
+    /// Returns true if as much time passed by the wall clock as by the uptime since the start, within a minute. Logs once that they differ, and once that
+    /// they agree again.
     pub(crate) fn agrees<R: Clock + Eprint>(&mut self, rt: &R) -> bool {
         let (Some(began), Some(now)) = (self.began, began_at(rt, self.uptime.as_ref())) else {
             return true;
@@ -46,7 +46,7 @@ impl WallClock {
         if is_off && !self.is_off {
             let side = if now > began { "ahead" } else { "back" };
             let _ = eprintln!(rt;
-                "clock: it went {side} by {seconds} s since the start, so no request at the office is answered; set it right, or start the service again if it is right now: see operating.md, If the clock jumped"
+                "clock: it went {side} by {seconds} s since the start, and no request at the office is answered. Set it, or restart the service if it is right now. See operating.md, If the clock jumped"
             );
         }
         if self.is_off && !is_off {

@@ -1,6 +1,6 @@
--- Which log beside a file of a database no power cut can have left, while the disk keeps what was synced: four rules, in this order. `file` is how many
--- bytes the file has, `log` are the bytes of its log. A signed header, a frame, the test that it passes and the checksum before it are the kit's own
--- account of its log (sqlite_wal, Format and Recovery), and so is the count of a commit of one sync.
+-- Four rules, in this order, say which log of a database's file no power cut can have left, while the disk keeps what was synced. `file` is how many
+-- bytes the file has, `log` are the bytes of its log. Header, frame, the test that a frame passes, the checksum before it and the count of a commit of
+-- one sync are the kit's own account of its log (sqlite_wal, Format and Recovery).
 use Rattle.std.specs.Prelude.{◌≡◌, ◌≢◌, ◌⊎◌, ℕ, zero, suc, ◌+◌, ◌-◌, ◌<◌, ◌≤◌, [], ◌∷◌, List, length, slice_index, drop}
 use Rattle.std.specs.Int.{w32, to_be_bytes}
 use Rattle.sqlite_wal.specs.Format.{part, be32, be64, zeros, checksum, is_big, IsSigned, IsFrame, page_number, commit_size, content, count_page}
@@ -70,7 +70,7 @@ pub record Begins (page : ℕ) (log : List ℕ) (first k : ℕ) : Type 0 where
 abbrev pub IsShut : ℕ → List ℕ → ℕ → Type 0
 IsShut page log k = Begins page log k k × (¬ IsOpen page log k) × (gate page log k ≡ 0)
 
--- No frame from k on with the log's salts stands behind one that ends a commit: a commit is synced before the next is written.
+-- No frame from k on with the log's salts follows one that ends a commit: a commit is synced before the next is written.
 abbrev pub IsOfLastCommit : ℕ → List ℕ → ℕ → Type 0
 IsOfLastCommit page log k =
     (i j : ℕ) → k ≤ i → i < j → Has page log j → HasSalts page log i → Commits page log i → ¬ HasSalts page log j
@@ -85,8 +85,8 @@ pub record IsFormer (page : ℕ) (log : List ℕ) (k : ℕ) : Type 0 where
   pub second : be32 (frame page log k) 12 ≢ be32 (header log) 20
   pub none : NoneSigned page log k
 
--- Rule 4: the last commit is one of one sync, written over zeros. What a power cut took of it is 0, so that it lacks more than its first frame counts,
--- or just that, with each other byte of its salts and checksums right.
+-- Rule 4: the last commit is one of one sync, written over zeros. A byte that a power cut took is 0. So the commit lacks more than its first frame
+-- counts, or just that, and each other byte of its salts and checksums is right.
 
 -- frames first to first + n are a commit that ends
 pub record IsCommit (page : ℕ) (log : List ℕ) (first n : ℕ) : Type 0 where
@@ -164,7 +164,7 @@ pub record IsTorn (page : ℕ) (log : List ℕ) (k : ℕ) : Type 0 where
 abbrev pub MayStop : ℕ → List ℕ → ℕ → Type 0
 MayStop page log k = NoneCounts page log k × (IsShut page log k ⊎ IsFormer page log k ⊎ IsTorn page log k)
 
--- What is refused, and why.
+-- The refusals.
 
 -- the file is there, and the log holds something
 abbrev pub BothHold : ℕ → List ℕ → Type 0

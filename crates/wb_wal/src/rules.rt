@@ -38,7 +38,7 @@ impl Display for Refusal {
     }
 }
 
-/// Refuses the log beside a file of so many bytes, unless a power cut can have left the two. No byte is 0 bytes of file.
+/// Refuses the log of a file with `file` bytes, unless a power cut can have left both so. A missing file has 0 bytes.
 pub fn look(file: u64, log: &[u8]) -> Result<(), Refusal>
     ensures taken { OnOk result ((refusal : Refusal) → ¬ IsRefused file log.now refusal) }
     ensures refused { IfErr result (λ refusal. IsRefused file log.now refusal) }
@@ -73,7 +73,7 @@ pub fn look(file: u64, log: &[u8]) -> Result<(), Refusal>
     }
 }
 
-/// Whether a log has what a file must have had: a frame, or the header of a log that had a checkpoint.
+/// Returns true if a log has what a file must have had: a frame, or the header of a log that had a checkpoint.
 fn needs_file(log: &[u8]) -> bool
     ensures { IsTrue result ↔ NeedsFile log.now }
 {
@@ -84,8 +84,8 @@ fn needs_file(log: &[u8]) -> bool
     log.len() >= LEAST || (is_signed(head) && !is_begun(head))
 }
 
-/// Whether the first frame that doesn't pass may be so: no commit of one sync begins behind it, and it is a shut gate, of a former log, or of the
-/// commit that was being written.
+/// Returns true if a power cut or a former log may have left the frame at a stop. Then no commit of one sync begins behind it. And its gate is shut, or it
+/// is of a former log or of the commit that was being written.
 fn may_stop(log: &[u8], page: usize, stop: &Stop) -> bool
     requires head { 32 ≤ length log.now }
     requires page { (8 ≤ page) × (page ≤ 65536) }
@@ -98,7 +98,7 @@ fn may_stop(log: &[u8], page: usize, stop: &Stop) -> bool
     is_shut(log, page, stop) || is_former(log, page, stop) || is_torn(log, page, stop)
 }
 
-/// The frame at a stop.
+/// Returns the frame at a stop.
 fn frame_at<'a>(log: &'a [u8], page: usize, stop: &Stop) -> &'a [u8]
     requires stop { StopsAt page log.now stop.now }
     ensures value { result.now ≡ frame page log.now (stop.now.frame) }
@@ -107,7 +107,7 @@ fn frame_at<'a>(log: &'a [u8], page: usize, stop: &Stop) -> &'a [u8]
     &log[stop.at..stop.at + (FRAME_HEADER + page)]
 }
 
-/// Whether a stop is the first frame of its commit, whose gate is shut.
+/// Returns true if a stop is the first frame of its commit, whose gate is shut.
 fn is_shut(log: &[u8], page: usize, stop: &Stop) -> bool
     requires head { 32 ≤ length log.now }
     requires page { (8 ≤ page) × (page ≤ 65536) }
@@ -122,7 +122,7 @@ fn is_shut(log: &[u8], page: usize, stop: &Stop) -> bool
     gate == 0
 }
 
-/// Whether the frame at a stop is one of a log before this one.
+/// Returns true if the frame at a stop is one of a log before this one.
 fn is_former(log: &[u8], page: usize, stop: &Stop) -> bool
     requires head { 32 ≤ length log.now }
     requires page { (8 ≤ page) × (page ≤ 65536) }
@@ -140,7 +140,7 @@ fn is_former(log: &[u8], page: usize, stop: &Stop) -> bool
     none_signed(log, page, stop)
 }
 
-/// Whether a stop is in the last commit, which was being written.
+/// Returns true if a stop is in the last commit, which was being written.
 fn is_torn(log: &[u8], page: usize, stop: &Stop) -> bool
     requires head { 32 ≤ length log.now }
     requires page { (8 ≤ page) × (page ≤ 65536) }
@@ -155,7 +155,7 @@ fn is_torn(log: &[u8], page: usize, stop: &Stop) -> bool
     is_of_last_commit(log, page, stop) && may_have_lost(log, page, stop)
 }
 
-/// Whether no frame from a stop on has the log's salts.
+/// Returns true if no frame from a stop on has the log's salts.
 fn none_signed(log: &[u8], page: usize, stop: &Stop) -> bool
     requires head { 32 ≤ length log.now }
     requires page { page ≤ 65536 }
@@ -173,7 +173,7 @@ fn none_signed(log: &[u8], page: usize, stop: &Stop) -> bool
     true
 }
 
-/// Whether no frame behind a stop with the log's salts counts.
+/// Returns true if no frame behind a stop has the log's salts and counts.
 fn none_counts(log: &[u8], page: usize, stop: &Stop) -> bool
     requires head { 32 ≤ length log.now }
     requires page { page ≤ 65536 }
@@ -191,7 +191,7 @@ fn none_counts(log: &[u8], page: usize, stop: &Stop) -> bool
     true
 }
 
-/// Whether no frame from a stop on with the log's salts stands behind one that ends a commit.
+/// Returns true if no frame from a stop on with the log's salts follows one that ends a commit.
 fn is_of_last_commit(log: &[u8], page: usize, stop: &Stop) -> bool
     requires head { 32 ≤ length log.now }
     requires page { page ≤ 65536 }
@@ -213,7 +213,7 @@ fn is_of_last_commit(log: &[u8], page: usize, stop: &Stop) -> bool
     true
 }
 
-/// Whether the commit that a stop is in is one of one sync, and lost bytes and nothing else.
+/// Returns true if the commit of a stop is one of one sync, and lost bytes and nothing else.
 fn may_have_lost(log: &[u8], page: usize, stop: &Stop) -> bool
     requires head { 32 ≤ length log.now }
     requires page { (8 ≤ page) × (page ≤ 65536) }

@@ -16,15 +16,15 @@ const SALTS: [u8; 8] = [7, 1, 2, 3, 4, 5, 6, 9];
 /// The number of a frame that counts.
 const COUNT: u32 = 0xff00_0000;
 
-/// What happened to a log.
+/// A change of a log.
 #[derive(Clone, Copy, Drop)]
 enum Change {
     Nothing,
     /// The byte at a place is this one.
     Set(usize, u8),
-    /// The bytes from a place on, so many, are 0.
+    /// The bytes from a place on are 0. The second number is how many.
     Lost(usize, usize),
-    /// The bytes from a place on, so many, are this one.
+    /// The bytes from a place on are this one. The second number is how many.
     Fill(usize, usize, u8),
     /// The log ends there.
     Cut(usize),
@@ -122,7 +122,7 @@ struct Writer {
 }
 
 impl Writer {
-    /// A log with its header.
+    /// Makes a log with its header.
     fn new(alloc: Global) -> Result<Self, Fail> {
         let mut writer = Writer {
             bytes: Vec::new(alloc),
@@ -147,7 +147,7 @@ impl Writer {
         self.number(second)
     }
 
-    /// A frame of a page's number, with the size of the database where it ends a commit.
+    /// Writes a frame of a page's number, with the size of the database where it ends a commit.
     fn frame(&mut self, number: u32, size: u32, page: &[u8; PAGE]) -> Result<(), Fail> {
         let mut front = [0u8; 8];
         front[..4].copy_from_slice(&number.to_be_bytes());
@@ -160,7 +160,7 @@ impl Writer {
         Ok(self.bytes.extend_from_slice(page)?)
     }
 
-    /// A commit of one sync: a frame that counts, and page 1 of two.
+    /// Writes a commit of one sync: a frame that counts, and page 1 of two.
     fn counted(&mut self) -> Result<(), Fail> {
         let mut first = page();
         let zeros = 2 * 16 - 8;
@@ -171,14 +171,14 @@ impl Writer {
     }
 }
 
-/// A page whose first 16 bytes are 0, and no others.
+/// Returns a page whose first 16 bytes are 0, and no others.
 fn page() -> [u8; PAGE] {
     let mut page = [5u8; PAGE];
     page[..16].copy_from_slice(&[0u8; 16]);
     page
 }
 
-/// A commit of two syncs, two of one sync, and zeros.
+/// Returns a log of a commit of two syncs, two of one sync, and zeros.
 fn log(alloc: Global) -> Result<Vec<u8>, Fail> {
     let mut writer = Writer::new(alloc)?;
     writer.frame(1, 0, &page())?;
@@ -190,7 +190,7 @@ fn log(alloc: Global) -> Result<Vec<u8>, Fail> {
     Ok(bytes)
 }
 
-/// A commit of two syncs, and a transaction that didn't fit into memory: three commits of which the last two have no gate.
+/// Returns a log of a commit of two syncs, and of a transaction that didn't fit into memory: three commits of which the last two have no gate.
 fn spilled(alloc: Global) -> Result<Vec<u8>, Fail> {
     let mut writer = Writer::new(alloc)?;
     for size in [0, 2, 0, 2, 2, 2] {
@@ -199,7 +199,7 @@ fn spilled(alloc: Global) -> Result<Vec<u8>, Fail> {
     Ok(writer.bytes)
 }
 
-/// The same of a log in which no frame counts.
+/// What the look says of a log in which no frame counts.
 static SPILLED: [Row; 6] = [
     Row(FILE, Nothing, Ok(())),
     // the gate of the transaction is shut, or its first frame isn't there yet
@@ -212,7 +212,7 @@ static SPILLED: [Row; 6] = [
     Row(FILE, Fill(FRAME_2 + 8, 8, 6), Err(Refusal::Frame(FRAME_2))),
 ];
 
-/// What the look says of a log to which that happened.
+/// Returns what the look says of a log with this change.
 fn judged(mut bytes: Vec<u8>, row: &Row) -> Result<(), Refusal> {
     let Row(file, change, _) = row;
     match change {
@@ -225,7 +225,7 @@ fn judged(mut bytes: Vec<u8>, row: &Row) -> Result<(), Refusal> {
     look(*file, bytes.as_slice())
 }
 
-/// Sets so many bytes from a place on to this one.
+/// Sets `count` bytes from a place on to this one.
 fn fill(bytes: &mut [u8], place: usize, count: usize, byte: u8) {
     for found in bytes.iter_mut().skip(place).take(count) {
         *found = byte;

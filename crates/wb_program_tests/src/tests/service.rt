@@ -76,7 +76,7 @@ impl Ends {
     }
 }
 
-/// A service that listens on ports of its own, and its other ends. `uptime` is its file with the time that passed.
+/// Opens a service that listens on ports of its own, and its other ends. `uptime` is its file with the time that passed.
 fn connected(
     rt: &HostRuntime,
     uptime: Option<File>,
