@@ -357,6 +357,9 @@ class LogTest(Looks):
 
     def test_a_log_that_cannot_be_read_is_said_and_nothing_is_skipped(self) -> None:
         it = self.begun()
+        it.say("converter fault")
+        it.look()
+        it.later()
         it.no_log = "journalctl: No such file or directory"
         it.say(START)
         self.assertEqual(it.kinds(), ["unseen"])

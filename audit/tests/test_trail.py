@@ -70,9 +70,14 @@ class KillTest(Trails):
             self.assertEqual((trail.faults, trail.torn), ([], b""), count)
             self.assertTrue(it.data().startswith(before), "nothing that was written is changed")
             is_torn = any(one["event"] == "torn" for one in it.events())
+            noted = without_torn(it.events())
+            it.later(60)
+            it.seen["zero"] = {"tenths": 13, "set": "2026-12-01T07:06:00Z"}
+            self.assertIn("changed", it.kinds())
+            self.assertEqual((it.trail().faults, it.trail().torn), ([], b""), count)
             rest = trail_of(before)
             self.assertEqual(is_torn, rest.torn != b"", count)
-            return without_torn(it.events())
+            return noted
 
     def test_a_power_cut_at_each_byte_loses_and_doubles_nothing(self) -> None:
         whole = self.cut_at(1 << 20)
