@@ -16,7 +16,7 @@ from tests.played import (
     Played,
 )
 from weighbridge_audit.deciding import BUSY, DAY, HOUR, JUMP, LATE, MOST_GROUPS, known_of, shown
-from weighbridge_audit.saying import Message, event_of
+from weighbridge_audit.saying import RUNNING, Message, event_of
 
 
 class Looks(unittest.TestCase):
@@ -387,6 +387,31 @@ class LogTest(Looks):
         self.assertNotIn("gap", kinds)
         found = sum(one["count"] for one in it.events() if one["event"] in ("fault", "more"))
         self.assertEqual(found, count)
+
+
+class GrowthTest(Looks):
+    def a_day(self, it: Played, number: int) -> None:
+        """Switch the machine on, weigh all day, set the zero three times, and purge."""
+        it.wall, it.up, it.boot = it.wall + 12 * HOUR, 60, f"{number:032x}"
+        for unit in RUNNING:
+            it.say("Started", unit, "39f53479d3a045ac8e11786248231fbf")
+        it.say(START)
+        it.say(f"calibration 4, {DIGEST}", CONVERTER)
+        it.say("office 127.0.0.1:1: POST /purge: 200 PURGED 40 in 3 ms")
+        for at in range(3):
+            it.seen["zero"] = {"tenths": at + number % 3, "set": shown(it.wall)}
+            it.seen["journal"] = {"file": 7, "newest": 124 + number, "digest": f"{number:064x}"}
+            it.look()
+            it.later(3 * HOUR)
+        for unit in RUNNING:
+            it.say("Stopped", unit, "9d1aaa27d60140bd96365438aad20286")
+
+    def test_a_year_of_a_bridge(self) -> None:
+        self.it.look()
+        before = len(self.it.data())
+        for number in range(1, 11):
+            self.a_day(self.it, number)
+        self.assertLess((len(self.it.data()) - before) // 10 * 365, 1_500_000)
 
 
 class SayingTest(unittest.TestCase):
