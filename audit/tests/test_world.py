@@ -246,8 +246,11 @@ class JournalctlTest(Machines):
     def test_a_program_that_hangs_is_killed(self) -> None:
         with patch.object(world, "SECONDS_OF_A_LOG", 0.3), patch.object(world, "AFTER_A_LOG", 0.1):
             it = self.log(entry("c1", START), None, "sleep 60")
-        assert isinstance(it, Log)
-        self.assertEqual(len(it.messages), 1)
+            assert isinstance(it, Log)
+            self.assertEqual(len(it.messages), 1)
+            # nothing is known of the cursor's line, so nobody says that it is gone
+            it = self.log(b"", "c1", "sleep 60")
+        self.assertEqual(it, "journalctl said nothing within 0 seconds")
 
     def test_foreign_lines(self) -> None:
         for line in (

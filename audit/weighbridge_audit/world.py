@@ -23,7 +23,8 @@ from .saying import UNITS, Message
 MOST_OF_A_FILE = 1 << 20  # bytes of a setup or of the calibration file
 MOST_OF_A_PROGRAM = 256 << 20
 MOST_PROGRAMS, MOST_SETUPS = 500, 40
-MOST_MESSAGES, MOST_OF_A_MESSAGE = 200_000, 65_536
+# A look has room for all of them in the memory of its unit. No form of a line is longer than a text.
+MOST_MESSAGES, MOST_OF_A_MESSAGE, MOST_OF_A_TEXT = 100_000, 65_536, 2_000
 SECONDS, SECONDS_OF_A_LOG, AFTER_A_LOG = 20.0, 60.0, 2.0
 FIELDS = ("EXIT_CODE", "EXIT_STATUS", "UNIT_RESULT")
 SETUPS = (
@@ -116,7 +117,9 @@ def message_of(line: bytes) -> Message | None:
     number = text("MESSAGE_ID")
     unit = text("UNIT") if number and text("UNIT") else text("_SYSTEMD_UNIT")
     fields = {name: text(name) for name in FIELDS if text(name)}
-    return Message(text("MESSAGE"), unit, int(at[:16]) // 1_000_000, cursor, number, fields)
+    return Message(
+        text("MESSAGE")[:MOST_OF_A_TEXT], unit, int(at[:16]) // 1_000_000, cursor, number, fields
+    )
 
 
 def lines_of(source: IO[bytes], until: float) -> Iterator[bytes]:
@@ -193,6 +196,8 @@ class RealWorld:
         said = it.stderr.read(2000).decode("utf-8", "replace").strip().splitlines()
         it.stdout.close()
         it.stderr.close()
+        if not is_all and not messages:
+            return f"journalctl said nothing within {SECONDS_OF_A_LOG:.0f} seconds"
         if is_all and it.returncode != 0:
             return f"journalctl ended with status {it.returncode}: {said[-1][:100] if said else 'no word'}"
         return joined(cursor, messages)
