@@ -456,7 +456,7 @@ class SayingTest(unittest.TestCase):
             self.assertEqual(self.event(text, unit), kind, text)
 
     def test_the_forms_are_those_of_the_sources(self) -> None:
-        """If the service says it in other words, this test fails, and not the trail of a bridge."""
+        """Compare the forms with the sources, so that a service with other words fails here and not at a bridge."""
         for path, words in (
             ("crates/weighbridge/src/start.rt", '"weighbridge {VERSION}, sources {SOURCES}, proved by {KIT}; "'),
             ("crates/weighbridge/src/start.rt", '"newest {} {}"'),

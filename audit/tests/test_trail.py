@@ -39,7 +39,7 @@ class Trails(unittest.TestCase):
         self.it = Played(folder.name)
 
     def grown(self, looks: int = 4) -> bytes:
-        """Return a trail of so many lines."""
+        """Return a trail of `looks` lines."""
         for at in range(looks):
             self.it.seen["zero"] = {"tenths": at, "set": f"2026-12-01T07:0{at}:00Z"}
             self.it.look()
@@ -49,7 +49,7 @@ class Trails(unittest.TestCase):
 
 class KillTest(Trails):
     def cut_at(self, count: int, zeros: int = 0) -> list[Event]:
-        """Let the power go after so many bytes of a line, then look again. Return all events."""
+        """Let the power go after `count` bytes of a line, then look again. Return all events."""
         with TemporaryDirectory() as folder:
             it = Played(folder)
             it.look()

@@ -1,6 +1,6 @@
 """The state machine of the trail: from what a look saw to the events that it notes. It has no clock, no file and no socket.
 
-What is known is only what the lines of the trail say. So a look that was killed before its line was on the disk left nothing, and the next look sees the same.
+Only the lines of the trail count as known. So a look that was killed before its line was on the disk left nothing, and the next look sees the same.
 """
 
 from collections import Counter
@@ -13,7 +13,7 @@ from .trail import Event, Line, Trail, digest_of
 Value = str | int
 Values = dict[str, Value]
 
-# What a look sees of one thing: its values, None if it isn't there, or a text that says why it can't be seen.
+# A look sees of one thing its values, None if it isn't there, or a text that says why it can't be seen.
 Thing = Values | None | str
 
 DAY, HOUR = 86_400, 3_600
@@ -54,7 +54,7 @@ class Clock:
 
 @dataclass(frozen=True)
 class Log:
-    """What came in the system's journal. It is joined if the last line that was read before is still there."""
+    """The new lines of the system's journal. It is joined if the last line that was read before is still there."""
 
     messages: list[Message]
     cursor: str | None
@@ -63,7 +63,7 @@ class Log:
 
 @dataclass(frozen=True)
 class Hint:
-    """What the last look left in a second file. It counts only if no line was added since, and a lost one costs nothing but time."""
+    """A note of the last look in a second file. It counts only if no line was added since, and a lost one costs nothing but time."""
 
     number: int
     clock: Clock
@@ -73,7 +73,7 @@ class Hint:
 
 @dataclass(frozen=True)
 class Seen:
-    """What a look saw."""
+    """All that a look saw."""
 
     clock: Clock
     log: Log | str
@@ -82,7 +82,7 @@ class Seen:
 
 @dataclass
 class Known:
-    """What the lines of the trail say."""
+    """All that the lines of the trail say."""
 
     number: int = 0
     clock: Clock | None = None  # of the last line
@@ -123,7 +123,7 @@ class Known:
                 self.things[JOURNAL] = {**(self.things.get(JOURNAL) or {}), **newest}
 
     def is_busy(self, clock: Clock) -> bool:
-        """Return True if the lines of the last 24 hours have so many bytes that this look must wait for the hour's end."""
+        """Return True if the lines of the last 24 hours have more than BUSY bytes, and the hour after the last line isn't over."""
         last = self.clock
         if last is None or not 0 <= clock.wall - last.wall < HOUR:
             return False
@@ -157,7 +157,7 @@ def usable(hint: Hint | None, known: Known) -> Hint | None:
 
 
 def must_wait(known: Known, trail: Trail, clock: Clock) -> bool:
-    """Return True if this look notes nothing and reads nothing, because the last ones noted too much. What it leaves is noted by a later look."""
+    """Return True if this look notes nothing and reads nothing, because the last ones noted too much. A later look notes what it leaves."""
     return known.is_busy(clock) and not (trail.torn or trail.lacks_end)
 
 
@@ -337,7 +337,7 @@ def is_day_over(day: Clock | None, clock: Clock) -> bool:
 
 
 def events_of_log(known: Known, log: Log | str) -> list[Event]:
-    """Return the events of the system's journal, each with its moment. Those that say the same are one event with their number."""
+    """Return the events of the system's journal, each with its moment. Equal events are one, with their number."""
     what = "the system's journal"
     if isinstance(log, str):
         return (

@@ -1,6 +1,6 @@
 """Recognizes the lines of the system's journal. A line that has none of these forms gives no event, so no plate and no key of a weighing gets into the trail.
 
-The service's lines are in English always. Those of systemd are recognized by their numbers, which are the same in every language.
+The service's lines are in English always. Lines of systemd are recognized by their numbers, which no language changes.
 """
 
 import re

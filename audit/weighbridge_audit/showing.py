@@ -8,13 +8,13 @@ from .trail import Event, Line, Trail
 
 WIDTH = 80
 INDENT = " " * 6
-# What an event says, before its values.
+# The words for each event, before its values.
 WORDS = {
     "back": "is there again",
     "begin": "the trail begins here",
     "boot": "the machine was started",
     "broken": "the trail was changed before this line",
-    "busy": "so much was noted that looks note something only once an hour",
+    "busy": "the day has many lines, so looks note something only once an hour",
     "calibration-used": "the converter started with a calibration",
     "changed": "was changed",
     "check-failed": "the night found the journal damaged, or couldn't check it",
@@ -31,7 +31,7 @@ WORDS = {
     "log-lost": "the system's journal lacks the last line that was read",
     "more": "more events of the system's journal, which aren't listed",
     "process-ended": "a program ended with a fault",
-    "purge": "a purge was asked for",
+    "purge": "somebody asked for a purge",
     "said": "a message",
     "seen": "can be seen again",
     "start": "the service started",

@@ -57,7 +57,7 @@ class World(Protocol):
 
 
 def opened(path: str, most: int) -> tuple[int, os.stat_result]:
-    """Open a plain file with at most so many bytes. No link is followed, and no FIFO is waited for. Raises Unseen."""
+    """Open a plain file with at most `most` bytes. No link is followed, and no FIFO is waited for. Raises Unseen."""
     handle = os.open(path, os.O_RDONLY | os.O_NONBLOCK | os.O_NOFOLLOW | os.O_CLOEXEC)
     about = os.fstat(handle)
     why = "it is no plain file" if not stat.S_ISREG(about.st_mode) else ""
