@@ -281,6 +281,32 @@ class JournalctlTest(Machines):
         self.assertEqual([it.cursor for it in found if it is not None], ["c0", "c2"])
 
 
+class UnitTest(unittest.TestCase):
+    def test_the_unit_can_read_no_plate_and_write_only_its_folder(self) -> None:
+        text = (TOP / "packaging/weighbridge/weighbridge-audit.service").read_text(encoding="utf-8")
+        lines = text.splitlines()
+        hidden = [
+            it
+            for line in lines
+            if line.startswith("InaccessiblePaths=")
+            for it in line[18:].split()
+        ]
+        for path in (
+            "/var/lib/weighbridge/journal.db",
+            "/var/lib/weighbridge/journal.db-wal",
+            "/var/lib/weighbridge-counter",
+        ):
+            self.assertIn(f"-{path}", hidden)
+        for line in (
+            "ProtectSystem=strict",
+            "IPAddressDeny=any",
+            "RestrictAddressFamilies=AF_UNIX",
+            "User=weighbridge-audit",
+        ):
+            self.assertIn(line, lines)
+        self.assertNotIn("ReadWritePaths", text)
+
+
 class ScriptTest(unittest.TestCase):
     def test_two_looks_of_this_machine(self) -> None:
         with TemporaryDirectory() as folder:
