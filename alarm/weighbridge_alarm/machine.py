@@ -5,7 +5,13 @@ from datetime import datetime, timedelta
 
 from .faults import Fault, fault
 
-UNITS = ("weighbridge", "weighbridge-converter", "weighbridge-counter", "weighbridge-night")
+UNITS = (
+    "weighbridge",
+    "weighbridge-converter",
+    "weighbridge-counter",
+    "weighbridge-night",
+    "weighbridge-audit",
+)
 LEAST_INODES = 2000
 SOON = timedelta(days=21)
 

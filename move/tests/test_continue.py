@@ -67,7 +67,7 @@ class ContinueTest(MoveCase):
 
     def test_the_note_of_the_zero(self) -> None:
         os.rename(self.copy, self.box + "/away")
-        self.copy = self.make_copy(more={"journal.db-zero": b"      12\n"})
+        self.copy = self.make_copy(more={"journal.db-zero": b"      12\n", "audit.jsonl": b"{}\n"})
         self.assertEqual(self.move(COMMAND), 0, self.faults)
         self.assertEqual(self.read("var/lib/weighbridge/journal.db-zero"), "      12\n")
 

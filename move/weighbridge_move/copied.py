@@ -5,6 +5,7 @@ import re
 import stat
 from dataclasses import dataclass, field
 
+from weighbridge_night.copying import TRAIL_NAME
 from weighbridge_night.files import Fault, digest_of, fault_of
 from weighbridge_night.folder import SUMS
 from weighbridge_night.keep import Copy
@@ -20,7 +21,7 @@ JOURNAL = "journal.db"
 # The files of a journal, in the order in which they go in place. While the last ones are missing, a start refuses a journal that lacks the entry of `-newest`.
 ENDINGS = ("-newest", "-zero", "", "-wal")
 NEEDED = {f"{JOURNAL}", f"{JOURNAL}-wal", f"{JOURNAL}-newest"}
-KNOWN = NEEDED | {f"{JOURNAL}-zero", "journal.csv", "tickets.csv"}
+KNOWN = NEEDED | {f"{JOURNAL}-zero", "journal.csv", "tickets.csv", TRAIL_NAME}
 MOST_BYTES, MOST_FILES = 2 << 30, 20
 OTHER = "take another copy, or call your service company"
 

@@ -11,10 +11,12 @@ import threading
 import time
 import unittest
 import unittest.mock
+from datetime import timedelta
 from typing import Any
 
 from tests.played import TOP, NightCase, PlayedOffice, make_journal
 from weighbridge_night import __main__ as command
+from weighbridge_night.copying import MOST_OF_A_TRAIL
 from weighbridge_night.files import Fault, digest_of
 from weighbridge_night.night import Night, locked
 from weighbridge_night.office import RealOffice, is_empty, purge
@@ -390,6 +392,58 @@ class VerifyTest(NightCase):
                 file.write(f"{text} {hashlib.sha256(text.encode()).hexdigest()}\n")
         self.assertFalse(self.night())
         self.assertRegex(self.words("verify"), "number 9 is the newest that")
+
+
+class TrailTest(NightCase):
+    """The audit trail is copied with the journal, once there is one."""
+
+    def setUp(self) -> None:
+        super().setUp()
+        self.trail = os.path.join(self.box, "bridge", "trail.jsonl")
+
+    def run_night(self) -> bool:
+        world = self.world
+        world.trail = self.trail
+        self.steps.clear()
+        is_well = Night(self.setup, self.state, world).run()
+        self.clock.now += timedelta(days=1)
+        return is_well
+
+    def copied(self) -> bytes | None:
+        newest = max(os.listdir(os.path.join(self.copies, "WB01")))
+        path = os.path.join(self.copies, "WB01", newest, "audit.jsonl")
+        if not os.path.lexists(path):
+            return None
+        with open(path, "rb") as file:
+            return file.read()
+
+    def test_a_trail_is_copied_with_its_whole_lines(self) -> None:
+        with open(self.trail, "wb") as file:
+            file.write(b'{"number":1}\n{"number":2}\n{"num')
+        self.assertTrue(self.run_night(), self.steps)
+        self.assertEqual(self.copied(), b'{"number":1}\n{"number":2}\n')
+        words = next(it.words for it in self.steps if it.step == "trail")
+        self.assertEqual(words, "2 lines of the audit trail are copied")
+
+    def test_a_bridge_without_a_trail_has_no_such_step(self) -> None:
+        self.assertTrue(self.run_night())
+        self.assertNotIn("trail", self.states())
+        self.assertIsNone(self.copied())
+
+    def test_a_trail_that_cannot_be_copied_fails_and_leaves_the_copy_sound(self) -> None:
+        os.symlink("/etc/passwd", self.trail)
+        self.assertFalse(self.run_night())
+        self.assertEqual(self.states()["trail"], "failed")
+        self.assertIsNone(self.copied())
+        self.assertIn("_sound_", max(os.listdir(os.path.join(self.copies, "WB01"))))
+        os.unlink(self.trail)
+        with open(self.trail, "wb") as file:
+            file.truncate(MOST_OF_A_TRAIL + 1)
+        self.assertFalse(self.run_night())
+        self.assertIsNone(self.copied())
+        with open(self.trail, "wb") as file:
+            file.write(b"{}\n")
+        self.assertTrue(self.run_night(), self.steps)
 
 
 class PlayedJournalTest(NightCase):

@@ -31,6 +31,8 @@ READING = (
 )
 # A night's work has the copy, those that weighbridge and verify.py make of it, and two exports.
 ROOM = 5
+# The audit trail in a copy, and its most bytes. It grows by some hundred kilobytes a year.
+TRAIL_NAME, MOST_OF_A_TRAIL = "audit.jsonl", 256 << 20
 
 
 @dataclass(frozen=True)
@@ -119,3 +121,23 @@ def copy_journal(journal: str, to: str, sleep: Callable[[float], None]) -> int:
         f"{journal}: it changed during each of {TRIES} readings; begin the night at an hour when"
         " nobody weighs, by OnCalendar= of weighbridge-night.timer"
     )
+
+
+def copy_trail(trail: str, to: str) -> int:
+    """Copy the whole lines of the audit trail, and return how many they are. A line that is being added belongs to the next night's copy."""
+    path = os.path.join(to, TRAIL_NAME)
+    try:
+        if (size := os.lstat(trail).st_size) > MOST_OF_A_TRAIL:
+            raise Fault(
+                f"{trail}: it has {size} bytes, and {MOST_OF_A_TRAIL} are copied; look what fills it"
+            )
+        if read_one(trail, path) is None:
+            raise Fault(f"{trail}: it isn't there any more; see who removed it")
+        with open(path, "r+b") as file:
+            data = file.read(MOST_OF_A_TRAIL)
+            file.truncate(data.rfind(b"\n") + 1)
+    except (Fault, OSError):
+        if os.path.lexists(path):
+            os.unlink(path)
+        raise
+    return data.count(b"\n")

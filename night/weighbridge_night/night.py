@@ -13,7 +13,7 @@ from dataclasses import dataclass
 from datetime import datetime
 from typing import Protocol
 
-from .copying import NAME, copy_journal
+from .copying import NAME, copy_journal, copy_trail
 from .files import Fault, LeftOut, digest_of, fault_of, read_json, remove_folder
 from .folder import SUMS, Disk, Folder
 from .keep import DOUBTFUL, SOUND, Copy, later, newest_sound, surplus
@@ -60,6 +60,7 @@ class World:
     office: Office
     say: Callable[[Step], None]
     by_label: str = "/dev/disk/by-label"
+    trail: str = "/var/lib/weighbridge-audit/trail.jsonl"
 
     def keeper(self, place: Place, bridge: str) -> Keeper:
         if place.kind == "ssh":
@@ -129,9 +130,11 @@ class Night:
 
     def all_steps(self) -> bool:
         titles = [it.title for it in self.setup.places]
-        known = {"copy", "check", "verify", "export", "purge"}
+        known = {"copy", "trail", "check", "verify", "export", "purge"}
         known |= {f"{act} {it}" for it in titles for act in ("store", "thin")}
         if self.step("copy", self.copy):
+            if os.path.lexists(self.world.trail):
+                self.step("trail", self.copy_trail)  # the journal's copy is sound without it
             # an unsound copy is kept too, under a name that says so
             checked = self.step("check", self.check)
             verified = self.step("verify", self.verify)
@@ -159,6 +162,9 @@ class Night:
             raise
         after = f"; the night that began at {self.cut} was cut off" if self.cut else ""
         return f"read twice with the same bytes, at try {tries}{after}"
+
+    def copy_trail(self) -> str:
+        return f"{copy_trail(self.world.trail, self.folder)} lines of the audit trail are copied"
 
     def check(self) -> str:
         words = [WEIGHBRIDGE, "check", "--file", self.journal]

@@ -19,6 +19,8 @@ UNITS = (
     "weighbridge-night.service",
     "weighbridge-alarm.timer",
     "weighbridge-alarm.service",
+    "weighbridge-audit.timer",
+    "weighbridge-audit.service",
 )
 STATES = (
     "Id,LoadState,UnitFileState,ActiveState,SubState,Result,ExecMainStatus,NRestarts,"
@@ -41,6 +43,7 @@ FOLDERS = (
     "/var/lib/weighbridge-counter",
     "/var/lib/weighbridge-night",
     "/var/lib/weighbridge-alarm",
+    "/var/lib/weighbridge-audit",
 )
 OFFICE, COUNTER = "127.0.0.1:880", "127.0.0.1:882"
 # Fields of answers that name a vehicle, a request or a person.
@@ -102,6 +105,7 @@ def parts(world: World) -> Iterator[Part]:
         "Check by the office", lambda: world.get(f"http://{office}/check", SECONDS_OF_A_CHECK)
     )
     yield part("Alarm", lambda: world.run(["weighbridge-alarm", "list"]))
+    yield part("Audit trail", lambda: world.run(["weighbridge-audit", "show"]), is_plain=True)
     yield part("Last night", lambda: world.read("/var/lib/weighbridge-night/last.json"))
     for folder in FOLDERS:
         yield part(folder, partial(sizes, world, folder))
