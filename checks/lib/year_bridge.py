@@ -143,8 +143,9 @@ class Bridge:
             *("--max", str(MOST), "--serial", self.serial),
             *("--retention", str(self.retention), "--capacity", "100000"),
         )
-        if bridge.get(self.service, "/indication") is None:
-            fail("the service doesn't answer after its start")
+        while bridge.get(self.service, "/indication") is None:
+            if time.monotonic() > begin + PATIENCE:
+                fail("the service doesn't answer after its start")
         return time.monotonic() - begin
 
     def stop(self) -> None:
@@ -176,11 +177,14 @@ class Bridge:
             self.converter.put(it.load, LOADED)
 
     def ask(self, it: Asked) -> bridge.Answer | None:
-        """Ask until the answer is none of a bridge that isn't ready."""
+        """Ask until an answer comes that is none of a bridge that isn't ready. A service that was held up drops a request without one."""
         until = time.monotonic() + PATIENCE
         while True:
-            answer = bridge.post(self.running, it.target, it.body)
-            if answer is None or answer[0] != 409 or time.monotonic() > until:
+            try:
+                answer = bridge.post(self.running, it.target, it.body)
+            except OSError:
+                answer = None
+            if (answer and answer[0] != 409) or time.monotonic() > until:
                 return answer
             self.drive(it)
 
@@ -227,11 +231,20 @@ class Bridge:
             self.open.remove(it.plate)
 
     def tare(self, command: str) -> None:
-        terminal = bridge.Terminal(self.running)
-        found = terminal.ask(command)
-        terminal.close()
-        if " A" not in found:
+        """Set or clear the tare. A service that was held up drops a command without a reply."""
+        until = time.monotonic() + PATIENCE
+        while time.monotonic() < until:
+            terminal = bridge.Terminal(self.running, 5)
+            try:
+                found = terminal.ask(command)
+            except (OSError, EOFError):
+                continue
+            finally:
+                terminal.close()
+            if " A" in found:
+                return
             fail(f"{command} is answered {found}")
+        fail(f"{command} isn't answered")
 
     def day(self, count: int, chance: random.Random, seconds: float) -> None:
         """Weigh `count` times: pairs, every tenth time a Single, and every tenth time a First that is voided."""
