@@ -35,6 +35,8 @@ except ImportError as error:
 
 EXAMPLES = 2000
 LEAST, GREATEST = -(2**31), 2**31 - 1
+# Words of a device next to the ends of 8, 16, 24 and 32 bits, and of a float that is no number.
+EDGES = [0, 1, 0x7F, 0x80, 0xFF, 0x100, 0x7F80, 0x7FFF, 0x8000, 0xFF00, 0xFF7F, 0xFF80, 0xFFFF]
 
 
 def part_of(reader: str) -> dict[str, Any]:
@@ -113,7 +115,8 @@ def lines() -> None:
         words = ("--tcp", "h:1", "--preset", "sir", "--decimals", str(decimals))
         setup = setup_of(names, *words, "--bits", str(bits))
         value = data.draw(some.integers(-(2**31), 2**31))
-        text = f"{value / 10**decimals:.{decimals}f}"[:10]
+        text = f"{value / 10**decimals:.{decimals}f}"
+        text = data.draw(some.sampled_from([text, text, f"{text}.", f".{text}"]))[:10]
         line = f"S {data.draw(some.sampled_from('SDI+-'))} {text:>10} kg".encode()
         line = changed(data.draw, line) if data.draw(some.booleans()) else line
         found = found_by(names["counts_of"], setup, line)
@@ -165,7 +168,7 @@ def registers() -> None:
         more += ["--low-first"] if is_low_first else []
         setup = setup_of(names, "--tcp", "h", "--address", "1", "--bits", str(bits), *more)
         count = 1 if bits == 16 else 2
-        word = some.integers(0, 0xFFFF) | some.sampled_from([0, 1, 0x7F80, 0x8000, 0xFFFF])
+        word = some.integers(0, 0xFFFF) | some.sampled_from(EDGES)
         given_words, state = data.draw(some.lists(word, min_size=count, max_size=count)), data.draw(
             word
         )
@@ -180,10 +183,12 @@ def registers() -> None:
 
 def channels() -> None:
     names = part_of("iio")
+    end = some.sampled_from([b"\n", b"", b"\n\n", b" ", b".5", b"a"])
 
     @settings(max_examples=EXAMPLES // 4, deadline=None, database=None, derandomize=True)
     @given(
-        some.binary(max_size=30) | some.integers(-(2**40), 2**40).map(lambda it: b"%d\n" % it),
+        some.binary(max_size=30)
+        | some.tuples(some.integers(-(2**40), 2**40), end).map(lambda it: b"%d%s" % it),
         some.integers(8, 32),
         some.booleans(),
     )
