@@ -34,7 +34,9 @@ MISSING = re.compile(r"numbers? ([0-9]+)(?: to [0-9]+)? (?:is|are) missing$")
 DAMAGED = re.compile(
     r"number ([0-9]+) (?:doesn't fit its digest|isn't chained to number [0-9]+|has no First)$"
 )
-REFUSED = re.compile(r"is no entry:|is no spent key:|^spent number|-newest recorded|-wal: ")
+REFUSED = re.compile(
+    r"is no entry:|is no spent key:|^spent number|-newest recorded|-wal: |so the program refuses it"
+)
 
 
 def lacking() -> str:
