@@ -51,10 +51,10 @@ CATALOGUE = {
     ),
     "clock_jumped": Words(
         "The PC's clock jumped",
-        "set the clock, or restart the PC",
+        "look at its date and time first",
         "The clock of this PC was put while the service ran. No vehicle can be weighed.",
-        "If the clock is wrong, set it. If it is right now, empty the bridge, restart the PC, and set"
-        f" the zero (F9). {CALL}",
+        "Don't restart the PC while its clock is wrong: set the clock. If it is right now, empty the"
+        f" bridge, restart the PC, and set the zero (F9). {CALL}",
         "operating.md#if-the-clock-jumped",
         stops=True,
         covers=("office",),

@@ -308,6 +308,40 @@ class ShowTest(Trails):
         status, text, _ = self.ran("check", "--file", copy, "--against", self.it.path)
         self.assertEqual((status, "its end was cut off" in text), (1, True))
 
+    def test_says_how_far_a_copy_goes(self) -> None:
+        lines = self.grown().splitlines(keepends=True)
+        copy = f"{self.it.folder}/copy"
+        with open(copy, "wb") as out:
+            out.write(lines[0])
+        _, text, _ = self.ran("check", "--file", self.it.path, "--against", copy)
+        self.assertIn("line 1, noted 2026-12-01 07:00:00. Nothing shows", text)
+        for data in (b"", lines[0][:100], b"no line\n"):
+            with open(copy, "wb") as out:
+                out.write(data)
+            status, text, _ = self.ran("check", "--file", self.it.path, "--against", copy)
+            self.assertEqual((status, "it has no whole line" in text), (1, True), data)
+
+    def test_says_what_the_lines_note_of_the_trail(self) -> None:
+        lines = self.grown().splitlines(keepends=True)
+        with open(self.it.path, "wb") as out:
+            out.write(b"".join(lines[:2]))
+        self.it.look()
+        for words in (["check"], ["show"], ["show", "--since", "2027-01-01"]):
+            status, text, _ = self.ran(*words, "--file", self.it.path)
+            self.assertEqual(
+                (status, "The chain is whole" in text, "It notes broken (the trail was" in text),
+                (1, True, True),
+            )
+            self.assertLessEqual(max(map(len, text.splitlines()[1:])), 80)
+
+    def test_what_a_power_cut_left_is_told_and_is_no_fault(self) -> None:
+        data = self.grown()
+        with open(self.it.path, "wb") as out:
+            out.write(data + b"half")
+        self.it.look()
+        status, text, _ = self.ran("check", "--file", self.it.path)
+        self.assertEqual((status, "It notes torn (" in text, text.count("broken")), (0, True, 0))
+
     def test_since_and_json(self) -> None:
         data = self.grown()
         status, text, _ = self.ran(

@@ -11,7 +11,7 @@ from datetime import datetime
 from weighbridge_night.files import fault_of
 
 from .looking import FOLDER, NAME, locked, look
-from .showing import body, compared, head, since
+from .showing import body, compared, head, moment, noting, since
 from .trail import Trail, read_trail, trail_of
 from .world import RealWorld
 
@@ -93,21 +93,27 @@ def check(path: str, against: str | None) -> int:
         print(text)
     if against is not None:
         why = compared(data, older)
-        print(f"{against}: {why or 'the trail begins with each line of this copy'}")
         if why is not None:
+            print(f"{against}: {why}")
             return 1
+        last = trail_of(older).lines[-1]
+        print(f"{against}: the trail begins with each line of this copy, which ends with")
+        print(
+            f"line {last.number}, noted {moment(last.noted)}. Nothing shows a change of later lines."
+        )
     return status_of(trail)
 
 
 def status_of(trail: Trail) -> int:
-    return 1 if trail.faults or trail.torn or not trail.lines else 0
+    is_wrong = trail.faults or trail.torn or noting(trail.lines, "broken")
+    return 1 if is_wrong or not trail.lines else 0
 
 
 def options() -> argparse.ArgumentParser:
     it = argparse.ArgumentParser(
         prog="weighbridge-audit",
         description="Keeps and prints the audit trail of a bridge: starts, setups, zero, calibrations, purges, programs, versions, restores, jumps of the clock.",
-        epilog="Status: 0 if the chain is whole, 1 if it isn't or a file can't be read or written, 2 for wrong arguments.",
+        epilog="Status: 0 if the chain is whole, 1 if it isn't, if a line notes that it was changed, or if a file can't be read or written, 2 for wrong arguments.",
     )
     it.add_argument(
         "act",

@@ -4,9 +4,9 @@ import textwrap
 from collections.abc import Iterator
 from typing import Any
 
-from .trail import Event, Line, Trail
+from .trail import Event, Line, Trail, trail_of
 
-WIDTH = 80
+WIDTH, MOST_LISTED = 80, 10
 INDENT = " " * 6
 # The words for each event, before its values.
 WORDS = {
@@ -92,8 +92,13 @@ def lines_of_event(noted: str, it: Event) -> Iterator[str]:
             yield from wrapped(f"{plain(name)}: {values(one)}")
 
 
+def noting(lines: list[Line], kind: str) -> list[int]:
+    """Return the numbers of the lines that have an event of this kind."""
+    return [it.number for it in lines if any(one["event"] == kind for one in it.events)]
+
+
 def head(path: str, trail: Trail) -> Iterator[str]:
-    """Return what an inspector needs to know first: whether the chain is whole, from when to when, and its last number and digest."""
+    """Return what an inspector needs to know first: whether the chain is whole, its time, number and digest, and which lines note that something is missing."""
     yield plain(path)
     if not trail.lines:
         yield "The trail has no whole line."
@@ -104,6 +109,11 @@ def head(path: str, trail: Trail) -> Iterator[str]:
         yield f"{moment(first.noted)} to {moment(last.noted)} (UTC)."
         yield f"Line {last.number} has this digest:"
         yield last.digest
+        for kind in ("broken", "torn", "gap", "log-lost"):
+            if numbers := noting(trail.lines, kind):
+                listed = ", ".join(str(it) for it in numbers[-MOST_LISTED:])
+                more = f"{len(numbers)} lines, the last ones " if len(numbers) > MOST_LISTED else ""
+                yield from wrapped(f"It notes {kind} ({WORDS[kind]}): {more}{listed}", "")
     for it in trail.faults:
         yield from wrapped(f"FAULT: {it}", "")
     if trail.torn:
@@ -135,6 +145,8 @@ def since(lines: list[Line], begin: str) -> list[Line]:
 def compared(data: bytes, older: bytes) -> str | None:
     """Return why an older copy isn't the beginning of the trail. Return None if it is."""
     whole = older[: older.rfind(b"\n") + 1]
+    if not trail_of(whole).lines:
+        return "it has no whole line, so it shows nothing"
     if data.startswith(whole):
         return None
     same = 0
