@@ -118,7 +118,7 @@ def bits_of_header(data: bytes) -> list[int]:
 
     If there is none, return each bit that makes the header itself whole.
     """
-    whole = [bit for bit in range(8 * HEADER) if Log(turned(data, bit)).is_signed()]
+    whole = [bit for bit in range(8 * HEADER) if Log(turned(data, bit)).has_header()]
     return [bit for bit in whole if is_mended_at(Log(turned(data, bit)), HEADER)] or whole
 
 
@@ -171,7 +171,7 @@ class Stuck(Exception):
 def ways(data: bytes, bits: tuple[int, ...] = ()) -> list[tuple[int, ...]]:
     """Return each way to make the log whole with one bit in each damaged place, as a tuple of bits. Raises Stuck if a place has no such bit."""
     log = Log(data)
-    at = log.first_damage() if log.is_signed() else 0
+    at = log.first_damage() if log.has_header() else 0
     if at is None:
         return [bits]
     if len(bits) == MOST_BITS:
