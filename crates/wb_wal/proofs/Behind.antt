@@ -3,7 +3,8 @@ use Rattle.std.proofs.Common.{◌≡◌, inl, inr, ℕ, suc, ◌+◌, ◌<◌, �
 use Rattle.std.proofs.lemmas.Bool.{cases_lt, cases_eq, false≢true}
 use Rattle.sqlite_wal.specs.Format.{commit_size}
 use Rattle.sqlite_wal.specs.Recovery.{frame_at, frame}
-use Rattle.wb_wal.specs.Look.{Has, HasSalts, Commits, IsOfLastCommit}
+use Rattle.sqlite_wal.proofs.PartLemmas.{frames_len-le}
+use Rattle.wb_wal.specs.Look.{Has, HasSalts, Commits, IsOfLastCommit, blank}
 use Rattle.wb_wal.specs.helpers.Behind.{HasSeen, HasPassed}
 use Rattle.wb_wal.proofs.Walk.{Has-less, at-next}
 
@@ -61,17 +62,26 @@ HasSeen-other page log k at next is s has place no' = record {
 }
 
 -- the next frame has the salts and stands behind the end of a commit
-pub HasSeen-behind : (page : ℕ) (log : List ℕ) (k at : ℕ) (s : HasSeen page log k at true) → Has page log s.j → HasSalts page log s.j
-    → ¬ IsOfLastCommit page log k
-HasSeen-behind page log k at s has salts last =
+pub HasSeen-behind : (page : ℕ) (log : List ℕ) (first k at : ℕ) (s : HasSeen page log k at true) → Has page log s.j → HasSalts page log s.j
+    → at < frame_at page first + blank → ¬ IsOfLastCommit page log first k
+HasSeen-behind page log first k at s has salts near last =
     let seen = s.yes refl in
-    last seen.0 s.j seen.1 seen.2 has seen.3 seen.4 salts
+    last seen.0 s.j seen.1 seen.2 (omega (arith, near, s.place)) has seen.3 seen.4 salts
 
 -- there is no next frame
-pub HasSeen-all : (page : ℕ) (log : List ℕ) (k at : ℕ) (is : Bool) → HasSeen page log k at is → length log < at + (24 + page) → IsOfLastCommit page log k
-HasSeen-all page log k at is s none i b l h has = elim (cases_lt b s.j) [
+pub HasSeen-all : (page : ℕ) (log : List ℕ) (first k at : ℕ) (is : Bool) → HasSeen page log k at is → length log < at + (24 + page)
+    → IsOfLastCommit page log first k
+HasSeen-all page log first k at is s none i b l h near has = elim (cases_lt b s.j) [
   | inl low ↦ s.fine i b l h low
   | inr high ↦ absurd (omega (arith, Has-less page log s.j b high has, none, s.place))
+]
+
+-- the next frame begins behind the zeros
+pub HasSeen-far : (page : ℕ) (log : List ℕ) (first k at : ℕ) (is : Bool) → HasSeen page log k at is → frame_at page first + blank ≤ at
+    → IsOfLastCommit page log first k
+HasSeen-far page log first k at is s far i b l h near has = elim (cases_lt b s.j) [
+  | inl low ↦ s.fine i b l h low
+  | inr high ↦ absurd (omega (arith, near, far, s.place, frames_len-le page s.j b high))
 ]
 
 -- No frame was passed yet.

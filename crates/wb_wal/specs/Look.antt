@@ -70,10 +70,17 @@ pub record Begins (page : ℕ) (log : List ℕ) (first k : ℕ) : Type 0 where
 abbrev pub IsShut : ℕ → List ℕ → ℕ → Type 0
 IsShut page log k = Begins page log k k × (¬ IsOpen page log k) × (gate page log k ≡ 0)
 
--- No frame from k on with the log's salts follows one that ends a commit: a commit is synced before the next is written.
-abbrev pub IsOfLastCommit : ℕ → List ℕ → ℕ → Type 0
-IsOfLastCommit page log k =
-    (i j : ℕ) → k ≤ i → i < j → Has page log j → HasSalts page log i → Commits page log i → ¬ HasSalts page log j
+-- A commit of one sync leaves at least so many bytes of zeros behind it, which are synced. Behind them there may be frames of a transaction that was never
+-- opened, with the log's salts.
+abbrev pub blank : ℕ
+blank = 131072
+
+-- No frame from k on with the log's salts follows one that ends a commit, in so many bytes from the first frame of k's commit on: a commit is synced before
+-- the next is written.
+abbrev pub IsOfLastCommit : ℕ → List ℕ → ℕ → ℕ → Type 0
+IsOfLastCommit page log first k =
+    (i j : ℕ) → k ≤ i → i < j → frame_at page j < frame_at page first + blank → Has page log j → HasSalts page log i
+    → Commits page log i → ¬ HasSalts page log j
 
 -- No frame from k on has the log's salts.
 abbrev pub NoneSigned : ℕ → List ℕ → ℕ → Type 0
@@ -155,8 +162,8 @@ pub record MayHaveLost (page : ℕ) (log : List ℕ) (first : ℕ) : Type 0 wher
 -- frame k is of the last commit, which was being written
 pub record IsTorn (page : ℕ) (log : List ℕ) (k : ℕ) : Type 0 where
   pub opened : IsOpen page log k ⊎ (gate page log k ≡ 0)
-  pub last : IsOfLastCommit page log k
   pub first : ℕ
+  pub last : IsOfLastCommit page log first k
   pub begins : Begins page log first k
   pub lost : MayHaveLost page log first
 

@@ -14,6 +14,9 @@ use std::fmt::Display;
 /// The least bytes of a log that has a frame.
 const LEAST: usize = 56;
 
+/// The least bytes of zeros behind a commit of one sync.
+const BLANK: usize = 0x2_0000;
+
 /// Why a log is refused.
 #[derive(Clone, Copy, Debug, PartialEq, Eq)]
 pub enum Refusal {
@@ -191,17 +194,21 @@ fn none_counts(log: &[u8], page: usize, stop: &Stop) -> bool
     true
 }
 
-/// Returns true if no frame from a stop on with the log's salts follows one that ends a commit.
+/// Returns true if no frame from a stop on with the log's salts follows one that ends a commit, before the end of the zeros that its commit left.
 fn is_of_last_commit(log: &[u8], page: usize, stop: &Stop) -> bool
     requires head { 32 ≤ length log.now }
     requires page { page ≤ 65536 }
-    requires place { (stop.now.at ≡ frame_at page (stop.now.frame)) × (stop.now.at ≤ length log.now) }
-    ensures { IsTrue result ↔ IsOfLastCommit page log.now (stop.now.frame) }
+    requires stop { StopsAt page log.now stop.now }
+    ensures { IsTrue result ↔ IsOfLastCommit page log.now (stop.now.first) (stop.now.frame) }
 {
     let head = &log[..HEADER];
+    let end = stop.first_at + BLANK;
     let mut at = stop.at;
     let mut is_behind = false;
     while let Some(frame) = frame_from(log, page, at) {
+        if at >= end {
+            return true;
+        }
         if has_salts(head, frame) {
             if is_behind {
                 return false;

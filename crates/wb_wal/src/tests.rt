@@ -212,6 +212,35 @@ static SPILLED: [Row; 6] = [
     Row(FILE, Fill(FRAME_2 + 8, 8, 6), Err(Refusal::Frame(FRAME_2))),
 ];
 
+/// Returns a log with `zeros` bytes of zeros from its last commit's first frame on, and behind them two commits of a transaction that was never opened.
+fn unopened(alloc: Global, zeros: usize) -> Result<Vec<u8>, Fail> {
+    let mut bytes = log(alloc)?;
+    while bytes.len() < FRAME_4 + zeros {
+        bytes.extend_from_slice(&[0u8; 536])?;
+    }
+    for size in [2, 2] {
+        let mut writer = Writer::new(alloc)?;
+        writer.frame(1, size, &page())?;
+        bytes.extend_from_slice(&writer.bytes.as_slice()[FRAME_0..])?;
+    }
+    Ok(bytes)
+}
+
+/// What the look says of a log in which frames of a transaction that was never opened follow these zeros, and what was lost of the last commit.
+static UNOPENED: [(usize, Row); 4] = [
+    (131_072, Row(FILE, Lost(FRAME_5 + 224, 9), Ok(()))),
+    (131_072, Row(FILE, Lost(FRAME_4, 1_072), Ok(()))),
+    (
+        131_072,
+        Row(FILE, Set(FRAME_5 + 224, 9), Err(Refusal::Frame(FRAME_5))),
+    ),
+    // zeros that no commit leaves
+    (
+        130_000,
+        Row(FILE, Lost(FRAME_5 + 224, 9), Err(Refusal::Frame(FRAME_5))),
+    ),
+];
+
 /// Returns what the look says of a log with this change.
 fn judged(mut bytes: Vec<u8>, row: &Row) -> Result<(), Refusal> {
     let Row(file, change, _) = row;
@@ -244,6 +273,14 @@ fn refuses_what_no_power_cut_leaves(rt: HostRuntime) -> Result<(), Fail> {
             judged(spilled(rt.alloc())?, row),
             *wanted,
             "row {index} of a transaction that didn't fit"
+        );
+    }
+    for (index, (zeros, row)) in UNOPENED.iter().enumerate() {
+        let Row(_, _, wanted) = row;
+        assert_eq!(rt;
+            judged(unopened(rt.alloc(), *zeros)?, row),
+            *wanted,
+            "row {index} before frames that weren't opened"
         );
     }
     Ok(())

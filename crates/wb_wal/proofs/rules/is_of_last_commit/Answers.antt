@@ -1,16 +1,20 @@
-use Rattle.std.proofs.Common.{◌≡◌, ◌≢◌, ◌↔◌, ◌+◌, ◌∙◌, ap, refl, sym, subst, true, false, arith, length, IsTrue}
+use Rattle.std.proofs.Common.{◌≡◌, ◌≢◌, ◌↔◌, ◌+◌, ◌<◌, ◌∙◌, ap, refl, sym, subst, true, false, arith, length, IsTrue}
 use Rattle.std.proofs.lemmas.Bool.{false≢true}
 use Rattle.sqlite_wal.specs.Format.{part, commit_size}
-use Rattle.sqlite_wal.specs.Recovery.{header}
-use Rattle.wb_wal.specs.Look.{Has, HasSalts, Commits}
+use Rattle.sqlite_wal.specs.Recovery.{header, frame_at}
+use Rattle.wb_wal.specs.Look.{Has, HasSalts, Commits, blank}
 use Rattle.wb_wal.specs.helpers.Behind.{HasSeen}
-use Rattle.wb_wal.proofs.Behind.{HasSeen-none, HasSeen-salted, HasSeen-other, HasSeen-behind, HasSeen-all}
+use Rattle.wb_wal.proofs.Behind.{HasSeen-none, HasSeen-salted, HasSeen-other, HasSeen-behind, HasSeen-all, HasSeen-far}
 use Rattle.wb_wal.proofs.Walk.{whole}
 use Rattle.wb_wal.proofs.rules.is_of_last_commit.Goals.{then-has_salts+else-is_behind, else-has_salts}
 use Rattle.wb_wal.proofs.rules.is_of_last_commit.Goals as goal
 
 pub loop-frame-init : goal.loop-frame-init
-loop-frame-init c = HasSeen-none _ _ _ _ c.requires.place.0 c.requires.place.1
+loop-frame-init c = HasSeen-none _ _ _ _ c.requires.stop.stands.place c.requires.stop.stands.within
+
+pub returns-then-at-end : goal.returns-then-at-end
+returns-then-at-end c =
+    (λ _. HasSeen-far _ _ _ _ _ _ c.loop-frame.invariant (omega (arith, c.if-at-end.true, c.requires.stop.stands.first_place)), λ _. refl)
 
 pub has_salts-requires-clause-frame : goal.has_salts-requires-clause-frame
 has_salts-requires-clause-frame c =
@@ -26,7 +30,8 @@ returns-then-is_behind c =
     let s : HasSeen page log c.args.stop.now.frame c.loop-frame.at true = subst (HasSeen page log c.args.stop.now.frame c.loop-frame.at) c.if-is_behind.true c.loop-frame.invariant in
     let same = is.1 ∙ ap (λ at. part log at (24 + page)) s.place in
     let salts = subst (λ f. part f 8 8 ≡ part (header log) 16 8) same (c.if-has_salts.ensures.0 refl) in
-    (λ no'. absurd (false≢true no'), λ last. absurd (HasSeen-behind page log _ _ s (omega (arith, is.0, s.place)) salts last))
+    let near : c.loop-frame.at < frame_at page c.args.stop.now.first + blank = omega (arith, c.if-at-end.false, c.requires.stop.stands.first_place) in
+    (λ no'. absurd (false≢true no'), λ last. absurd (HasSeen-behind page log c.args.stop.now.first _ _ s (omega (arith, is.0, s.place)) salts near last))
 
 pub commits-is_behind-requires : goal.commits-is_behind-requires
 commits-is_behind-requires c =
@@ -63,4 +68,4 @@ loop-frame-preserved c =
 
 pub returns : goal.returns
 returns c =
-    (λ _. HasSeen-all _ _ _ _ _ c.loop-frame.invariant (c.in_default.ensures.none refl), λ _. refl)
+    (λ _. HasSeen-all _ _ _ _ _ _ c.loop-frame.invariant (c.in_default.ensures.none refl), λ _. refl)
