@@ -1,6 +1,6 @@
 -- Four rules, in this order, say which log of a database's file no power cut can have left, while the disk keeps what was synced. `file` is how many
--- bytes the file has, `log` are the bytes of its log. Header, frame, the test that a frame passes, the checksum before it and the count of a commit of
--- one sync are the kit's own account of its log (sqlite_wal, Format and Recovery).
+-- bytes the file has, `log` are the bytes of its log. Header, frame, the test that a frame passes, and the checksum before it are the kit's own
+-- account of its log (sqlite_wal, Format and Recovery). So is the count of a commit of one sync.
 use Rattle.std.specs.Prelude.{◌≡◌, ◌≢◌, ◌⊎◌, ℕ, zero, suc, ◌+◌, ◌-◌, ◌<◌, ◌≤◌, [], ◌∷◌, List, length, slice_index, drop}
 use Rattle.std.specs.Int.{w32, to_be_bytes}
 use Rattle.sqlite_wal.specs.Format.{part, be32, be64, zeros, checksum, is_big, IsSigned, IsFrame, page_number, commit_size, content, count_page}
@@ -70,13 +70,13 @@ pub record Begins (page : ℕ) (log : List ℕ) (first k : ℕ) : Type 0 where
 abbrev pub IsShut : ℕ → List ℕ → ℕ → Type 0
 IsShut page log k = Begins page log k k × (¬ IsOpen page log k) × (gate page log k ≡ 0)
 
--- A commit of one sync leaves at least so many bytes of zeros behind it, which are synced. Behind them there may be frames of a transaction that was never
+-- A commit of one sync leaves at least these bytes of zeros behind it, which are synced. Behind them there may be frames of a transaction that was never
 -- opened, with the log's salts.
 abbrev pub blank : ℕ
 blank = 131072
 
--- No frame from k on with the log's salts follows one that ends a commit, in so many bytes from the first frame of k's commit on: a commit is synced before
--- the next is written.
+-- No frame from k on with the log's salts follows one that ends a commit, in the blank bytes from the first frame of k's commit on: a commit is synced
+-- before the next is written.
 abbrev pub IsOfLastCommit : ℕ → List ℕ → ℕ → ℕ → Type 0
 IsOfLastCommit page log first k =
     (i j : ℕ) → k ≤ i → i < j → frame_at page j < frame_at page first + blank → Has page log j → HasSalts page log i
