@@ -14,6 +14,7 @@ from weighbridge_paper.reader import Address, SetupFault, trouble_of_folder
 from .boards import Sender, open_board
 from .connections import Connections, listen
 from .counter import Counter
+from .notifying import notify
 from .ports import open_port
 from .refusals import FILE, catalogue
 from .routes import Routes
@@ -66,7 +67,7 @@ def of_address(key: str, address: Address) -> Iterator[None]:
 
 
 async def run_all(counter: Counter, senders: Sequence[Sender]) -> None:
-    await asyncio.gather(counter.run(), *(it.run() for it in senders))
+    await asyncio.gather(counter.run(), notify(), *(it.run() for it in senders))
 
 
 async def serve(setup: Setup) -> None:
