@@ -10,12 +10,17 @@ from typing import NoReturn
 NAME = os.path.basename(sys.argv[0])
 
 
+def skip(why: str) -> NoReturn:
+    """End the check, because this machine lacks something."""
+    print(f"{NAME}: skipped, since {why}")
+    raise SystemExit(0)
+
+
 def skip_without(*tools: str) -> None:
     """Ends the check where a tool is not installed."""
     for tool in tools:
         if shutil.which(tool) is None:
-            print(f"{NAME}: skipped, since {tool} is not installed")
-            raise SystemExit(0)
+            skip(f"{tool} is not installed")
 
 
 def fail(words: str) -> NoReturn:
