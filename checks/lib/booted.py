@@ -5,6 +5,7 @@ Its folder is a clean root of Debian, to which a check adds packages. A control 
 
 import contextlib
 import os
+import re
 import shutil
 import signal
 import subprocess
@@ -131,6 +132,17 @@ class Machine:
     def process_of(self, unit: str) -> int:
         """Return the number of a unit's main process there, or 0."""
         return int(self.shown(unit, "MainPID") or 0)
+
+    def seen_from_here(self, process: int) -> int:
+        """Return the number that this machine gives to a process there."""
+        space = os.readlink(f"/proc/{self.first}/ns/pid")
+        for status in Path("/proc").glob("[0-9]*/status"):
+            with contextlib.suppress(OSError):
+                numbers = re.search(r"^NSpid:(.*)$", status.read_text(), re.MULTILINE)
+                is_there = os.readlink(status.parent / "ns/pid") == space
+                if numbers and is_there and int(numbers[1].split()[-1]) == process:
+                    return int(status.parent.name)
+        fail(f"there is no process {process}")
 
     def log_of(self, unit: str) -> str:
         """Return what the system journal keeps of a unit, without times."""
