@@ -2,25 +2,39 @@
 -- the tables. A function with other parameters, or a view that loses a column, is dropped in a numbered file first.
 
 -- `take_in` runs as the role head_office_storer, which has no login and no members. The trigger stored_by_a_load recognizes a load by that role, so it needs none
--- of the server's messages. While this file runs, the schema's owner owns the function, and the login that upgrades is a member of the role.
+-- of the server's messages. What ends connections of loaders, and what says who holds a load up, runs as the role head_office_guard, which has no login and
+-- no members either, so that only these functions have its rights. While this file runs, the schema's owner owns the functions, and the login that upgrades
+-- is a member of the roles.
 do $$
+declare
+    role   text;
+    signed text;
 begin
-    if not exists (select from pg_roles where rolname = 'head_office_storer') then
-        create role head_office_storer nologin;
-    end if;
-    if not exists (select from pg_auth_members where roleid = 'head_office'::regrole and member = 'head_office_storer'::regrole) then
-        grant head_office to head_office_storer;
-    end if;
-    if not pg_has_role('head_office_storer', 'member') then
-        execute format('grant head_office_storer to %I', session_user);
-    end if;
-    if to_regprocedure('head_office.take_in(text, boolean, timestamptz)') is not null then
-        alter function head_office.take_in(text, boolean, timestamptz) owner to head_office;
-    end if;
+    foreach role in array array['head_office_storer', 'head_office_guard'] loop
+        if not exists (select from pg_roles where rolname = role) then
+            execute format('create role %I nologin', role);
+        end if;
+        if not exists (select from pg_auth_members where roleid = 'head_office'::regrole and member = role::regrole) then
+            execute format('grant head_office to %I', role);
+        end if;
+        if not pg_has_role(role, 'member') then
+            execute format('grant %I to %I', role, session_user);
+        end if;
+    end loop;
+    for signed in
+        select oid::regprocedure from pg_proc
+        where pronamespace = 'head_office'::regnamespace and proowner in ('head_office_storer'::regrole, 'head_office_guard'::regrole)
+    loop
+        execute format('alter function %s owner to head_office', signed);
+    end loop;
 end $$;
 
 set local role head_office;
 set local search_path = head_office;
+
+-- A load locks `handed` before all else. So none is under way from here on, and none waits for a table that is locked below while this file waits for one of
+-- the load's.
+lock table only handed in share row exclusive mode;
 
 -- Entries --------------------------------------------------------------------------------------------------------------------------------
 
@@ -197,10 +211,17 @@ begin
     perform widen_years(its);
 end $$;
 
+-- The lock of a bridge. The advisory lock keeps nobody out: it only shows `who_stops` which process has the other one, whose row names a subtransaction.
+create or replace function lock_bridge(of_bridge text) returns void language plpgsql as $$
+begin
+    perform 1 from standing s join journal j using (journal) where j.bridge = of_bridge order by s.journal for update of s;
+    perform pg_try_advisory_xact_lock_shared(hashtext('head_office load'), hashtext(of_bridge));
+end $$;
+
 -- Makes the sums and open Firsts of a bridge anew from its entries, where more than a load changes them.
 create or replace function rebuild_sums(of_bridge text) returns void language plpgsql security definer set search_path = head_office, pg_temp as $$
 begin
-    perform 1 from standing s join journal j using (journal) where j.bridge = of_bridge order by s.journal for update of s;
+    perform lock_bridge(of_bridge);
     perform rebuild_years(journal) from journal where bridge = of_bridge;
     delete from day_sum where bridge = of_bridge;
     insert into day_sum (day, bridge, tickets, gross_kg, net_kg, brought_kg, taken_kg, preset_kg)
@@ -271,7 +292,7 @@ begin
 end $$;
 create or replace trigger noted_then_followed after insert on follower for each row execute function follow_follower();
 
-create or replace function warn_of_login() returns trigger language plpgsql as $$
+create or replace function warn_of_login() returns trigger language plpgsql security definer set search_path = head_office, pg_temp as $$
 declare
     most integer;
 begin
@@ -281,28 +302,128 @@ begin
     elsif most < 0 then
         raise warning 'login % may open all connections: ALTER ROLE % CONNECTION LIMIT 3', new.login, quote_ident(new.login);
     end if;
+    if exists (select from loader_login where login = new.login and is_there and temp_file_limit is null) then
+        raise warning 'login % may fill the disk with temporary files: ALTER ROLE % SET temp_file_limit = ''256MB''', new.login, quote_ident(new.login);
+    end if;
     return null;
 end $$;
 create or replace trigger warned after insert on loader for each row execute function warn_of_login();
 
--- Records stay handed in until the load of their transaction, and what an earlier one left is gone with the next.
-create or replace function keep_handed_small() returns trigger language plpgsql security definer set search_path = head_office, pg_temp as $$
+-- Landing tables ---------------------------------------------------------------------------------------------------------------------------
+
+-- The table into which a login hands records in.
+create or replace function landing_of(its name) returns text immutable parallel safe
+    return 'handed_by_' || case when octet_length(its::text) <= 50 then its::text else md5(its::text) end;
+
+-- Makes that table, if there is none. Loads don't wait for it.
+create or replace function make_landing(its name) returns void
+language plpgsql security definer set search_path = head_office, pg_temp set lock_timeout = '10s' as $$
 begin
-    if tg_when = 'BEFORE' then
-        delete from handed where login = session_user and within <> pg_current_xact_id();
-    elsif (select count(*) from (select from handed where login = session_user and within = pg_current_xact_id() limit 100001) h) > 100000 then
-        raise exception 'more records than a journal has places';
+    if to_regclass(format('head_office.%I', landing_of(its))) is not null then
+        return;
     end if;
+    lock table only handed in share update exclusive mode;
+    if to_regclass(format('head_office.%I', landing_of(its))) is null then
+        execute format('create unlogged table %I (like handed including defaults including constraints) '
+            'with (autovacuum_vacuum_scale_factor = 0, autovacuum_vacuum_threshold = 10000, autovacuum_analyze_scale_factor = 1)', landing_of(its));
+        execute format('alter table handed attach partition %I for values in (%L)', landing_of(its), its);
+    end if;
+end $$;
+
+create or replace function follow_loader() returns trigger language plpgsql security definer set search_path = head_office, pg_temp as $$
+begin
+    perform make_landing(new.login);
     return null;
 end $$;
-create or replace trigger left_before before insert on handed for each statement execute function keep_handed_small();
-create or replace trigger not_too_many after insert on handed for each statement execute function keep_handed_small();
+create or replace trigger noted_then_followed after insert or update on loader for each row execute function follow_loader();
+
+-- How many bytes each text of a record may have. The longest key, plate and serial of a sound record have 32, 12 and 16, and digests have 64; the texts of
+-- a changed record may be longer, and are a finding as others are.
+create or replace function most_of(a_column text) returns integer immutable parallel safe
+    return case when a_column in ('digest', 'previous') then 200 else 64 end;
+
+-- Refuses a record that is too long, and counts now and then while records come. No journal has more than 100,000 places. `handed` calls it for a record in
+-- 4,096, by a number that no client can foresee, because a count of each one takes more than the record itself.
+create or replace function keep_record_short() returns trigger language plpgsql security definer set search_path = head_office, pg_temp as $$
+declare
+    named text;
+    given integer;
+    many  bigint;
+begin
+    select t.named, t.given into named, given
+    from (values ('key', octet_length(new.key)), ('kind', octet_length(new.kind)), ('plate', octet_length(new.plate)), ('serial', octet_length(new.serial)),
+        ('digest', octet_length(new.digest)), ('previous', octet_length(new.previous))) t (named, given)
+    where t.given > most_of(t.named) limit 1;
+    if named is not null then
+        raise exception 'the % of record % has % bytes, and at most % are accepted', named, new.number, given, most_of(named) using errcode = 'string_data_right_truncation';
+    end if;
+    -- fewer bytes don't hold as many records
+    if pg_relation_size(tg_relid) > 8000000 then
+        execute format('select count(*) from (select from %I where within = pg_current_xact_id() limit 100001) h', tg_table_name) into many;
+        if many > 100000 then
+            raise exception 'more records than a journal has places' using errcode = 'program_limit_exceeded';
+        end if;
+    end if;
+    return new;
+end $$;
+
+-- Records stay handed in until the load of their transaction, and what an earlier one left is gone with the next. What refused loads leave is gone once it
+-- has 64 MB, which is more than the longest sound export takes, unless another connection of the login hands in; at 128 MB that is waited for.
+create or replace function keep_handed_small() returns trigger language plpgsql security definer set search_path = head_office, pg_temp as $$
+declare
+    its  text := landing_of(session_user);
+    many bigint;
+begin
+    if tg_when = 'AFTER' then
+        execute format('select count(*) from (select from %I where within = pg_current_xact_id() limit 100001) h', its) into many;
+        if many > 100000 then
+            raise exception 'more records than a journal has places' using errcode = 'program_limit_exceeded';
+        end if;
+        return null;
+    elsif not exists (select from loader where login = session_user) then
+        raise exception '% hands nothing in', session_user using errcode = 'insufficient_privilege';
+    end if;
+    if pg_relation_size(format('head_office.%I', its)::regclass) > 64000000 then
+        execute format('select count(*) from (select from %I where within = pg_current_xact_id() limit 1) h', its) into many;
+        begin
+            if many = 0 then
+                execute format('lock table %I in access exclusive mode nowait', its);
+                execute format('truncate %I', its);
+            end if;
+        exception when lock_not_available then
+            null;
+        end;
+        if pg_relation_size(format('head_office.%I', its)::regclass) > 128000000 then
+            raise exception 'too much was handed in and refused by %: end its other transactions', session_user using errcode = 'program_limit_exceeded';
+        end if;
+    end if;
+    execute format('delete from %I where within <> pg_current_xact_id()', its);
+    return null;
+end $$;
+
+-- A trigger that is there stays as it is, because making it again would stop all loads while one transaction is open.
+do $$
+begin
+    if not exists (select from pg_trigger where tgrelid = 'handed'::regclass and tgname = 'short_and_counted') then
+        create or replace trigger left_before before insert on handed for each statement execute function keep_handed_small();
+        create or replace trigger not_too_many after insert on handed for each statement execute function keep_handed_small();
+        create trigger short_and_counted before insert on handed for each row
+            when (octet_length(new.key) > 64 or octet_length(new.kind) > 64 or octet_length(new.plate) > 64 or octet_length(new.serial) > 64
+                or octet_length(new.digest) > 200 or octet_length(new.previous) > 200
+                or get_byte(uuid_send(gen_random_uuid()), 0) = 0 and get_byte(uuid_send(gen_random_uuid()), 0) < 16)
+            execute function keep_record_short();
+    end if;
+    perform make_landing(login) from (select distinct login from loader) l;
+end $$;
 
 -- A load: refused, or taken in -----------------------------------------------------------------------------------------------------------
 
 -- Breaks a load off. Who called it writes the reason down.
 create or replace function refuse(reason text, why text) returns void language plpgsql as
 $$ begin raise exception '%', why using errcode = 'HO001', hint = reason; end $$;
+
+-- A moment as text.
+create or replace function utc(at timestamptz) returns text stable parallel safe return to_char(at at time zone 'UTC', 'YYYY-MM-DD HH24:MI:SS') || ' UTC';
 
 create or replace function may_load(of_bridge text) returns boolean stable
     return exists (select from loader l where l.login = session_user and coalesce(l.bridge, of_bridge) = of_bridge);
@@ -311,14 +432,39 @@ create or replace function may_load(of_bridge text) returns boolean stable
 create or replace view last_load as
     select j.bridge, max(l.at) as at from journal j cross join lateral (select at from load l where l.journal = j.journal order by load desc limit 1) l group by 1;
 
+-- The findings of a bridge in the last 24 hours, by kind. Past 500 of them only the first ten of each kind are written, so that a bridge whose journal or login
+-- is in wrong hands neither fills the table nor hides another kind.
+create or replace function found_lately(of_bridge text) returns table (what text, many bigint) stable language sql as $$
+    select f.what, count(*) from journal j join finding f using (journal) where j.bridge = of_bridge and f.at > now() - interval '1 day' group by 1
+$$;
+create or replace function has_room(of_bridge text, for_what text) returns boolean stable language sql as $$
+    select coalesce(sum(many), 0) < 500 or coalesce(sum(many) filter (where what = for_what), 0) < 10 from found_lately(of_bridge)
+$$;
+
+-- Writes that more was found than is written, once in 24 hours. Returns how many findings that made.
+create or replace function write_past(of_bridge text, its integer) returns bigint language plpgsql as $$
+declare
+    many bigint;
+begin
+    insert into finding (journal, what, first, last, record)
+    select its, 'more', 0, 0, format('past 500 findings of a bridge in 24 hours, the first ten of each kind are written, from %s on', utc(now()))
+    where not exists (
+        select from finding f join journal j using (journal)
+        where j.bridge = of_bridge and f.what = 'more' and f.at > now() - interval '1 day' and starts_with(f.record, 'past 500 findings'))
+    on conflict do nothing;
+    get diagnostics many = row_count;
+    return many;
+end $$;
+
 -- Writes a refused load down, and as a finding unless an open one says the same. Of each reason a login has at most a hundred a day at a bridge, so that
 -- none hides another; past that what is a new finding is written still, unless the next load makes up for it by itself, or the loader itself chose the
--- words. Of what the next load makes up for there is one open finding of a reason. Says it in a line.
-create or replace function write_refusal(of_bridge text, because text, told text, fetched timestamptz) returns text language plpgsql as $$
+-- words. Of what the next load makes up for there is one open finding of a reason. Says it in a line, also if a lock keeps it from being written down.
+create or replace function write_refusal(of_bridge text, because text, told text, fetched timestamptz) returns text language plpgsql set lock_timeout = '5s' as $$
 declare
-    said       text := left(regexp_replace(told, '[^ -~]', '?', 'g'), 500);
-    named      text := left(regexp_replace(of_bridge, '[^ -~]', '?', 'g'), 32);
+    said       text := left(regexp_replace(left(told, 500), '[^ -~]', '?', 'g'), 500);
+    named      text := left(regexp_replace(left(of_bridge, 32), '[^ -~]', '?', 'g'), 32);
     is_passing boolean := because in ('older', 'newest', 'waited', 'unreachable');
+    kind       text := case when because = 'replaced' then 'replaced' when is_passing then 'not loaded' else 'refused' end;
     is_full    boolean;
     new_of     integer;
     its        bigint;
@@ -332,11 +478,17 @@ begin
         select from finding f join journal n using (journal) join refusal r on r.refusal = f.last
         where n.bridge = named and f.what in ('refused', 'replaced', 'not loaded') and case when is_passing then f.what = 'not loaded' and r.reason = because and f.at > coalesce((select at from last_load l where l.bridge = named), '-infinity')
             else f.what in ('refused', 'replaced') and f.record = said end and not exists (select from acknowledgement a where a.finding = f.finding));
+    if new_of is not null and not has_room(named, kind) then
+        perform write_past(named, new_of);
+        new_of := null;
+    end if;
     if not is_full or new_of is not null and not is_passing and because not in ('cut', 'form', 'listener') then
         insert into refusal (bridge, reason, why, fetched_at) values (named, because, said, fetched) returning refusal into its;
         insert into finding (journal, what, first, last, record)
-        select new_of, case when because = 'replaced' then 'replaced' when is_passing then 'not loaded' else 'refused' end, 0, its, said where new_of is not null;
+        select new_of, kind, 0, its, said where new_of is not null;
     end if;
+    return format('%s: refused: %s', named, said);
+exception when lock_not_available or deadlock_detected then
     return format('%s: refused: %s', named, said);
 end $$;
 
@@ -359,17 +511,129 @@ create or replace function wants_whole(of_bridge text) returns boolean stable la
         where b.bridge = of_bridge order by j.journal desc limit 1), true)
 $$;
 
--- The records that this transaction handed in. A load reads them once, into `taken`, each with its digest as bytes, if it is one.
-create or replace view at_hand as
-    select number, key, kind, plate, moment, gross_kg, preset_kg, interval_kg, max_kg, serial, digest, previous
-    from handed where login = session_user and within = pg_current_xact_id();
+-- A record as it was handed in. Until version 8 this was the type of a view.
+do $$
+begin
+    if (select relkind from pg_class where oid = to_regclass('at_hand')) = 'v' then
+        drop function is_sound(at_hand);
+        drop view at_hand;
+    end if;
+    if to_regtype('at_hand') is null then
+        create type at_hand as (number bigint, key text collate "C", kind text collate "C", plate text collate "C", moment timestamp, gross_kg integer,
+            preset_kg integer, interval_kg integer, max_kg integer, serial text collate "C", digest text collate "C", previous text collate "C");
+    end if;
+end $$;
+
+-- Removes what this transaction handed in.
+create or replace function clear_handed() returns void language plpgsql as $$
+begin
+    if to_regclass(format('head_office.%I', landing_of(session_user))) is not null then
+        execute format('delete from %I where within = pg_current_xact_id()', landing_of(session_user));
+    end if;
+end $$;
+
+-- Who stopped a load: another one of its bridge, or who else has the bridge's row of `standing`; else whoever holds or asks for a lock on a table that no load
+-- can have beside it. Says since when, and for whom that one waits itself. Without a bridge only the tables are asked. The load has given up by then, so it may be that
+-- nobody is found any more.
+create or replace function who_stops(of_bridge text) returns text
+language plpgsql security definer set search_path = head_office, pg_temp set lock_timeout = '1s' as $$
+declare
+    its       integer;
+    one       record;
+    seen      integer[] := array[pg_backend_pid()];
+    said      text := '';
+    is_loaded boolean;
+begin
+    select l.pid into its from pg_locks l
+    where l.locktype = 'advisory' and l.database = (select oid from pg_database where datname = current_database()) and l.pid <> pg_backend_pid()
+        and l.classid = hashtext('head_office load')::bit(32)::bigint::oid and l.objid = hashtext(of_bridge)::bit(32)::bigint::oid limit 1;
+    is_loaded := its is not null;
+    if its is null then
+        begin
+            select l.pid into its from standing s join journal j using (journal) join pg_locks l on l.locktype = 'transactionid' and l.transactionid = s.xmax and l.granted
+            where j.bridge = of_bridge and l.pid <> pg_backend_pid() limit 1;
+        exception when lock_not_available then
+            null;
+        end;
+    end if;
+    if its is null then
+        select l.pid into its from pg_locks l join pg_class c on c.oid = l.relation
+        where l.database = (select oid from pg_database where datname = current_database()) and c.relnamespace = 'head_office'::regnamespace
+            and l.mode in ('ShareLock', 'ShareRowExclusiveLock', 'ExclusiveLock', 'AccessExclusiveLock') and l.pid <> pg_backend_pid()
+        order by l.granted desc, l.waitstart, l.pid limit 1;
+    end if;
+    while its is not null and cardinality(seen) < 6 loop
+        select coalesce('login ' || a.usename, a.backend_type) as who, coalesce(utc(a.xact_start), 'an unknown moment') as since,
+            case when not pg_has_role(a.usesysid, 'head_office_loader', 'member') or r.rolsuper then case
+                when exists (select from pg_locks l where l.pid = a.pid and l.locktype = 'advisory' and l.objid = hashtext('head_office upgrade')::bit(32)::bigint::oid)
+                    then 'an upgrade by '
+                when a.query ~* '\mseal\s*\(' then 'a seal by ' end end as task,
+            case when a.state like 'idle in transaction%' then 'idles' else 'runs' end as does,
+            (select b from unnest(pg_blocking_pids(a.pid)) b where b <> all (seen || a.pid) limit 1) as next
+        into one from pg_stat_activity a left join pg_roles r on r.oid = a.usesysid where a.pid = its;
+        exit when not found;
+        is_loaded := is_loaded and (said <> '' or one.task is null);
+        said := said || case when one.task is not null then format('%s%s since %s', one.task, one.who, one.since) || case when one.next is not null then ', which waits for ' else '' end
+            else format('%s, whose transaction is open since %s and ', one.who, one.since) || case when one.next is not null then 'waits for ' else one.does end end;
+        seen := seen || its;
+        its := one.next;
+    end loop;
+    return case when said = '' then 'stopped for a minute by a transaction that has ended since'
+        when is_loaded then 'another load of this bridge was not done within a minute: ' || said else 'stopped by ' || said end;
+end $$;
+
+-- The first step of a load, before it hands in: says a refusal, if this login may not load the bridge, or if the lock that its records need isn't free.
+create or replace function begin_load(of_bridge text, fetched timestamptz default null) returns text
+language plpgsql security definer set search_path = head_office, pg_temp set lock_timeout = '60s' as $$
+begin
+    if not may_load(of_bridge) then
+        return write_refusal(of_bridge, 'login', format('%s hands nothing in for %s', session_user, of_bridge), fetched);
+    end if;
+    lock table only handed in row exclusive mode;
+    return null;
+exception when lock_not_available or deadlock_detected then
+    return write_refusal(of_bridge, 'waited', who_stops(null), fetched);
+end $$;
+
+-- Ends connections of loaders that may stop others, and says of each why. A client can lift its own time-outs, so these are the server's. A load of the
+-- package waits for a lock for a minute at most, idles for none, and is killed by its unit after ten minutes.
+create or replace function end_stuck_loads() returns setof text
+language plpgsql security definer set search_path = head_office, pg_temp
+set idle_in_transaction_session_timeout = '60s' set lock_timeout = '90s' set statement_timeout = '10min' as $$
+declare
+    idles interval := current_setting('idle_in_transaction_session_timeout');
+    waits interval := current_setting('lock_timeout');
+    runs  interval := current_setting('statement_timeout');
+    one   record;
+begin
+    insert into guard_run (at) values (now()) on conflict (is_one) do update set at = excluded.at;
+    for one in
+        select a.pid, a.usename, case
+            when not r.rolcanlogin then 'its login is locked out'
+            when exists (select from pg_locks l where l.pid = a.pid and l.locktype = 'advisory' and l.classid <> hashtext('head_office load')::bit(32)::bigint::oid)
+                then 'it held an advisory lock, which no load needs'
+            when a.state like 'idle in transaction%' and a.state_change < clock_timestamp() - idles then 'it idled in a transaction for longer than a minute'
+            when exists (select from pg_locks l where l.pid = a.pid and not l.granted and l.waitstart < clock_timestamp() - waits)
+                then 'it waited for a lock for longer than 90 seconds'
+            when a.xact_start < clock_timestamp() - runs then 'its transaction took longer than 10 minutes' end as why
+        from pg_stat_activity a join pg_roles r on r.oid = a.usesysid
+        where a.datname = current_database() and a.pid <> pg_backend_pid() and not r.rolsuper and pg_has_role(r.oid, 'head_office_loader', 'member')
+    loop
+        if one.why is not null and pg_terminate_backend(one.pid) then
+            insert into ended_connection (login, pid, why) select one.usename, one.pid, one.why
+            where (select count(*) from (select from ended_connection where login = one.usename and at > now() - interval '1 day' limit 100) e) < 100;
+            return next format('%s: process %s was ended: %s', one.usename, one.pid, one.why);
+        end if;
+    end loop;
+end $$;
 
 -- Who loads what, under the lock of the bridge: one load at a time, and what follows sees what the one before stored. Of a first load `taken` has already
 -- what `compare` says of records beside which nothing is stored: it is the same, and isn't written twice.
 create or replace function admit(of_bridge text, is_newest boolean, fetched timestamptz) returns taking language plpgsql as $$
 declare
-    it   taking;
-    ends timestamp := next_year();
+    it      taking;
+    ends    timestamp := next_year();
+    records text;
 begin
     if not may_load(of_bridge) then
         perform refuse('login', format('%s hands nothing in for %s', session_user, of_bridge));
@@ -380,15 +644,18 @@ begin
     elsif fetched > now() + interval '5 minutes' then
         perform refuse('clock', format('fetched at %s, and here it is %s: set the clocks', fetched, date_trunc('second', now())));
     end if;
-    perform 1 from standing s join journal j using (journal) where j.bridge = of_bridge order by s.journal for update of s;
+    perform lock_bridge(of_bridge);
     it.is_first := not exists (select from journal_year where journal = (select max(journal) from journal where bridge = of_bridge));
+    -- what this transaction handed in is read once, from the login's own table alone, each record with its digest as bytes, if it is one
+    records := format('(select number, key, kind, plate, moment, gross_kg, preset_kg, interval_kg, max_kg, serial, digest, previous, digest_in(digest) as own '
+        'from %I where within = pg_current_xact_id() offset 0) h', landing_of(session_user));
     if it.is_first then
-        create temporary table taken on commit drop as
-        select h.*, year_of(moment, ends) as year, is_formed(own, previous, moment) as sound, false as known, false as differs, false as is_other,
-            lag(number) over w as number_below, coalesce(lag(number) over w = number - 1, false) as is_next, lag(digest) over w as below, lag(previous) over w as below_previous
-        from (select *, digest_in(digest) as own from at_hand offset 0) h window w as (order by number);
+        execute format('create temporary table taken on commit drop as '
+            'select h.*, year_of(moment, %L) as year, is_formed(own, previous, moment) as sound, false as known, false as differs, false as is_other, '
+                'lag(number) over w as number_below, coalesce(lag(number) over w = number - 1, false) as is_next, lag(digest) over w as below, lag(previous) over w as below_previous '
+            'from %s window w as (order by number)', ends, records);
     else
-        create temporary table taken on commit drop as select *, digest_in(digest) as own, year_of(moment, ends) as year from at_hand;
+        execute format('create temporary table taken on commit drop as select h.*, year_of(moment, %L) as year from %s', ends, records);
     end if;
     it.is_newest := is_newest;
     it.fetched := fetched;
@@ -839,12 +1106,14 @@ begin
     end if;
 end $$;
 
--- Writes the findings, the first hundred by what matters and how many more, and the load. Says how it went, and of each of the first twenty new findings
+-- Writes the findings, the first hundred by what matters and how many more, as far as the bridge has room for them today, and the load. Says how it went, and of each of the first twenty new findings
 -- the record and what stands here beside it.
 create or replace function write_load(it taking, added bigint) returns setof text language plpgsql as $$
 declare
-    done load;
-    one  record;
+    done    load;
+    one     record;
+    fresh   bigint;
+    written bigint;
 begin
     with ranked as (
         select f.what, f.first, f.last, f.record, row_number() over (order by a.rank, f.first, f.last) as place from found f join advice a using (what)
@@ -853,12 +1122,24 @@ begin
         union all
         select 'more', 0, 0, format('%s more findings: %s', sum(many), string_agg(format('%s %s', what, many), ', ' order by what)), 101
         from (select what, count(*) as many from ranked where place > 100 group by what) m having count(*) > 0
+    ), fresh as (
+        select what, first, last, record, place, row_number() over (order by place) as nth, row_number() over (partition by what order by place) as nth_of_kind
+        from capped c where not exists (
+            select from finding f where f.journal = it.journal and f.what = c.what and f.first = c.first and f.last = c.last and sha256_of(f.record) = sha256_of(c.record))
+    ), lately as (
+        select what, many from found_lately(it.bridge)
     ), new as (
         insert into finding (journal, what, first, last, record)
-        select it.journal, what, first, last, record from capped order by place on conflict do nothing returning 1
+        select it.journal, what, first, last, record from fresh f
+        where nth + coalesce((select sum(many) from lately), 0) <= 500 or nth_of_kind + coalesce((select many from lately l where l.what = f.what), 0) <= 10
+        order by place on conflict do nothing returning 1
     )
+    select count(*), (select count(*) from fresh) into written, fresh from new;
+    if written < fresh then
+        written := written + write_past(it.bridge, it.journal);
+    end if;
     insert into load (journal, records, last, added, findings, new_findings, is_newest, fetched_at)
-    select it.journal, (select count(*) from compared), it.highest, added, (select count(*) from found), (select count(*) from new), it.is_newest, it.fetched
+    select it.journal, (select count(*) from compared), it.highest, added, (select count(*) from found), written, it.is_newest, it.fetched
     returning * into done;
     update standing set fetched_at = greatest(fetched_at, it.fetched), whole_at = case when it.is_newest then whole_at else coalesce(it.fetched, now()) end
     where journal = it.journal;
@@ -902,7 +1183,7 @@ begin
         perform find_in_export(it);
         perform find_in_entries(it);
         perform find_in_journals(it);
-        delete from handed where login = session_user;
+        perform clear_handed();
         return query select * from write_load(it, added);
         return;
     exception
@@ -911,11 +1192,11 @@ begin
         when check_violation or unique_violation or data_exception then
             get stacked diagnostics why = message_text;
             reason := 'form';
-        when lock_not_available then
-            why := 'another load of this bridge was not done within a minute';
+        when lock_not_available or deadlock_detected then
+            why := who_stops(of_bridge);
             reason := 'waited';
     end;
-    delete from handed where login = session_user;
+    perform clear_handed();
     return next write_refusal(of_bridge, reason, why, fetched);
 end $$;
 
@@ -995,9 +1276,12 @@ create or replace function short(record text) returns text immutable parallel sa
 create or replace function thousands(it bigint) returns text immutable parallel safe
     return to_char(it, 'FM999,999,999,999,990');
 
--- Who loads what, and how many connections each may open: -1 is all.
+-- Who loads what, how many connections each may open (-1 is all), and how large its temporary files may be.
 create or replace view loader_login as
-    select l.login, l.bridge, r.rolname is not null as is_there, r.rolcanlogin as may_log_in, r.rolconnlimit as connections
+    select l.login, l.bridge, r.rolname is not null as is_there, r.rolcanlogin as may_log_in, r.rolconnlimit as connections, (
+        select split_part(c, '=', 2) from pg_catalog.pg_db_role_setting s cross join unnest(s.setconfig) c
+        where s.setrole = r.oid and s.setdatabase in (0, (select oid from pg_catalog.pg_database where datname = current_database())) and starts_with(c, 'temp_file_limit=')
+        order by s.setdatabase desc limit 1) as temp_file_limit
     from loader l left join pg_catalog.pg_roles r on r.rolname = l.login;
 
 -- What the bridge's own check looks for, of what is stored here, made again: none, unless this cluster's own files were changed. Asked after a restore.
@@ -1056,7 +1340,7 @@ begin
     elsif not is_of_age(ends, its.retention_days) then
         raise exception 'refused: the bridge itself keeps entries of % yet', of_year;
     end if;
-    perform 1 from standing s join journal j using (journal) where j.bridge = of_bridge order by s.journal for update of s;
+    perform lock_bridge(of_bridge);
     alter table entry disable trigger never_changed;
     alter table finding disable trigger never_changed;
     for one in select j.journal, s.sealed from journal j join standing s using (journal) where j.bridge = of_bridge order by j.journal loop
@@ -1126,7 +1410,7 @@ insert into advice (rank, what, means, to_do) values
     (22, 'lowered', 'the days of retention that are registered here were lowered', 'ask who did it, and compare the service''s --retention; entries that were purged since are no finding any more'),
     (23, 'setup', 'e, Max or the serial is another one than in the entry before', 'ask whether the instrument was changed or verified anew; if not, keep the bridge''s files'),
     (24, 'nearly full', 'nine of ten places of the journal are taken', 'purge, or give the service a greater --capacity and register it as places'),
-    (25, 'more', 'a load had more findings than a hundred', 'see to the others first, and load again'),
+    (25, 'more', 'a load had more findings than a hundred, or its bridge more than 500 in 24 hours', 'see to the others first, and load again'),
     (26, 'not loaded', 'a load was refused for what the next one makes up for: no export came, it was an older one, it didn''t reach what is stored, or another load took too long', 'nothing, if the next load is taken: then this is closed by itself; else ask the bridge, or look who loads')
 on conflict (what) do update set rank = excluded.rank, means = excluded.means, to_do = excluded.to_do;
 
@@ -1134,7 +1418,15 @@ on conflict (what) do update set rank = excluded.rank, means = excluded.means, t
 
 grant usage on schema head_office to head_office_registrar, head_office_loader, head_office_reader;
 grant select on all tables in schema head_office to head_office_registrar, head_office_reader;
-revoke select on handed, at_hand from head_office_registrar, head_office_reader;
+do $$
+declare
+    its regclass;
+begin
+    -- what is handed in is nobody's to read
+    for its in select 'handed'::regclass union all select inhrelid::regclass from pg_inherits where inhparent = 'handed'::regclass loop
+        execute format('revoke select on %s from head_office_registrar, head_office_reader', its);
+    end loop;
+end $$;
 grant insert on bridge, instrument, journal, loader, follower, haulier to head_office_registrar;
 -- which instrument is whose may not be said anew
 grant update (zone, retention_days, load_within, entry_within, places, whole_within, plate_years) on bridge to head_office_registrar;
@@ -1144,19 +1436,28 @@ grant delete on loader, journal, haulier to head_office_registrar;
 grant insert (finding, note) on acknowledgement to head_office_registrar;
 grant execute on function seal(text, integer) to head_office_registrar;
 grant insert (number, key, kind, plate, moment, gross_kg, preset_kg, interval_kg, max_kg, serial, digest, previous) on handed to head_office_loader;
-grant execute on function take_in(text, boolean, timestamptz), note_refusal(text, text, text, timestamptz), wants_whole(text) to head_office_loader;
+grant execute on function take_in(text, boolean, timestamptz), note_refusal(text, text, text, timestamptz), wants_whole(text), begin_load(text, timestamptz)
+    to head_office_loader;
+grant execute on function end_stuck_loads() to head_office_reader;
 grant execute on function digest_of(bigint, text, text, text, timestamp, integer, integer, integer, integer, text, text),
     line_of(bigint, text, text, text, timestamp, integer, integer, integer, integer, text, text, text), kept_digest_of(integer, integer), is_of_age(timestamptz, integer),
     html(text), short(text), thousands(bigint)
     to head_office_registrar, head_office_reader;
 
--- From here on only a superuser can take the role that stores.
+-- From here on only a superuser can take the roles that store and that end connections.
 set local role none;
 alter function head_office.take_in(text, boolean, timestamptz) owner to head_office_storer;
+alter function head_office.who_stops(text) owner to head_office_guard;
+alter function head_office.end_stuck_loads() owner to head_office_guard;
+grant execute on function head_office.who_stops(text) to head_office;
 do $$
+declare
+    role text;
 begin
-    if exists (select from pg_auth_members where roleid = 'head_office_storer'::regrole and member = session_user::regrole) then
-        execute format('revoke head_office_storer from %I', session_user);
-    end if;
+    foreach role in array array['head_office_storer', 'head_office_guard'] loop
+        if exists (select from pg_auth_members where roleid = role::regrole and member = session_user::regrole) then
+            execute format('revoke %I from %I', role, session_user);
+        end if;
+    end loop;
 end $$;
 set local role head_office;

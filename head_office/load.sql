@@ -25,6 +25,14 @@
 -- a client that was killed, or whose machine went away, ends its statement and leaves the lock of the bridge
 set client_connection_check_interval = '2s';
 set idle_in_transaction_session_timeout = '60s';
+begin;
+-- says why the load is refused, where nothing needs to be handed in for that
+select head_office.begin_load(:'bridge', nullif(:'fetched', '')::timestamptz) as refused \gset
+\if :{?refused}
+commit;
+select :'refused';
+\quit
+\endif
 \if :asks_first
 select head_office.wants_whole(:'bridge') as wants_whole \gset
 \if :wants_whole
@@ -32,7 +40,6 @@ select head_office.wants_whole(:'bridge') as wants_whole \gset
 \quit
 \endif
 \endif
-begin;
 \if :is_chained
 \copy head_office.handed (number, key, kind, plate, moment, gross_kg, preset_kg, interval_kg, max_kg, serial, digest, previous) from pstdin with (format csv, header match, force_not_null (key, kind, plate, serial, digest, previous), encoding 'UTF8')
 \else

@@ -200,7 +200,7 @@ def show_stopped(office, folder, held):
     office.shows(
         "a load that waits longer than its lock_timeout is refused",
         2,
-        "^STOP: refused: another load of this bridge was not done within a minute$",
+        "^STOP: refused: another load of this bridge was not done within a minute: login loads, whose transaction is open since [0-9-]{10} [0-9:]{8} UTC and idles$",
         "STOP",
         export,
     )
@@ -305,7 +305,7 @@ def show_one_stops_all(office, folder):
             status and re.search("permission denied|must be superuser", said),
             said,
         )
-    rights = "SELECT string_agg(relname, ' ' ORDER BY relname) FROM pg_class WHERE relnamespace = 'head_office'::regnamespace AND relkind IN ('r', 'v', 'S') AND "
+    rights = "SELECT string_agg(relname, ' ' ORDER BY relname) FROM pg_class WHERE relnamespace = 'head_office'::regnamespace AND relkind IN ('r', 'p', 'v', 'S') AND "
     same(
         "a loader writes into the one table",
         "handed",
@@ -322,8 +322,8 @@ def show_one_stops_all(office, folder):
         ),
     )
     same(
-        "  and calls three functions",
-        "note_refusal take_in wants_whole",
+        "  and calls four functions",
+        "begin_load note_refusal take_in wants_whole",
         cluster.told(
             "SELECT string_agg(proname, ' ' ORDER BY proname) FROM pg_proc WHERE pronamespace = 'head_office'::regnamespace AND has_function_privilege('crowd', oid, 'EXECUTE')"
         ),
@@ -366,12 +366,12 @@ def show_one_stops_all(office, folder):
     pages.append(len(office.cluster.run([f"{PARTS}/report"], user=READER)[1]))
     case("  the page stays below 200 kB", pages[1] < 200_000, pages)
     book = Book("CROWD1", age=DAY * 10, step=1).fill(2)
-    book.rows[0]["digest"] = os.urandom(10_000).hex()
+    book.rows[0]["digest"] = os.urandom(100).hex()
     status, said = office.load(
         "CROWD", book.write(f"{folder}/crowd.csv", fetched=time.time()), user="crowd"
     )
     case(
-        "a record of 20 kB is a finding as others are",
+        "a digest of 200 characters is a finding as others are",
         status == 1 and "unsound 1: " in said,
         said[:200],
     )
@@ -1354,8 +1354,8 @@ def show_upgrade(office, folder, loaded_by_1):
         "two upgrades of version 4 at once: one makes it, the other waits",
         (
             [
-                "the schema is of version 8\n",
-                "version 5\nversion 6\nversion 7\nversion 8\nthe schema is of version 8\n",
+                "the schema is of version 9\n",
+                "version 5\nversion 6\nversion 7\nversion 8\nversion 9\nthe schema is of version 9\n",
             ],
             [0, 0],
         ),
@@ -1448,7 +1448,7 @@ def show_upgrade(office, folder, loaded_by_1):
         it.write("-- one more line\n")
     same(
         "functions that changed are run again, and recorded",
-        (0, "the schema is of version 8\n"),
+        (0, "the schema is of version 9\n"),
         cluster.run([f"{copy}/upgrade"], database="four"),
     )
     with open(f"{copy}/functions.sql", "rb") as it:
@@ -1503,7 +1503,7 @@ def show_upgrade(office, folder, loaded_by_1):
     case(
         "the owner of a database who is no superuser makes the schema, and is told what a superuser has to do",
         status == 0
-        and "the schema is of version 8" in said
+        and "the schema is of version 9" in said
         and "REVOKE EXECUTE ON FUNCTION lo_creat" in said,
         said,
     )
@@ -1962,6 +1962,7 @@ def show_timers(office, folder):
         "report",
         "haulier",
         "watch",
+        "guard",
         "alarm",
         "backup",
         "restore",
