@@ -190,12 +190,12 @@ def show_lengths(office: Office, folder: str) -> None:
 
 def show_counted(office: Office, folder: str) -> None:
     """Records are counted while they come, in a table of the login's own that stays small however often it is filled."""
-    add_login(office, "full", "FULL")
+    add_login(office, "counted", "COUNTED")
     add_login(office, "beside", "BESIDE")
-    insert = f"INSERT INTO head_office.handed ({COLUMNS}) SELECT g, 'K', 'void', 'X', now(), 20, 60000, 'FULL1', repeat('X', 200) FROM generate_series(1, {{}}) g"
-    before = landing_bytes(office, "full")
-    status, said = office.cluster.ask(insert.format(600_000), user="full")
-    grown = landing_bytes(office, "full") - before
+    insert = f"INSERT INTO head_office.handed ({COLUMNS}) SELECT g, 'K', 'void', 'X', now(), 20, 60000, 'COUNTED1', repeat('X', 200) FROM generate_series(1, {{}}) g"
+    before = landing_bytes(office, "counted")
+    status, said = office.cluster.ask(insert.format(600_000), user="counted")
+    grown = landing_bytes(office, "counted") - before
     case(
         "600,000 records in one statement are refused",
         status and "more records than a journal has places" in said,
@@ -205,27 +205,29 @@ def show_counted(office: Office, folder: str) -> None:
     print(f"       {grown / MEGABYTE:.1f} MB at the refusal", flush=True)
     path = f"{folder}/many.csv"
     with open(path, "w") as it:
-        line = ",K,void,X,2026-01-01 00:00:00,,,20,60000,FULL1," + "X" * 64 + "," + "Y" * 64 + "\n"
+        line = (
+            ",K,void,X,2026-01-01 00:00:00,,,20,60000,COUNTED1," + "X" * 64 + "," + "Y" * 64 + "\n"
+        )
         it.write(
             "number,key,kind,plate,moment,gross_kg,preset_kg,interval_kg,max_kg,serial,digest,previous\n"
         )
         it.writelines(f"{number}{line}" for number in range(1, 250_001))
-    status, said = office.load("FULL", path, user="full")
+    status, said = office.load("COUNTED", path, user="counted")
     case(
         "250,000 in one COPY too, which a load says",
-        status == 2 and "FULL: refused: more records than a journal has places" in said,
+        status == 2 and "COUNTED: refused: more records than a journal has places" in said,
         said,
     )
     os.remove(path)
     for _ in range(8):
-        office.cluster.ask(insert.format(110_000), user="full")
-    grown = landing_bytes(office, "full")
+        office.cluster.ask(insert.format(110_000), user="counted")
+    grown = landing_bytes(office, "counted")
     case("ten times, they take no more than 160 MB", grown < 160 * MEGABYTE, grown)
     print(f"       {grown / MEGABYTE:.1f} MB after ten refusals", flush=True)
     nested = [f"SAVEPOINT a; {insert.format(110_000)}; ROLLBACK TO a;"] * 4
     words = ["psql", "-X", "-q", "-c", "BEGIN", *sum((["-c", it] for it in nested), [])]
-    office.cluster.run([*words, "-c", "ROLLBACK"], user="full")
-    grown = landing_bytes(office, "full")
+    office.cluster.run([*words, "-c", "ROLLBACK"], user="counted")
+    grown = landing_bytes(office, "counted")
     case("  nor four times within one transaction", grown < 240 * MEGABYTE, grown)
     same(
         "  and none of that stands in the table of another login",
@@ -241,14 +243,14 @@ def show_counted(office: Office, folder: str) -> None:
         export,
         user="beside",
     )
-    export = Book("FULL1").fill(30).write(f"{folder}/full.csv", fetched=time.time())
+    export = Book("COUNTED1").fill(30).write(f"{folder}/counted.csv", fetched=time.time())
     office.shows(
         "  and the login's own, once it is sound",
         0,
-        "^FULL: records 30, added 30, findings 0",
-        "FULL",
+        "^COUNTED: records 30, added 30, findings 0",
+        "COUNTED",
         export,
-        user="full",
+        user="counted",
     )
     office.cluster.told("CREATE ROLE unregistered LOGIN IN ROLE head_office_loader")
     status, said = office.cluster.ask(insert.format(10), user="unregistered")
@@ -258,10 +260,10 @@ def show_counted(office: Office, folder: str) -> None:
         said,
     )
     status, said = office.cluster.ask(
-        "INSERT INTO head_office.handed_by_beside (number) VALUES (1)", user="full"
+        "INSERT INTO head_office.handed_by_beside (number) VALUES (1)", user="counted"
     )
     case("nor one into another's table", status and "permission denied" in said, said)
-    acknowledge(office, "FULL")
+    acknowledge(office, "COUNTED")
 
 
 # ---- findings ------------------------------------------------------------------------------------------------------------------------
@@ -328,7 +330,10 @@ def show_daily(office: Office, folder: str) -> None:
 def show_temporary_files(office: Office, folder: str) -> None:
     """A login can't fill the disk with temporary files, once a superuser's upgrade has bounded it."""
     add_login(office, "temporary", "TEMP")
-    said = office.told("INSERT INTO head_office.loader VALUES ('temporary', 'FULL')")
+    insert = "INSERT INTO head_office.loader VALUES ('temporary', '{}')"
+    for name in ("TEMP2", "TEMP3"):
+        office.register(name, f"{name}1")
+    said = office.told(insert.format("TEMP2"))
     case(
         "registering a login without a bound says so",
         "login temporary may fill the disk with temporary files: ALTER ROLE temporary SET temp_file_limit = '256MB'"
@@ -352,7 +357,7 @@ def show_temporary_files(office: Office, folder: str) -> None:
     office.cluster.told("ALTER ROLE temporary SET temp_file_limit = '1GB'")
     office.cluster.run([f"{PARTS}/upgrade"])
     same("an upgrade leaves what a superuser set", "1GB", office.reads(shown))
-    said = office.told("INSERT INTO head_office.loader VALUES ('temporary', 'BESIDE')")
+    said = office.told(insert.format("TEMP3"))
     case("  and registering it warns no more", "temporary files" not in said, said)
 
 
@@ -549,6 +554,24 @@ def show_reasons(office: Office, folder: str) -> None:
     )
 
 
+# ---- plans ---------------------------------------------------------------------------------------------------------------------------
+
+
+def show_plans(office: Office, folder: str) -> None:
+    """What is asked of each bridge doesn't read the journals of all others."""
+    cluster = office.cluster
+    count = "SELECT seq_tup_read + idx_tup_fetch FROM pg_stat_user_tables WHERE relid = 'head_office.journal'::regclass"
+    before = int(cluster.told(count))
+    cluster.told(
+        "BEGIN; INSERT INTO head_office.bridge (bridge, retention_days) SELECT 'P' || g, 30 FROM generate_series(1, 1500) g; "
+        "INSERT INTO head_office.journal (bridge) SELECT 'P' || g FROM generate_series(1, 1500) g; "
+        "ANALYZE head_office.journal, head_office.bridge; SELECT count(*) FROM head_office.heard; ROLLBACK"
+    )
+    until(lambda: int(cluster.told(count)) > before, 5)
+    read = int(cluster.told(count)) - before
+    case("1,500 bridges are asked for without reading all journals for each", read < 15_000, read)
+
+
 def show_bounds(office: Office, folder: str) -> None:
     """Show each bound of what a bridge's login may do."""
     for show in (
@@ -558,5 +581,6 @@ def show_bounds(office: Office, folder: str) -> None:
         show_temporary_files,
         show_guard,
         show_reasons,
+        show_plans,
     ):
         show(office, folder)
