@@ -2,9 +2,8 @@
 -- the tables. A function with other parameters, or a view that loses a column, is dropped in a numbered file first.
 
 -- `take_in` runs as the role head_office_storer, which has no login and no members. The trigger stored_by_a_load recognizes a load by that role, so it needs none
--- of the server's messages. What ends connections of loaders, and what says who holds a load up, runs as the role head_office_guard, which has no login and
--- no members either, so that only these functions have its rights. While this file runs, the schema's owner owns the functions, and the login that upgrades
--- is a member of the roles.
+-- of the server's messages. `end_stuck_loads` and `who_stops` run as the role head_office_guard. It has no login and no members either, so only these
+-- functions have its rights. While this file runs, the schema's owner owns the functions, and the login that upgrades is a member of the roles.
 do $$
 declare
     role   text;
@@ -337,8 +336,8 @@ begin
 end $$;
 create or replace trigger noted_then_followed after insert or update on loader for each row execute function follow_loader();
 
--- How many bytes each text of a record may have. The longest key, plate and serial of a sound record have 32, 12 and 16, and digests have 64; the texts of
--- a changed record may be longer, and are a finding as others are.
+-- How many bytes each text of a record may have. A sound record has 32 in its key, 12 in its plate, 16 in its serial and 64 in a digest, at most. Longer texts
+-- of a changed record are still a finding up to this bound.
 create or replace function most_of(a_column text) returns integer immutable parallel safe
     return case when a_column in ('digest', 'previous') then 200 else 64 end;
 
@@ -367,8 +366,8 @@ begin
     return new;
 end $$;
 
--- Records stay handed in until the load of their transaction, and what an earlier one left is gone with the next. What refused loads leave is gone once it
--- has 64 MB, which is more than the longest sound export takes, unless another connection of the login hands in; at 128 MB that is waited for.
+-- Keeps records until the load of their transaction, and removes those of earlier ones. Past 64 MB, which is more than the longest sound export takes, it empties
+-- the table, unless another connection of the login uses it. Then it refuses more records at 128 MB.
 create or replace function keep_handed_small() returns trigger language plpgsql security definer set search_path = head_office, pg_temp as $$
 declare
     its  text := landing_of(session_user);
@@ -432,8 +431,8 @@ create or replace function may_load(of_bridge text) returns boolean stable
 create or replace view last_load as
     select j.bridge, max(l.at) as at from journal j cross join lateral (select at from load l where l.journal = j.journal order by load desc limit 1) l group by 1;
 
--- The findings of a bridge in the last 24 hours, by kind. Past 500 of them only the first ten of each kind are written, so that a bridge whose journal or login
--- is in wrong hands neither fills the table nor hides another kind.
+-- The findings of a bridge in the last 24 hours, by kind. Past 500 of them, only the first ten of each kind are written. So a journal or login in wrong hands
+-- neither fills the table nor hides another kind.
 create or replace function found_lately(of_bridge text) returns table (what text, many bigint) stable language sql as $$
     select f.what, count(*) from journal j join finding f using (journal) where j.bridge = of_bridge and f.at > now() - interval '1 day' group by 1
 $$;
@@ -458,7 +457,7 @@ end $$;
 
 -- Writes a refused load down, and as a finding unless an open one says the same. Of each reason a login has at most a hundred a day at a bridge, so that
 -- none hides another; past that what is a new finding is written still, unless the next load makes up for it by itself, or the loader itself chose the
--- words. Of what the next load makes up for there is one open finding of a reason. Says it in a line, also if a lock keeps it from being written down.
+-- words. Of what the next load makes up for there is one open finding of a reason. Says it in a line, even if a lock keeps it from being written down.
 create or replace function write_refusal(of_bridge text, because text, told text, fetched timestamptz) returns text language plpgsql set lock_timeout = '5s' as $$
 declare
     said       text := left(regexp_replace(left(told, 500), '[^ -~]', '?', 'g'), 500);
@@ -511,7 +510,7 @@ create or replace function wants_whole(of_bridge text) returns boolean stable la
         where b.bridge = of_bridge order by j.journal desc limit 1), true)
 $$;
 
--- A record as it was handed in. Until version 8 this was the type of a view.
+-- A record as it came. Until version 8 this was the type of a view.
 do $$
 begin
     if (select relkind from pg_class where oid = to_regclass('at_hand')) = 'v' then
@@ -524,7 +523,7 @@ begin
     end if;
 end $$;
 
--- Removes what this transaction handed in.
+-- Removes the records of this transaction.
 create or replace function clear_handed() returns void language plpgsql as $$
 begin
     if to_regclass(format('head_office.%I', landing_of(session_user))) is not null then
@@ -532,8 +531,8 @@ begin
     end if;
 end $$;
 
--- Who stopped a load: another one of its bridge, or who else has the bridge's row of `standing`; else whoever holds or asks for a lock on a table that no load
--- can have beside it. Says since when, and for whom that one waits itself. Without a bridge only the tables are asked. The load has given up by then, so it may be that
+-- Names the login that stopped a load: that of another load of its bridge, or one that has locked the bridge's row of `standing`. Otherwise it is one that has, or
+-- asks for, a lock on a table that no load can share. Says since when, and for whom that one waits itself. Without a bridge only the tables are asked. The load has given up by then, so it may be that
 -- nobody is found any more.
 create or replace function who_stops(of_bridge text) returns text
 language plpgsql security definer set search_path = head_office, pg_temp set lock_timeout = '1s' as $$
@@ -582,7 +581,7 @@ begin
         when is_loaded then 'another load of this bridge was not done within a minute: ' || said else 'stopped by ' || said end;
 end $$;
 
--- The first step of a load, before it hands in: says a refusal, if this login may not load the bridge, or if the lock that its records need isn't free.
+-- The first step of a load, before its records come. Says a refusal if this login may not load the bridge, or if the lock that its records need isn't free.
 create or replace function begin_load(of_bridge text, fetched timestamptz default null) returns text
 language plpgsql security definer set search_path = head_office, pg_temp set lock_timeout = '60s' as $$
 begin
@@ -646,7 +645,7 @@ begin
     end if;
     perform lock_bridge(of_bridge);
     it.is_first := not exists (select from journal_year where journal = (select max(journal) from journal where bridge = of_bridge));
-    -- what this transaction handed in is read once, from the login's own table alone, each record with its digest as bytes, if it is one
+    -- reads the records of this transaction once, and only from the login's own table, each with its digest as bytes, if it is one
     records := format('(select number, key, kind, plate, moment, gross_kg, preset_kg, interval_kg, max_kg, serial, digest, previous, digest_in(digest) as own '
         'from %I where within = pg_current_xact_id() offset 0) h', landing_of(session_user));
     if it.is_first then
@@ -1276,7 +1275,7 @@ create or replace function short(record text) returns text immutable parallel sa
 create or replace function thousands(it bigint) returns text immutable parallel safe
     return to_char(it, 'FM999,999,999,999,990');
 
--- Who loads what, how many connections each may open (-1 is all), and how large its temporary files may be.
+-- Loaders of each bridge, how many connections each may open (-1 is all), and how large its temporary files may be.
 create or replace view loader_login as
     select l.login, l.bridge, r.rolname is not null as is_there, r.rolcanlogin as may_log_in, r.rolconnlimit as connections, (
         select split_part(c, '=', 2) from pg_catalog.pg_db_role_setting s cross join unnest(s.setconfig) c
@@ -1422,7 +1421,7 @@ do $$
 declare
     its regclass;
 begin
-    -- what is handed in is nobody's to read
+    -- nobody reads these records
     for its in select 'handed'::regclass union all select inhrelid::regclass from pg_inherits where inhparent = 'handed'::regclass loop
         execute format('revoke select on %s from head_office_registrar, head_office_reader', its);
     end loop;

@@ -26,7 +26,7 @@
 set client_connection_check_interval = '2s';
 set idle_in_transaction_session_timeout = '60s';
 begin;
--- says why the load is refused, where nothing needs to be handed in for that
+-- says a refusal for which the server doesn't need the export
 select head_office.begin_load(:'bridge', nullif(:'fetched', '')::timestamptz) as refused \gset
 \if :{?refused}
 commit;

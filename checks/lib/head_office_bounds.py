@@ -140,7 +140,7 @@ def is_connected(office: Office, login: str) -> bool:
 
 
 def show_lengths(office: Office, folder: str) -> None:
-    """A record with a text that is too long is refused by name, and the longest one is a finding as others are."""
+    """Load records with texts that are too long, and with the longest ones."""
     add_login(office, "long", "LONG")
     book = Book("LONG1", age=7_200).fill(20)
     office.load("LONG", book.write(f"{folder}/long.csv"), user="long")
@@ -174,7 +174,7 @@ def show_lengths(office: Office, folder: str) -> None:
         said[:500],
     )
     longest = "SELECT coalesce(max(length(record)), 0) < 2000 FROM head_office.finding"
-    same("  and stands in no finding", "t", office.reads(longest))
+    same("  and is in no finding", "t", office.reads(longest))
     os.remove(f"{folder}/long.csv")
     book.change(7, key="K" * 64, digest="X" * 200, previous="Y" * 200)
     office.shows(
@@ -189,7 +189,7 @@ def show_lengths(office: Office, folder: str) -> None:
 
 
 def show_counted(office: Office, folder: str) -> None:
-    """Records are counted while they come, in a table of the login's own that stays small however often it is filled."""
+    """Load too many records, and look how large the login's own table becomes."""
     add_login(office, "counted", "COUNTED")
     add_login(office, "beside", "BESIDE")
     insert = f"INSERT INTO head_office.handed ({COLUMNS}) SELECT g, 'K', 'void', 'X', now(), 20, 60000, 'COUNTED1', repeat('X', 200) FROM generate_series(1, {{}}) g"
@@ -230,7 +230,7 @@ def show_counted(office: Office, folder: str) -> None:
     grown = landing_bytes(office, "counted")
     case("  nor four times within one transaction", grown < 240 * MEGABYTE, grown)
     same(
-        "  and none of that stands in the table of another login",
+        "  and none of that is in the table of another login",
         "0",
         office.cluster.told("SELECT pg_relation_size('head_office.handed_by_beside')"),
     )
@@ -270,7 +270,7 @@ def show_counted(office: Office, folder: str) -> None:
 
 
 def show_daily(office: Office, folder: str) -> None:
-    """A bridge has so many findings a day, and one line says that more were found; none hides another kind."""
+    """Make more findings of a bridge than are written in 24 hours."""
     add_login(office, "daily", "DAILY", "CALM")
     sound = Book("DAILY1", age=DAY * 2, step=10).fill(150)
     path = f"{folder}/daily.csv"
@@ -328,7 +328,7 @@ def show_daily(office: Office, folder: str) -> None:
 
 
 def show_temporary_files(office: Office, folder: str) -> None:
-    """A login can't fill the disk with temporary files, once a superuser's upgrade has bounded it."""
+    """Fill the disk with temporary files, once a superuser's upgrade has bounded the login."""
     add_login(office, "temporary", "TEMP")
     insert = "INSERT INTO head_office.loader VALUES ('temporary', '{}')"
     for name in ("TEMP2", "TEMP3"):
@@ -370,7 +370,7 @@ def guarded(office: Office) -> str:
 
 
 def show_guard(office: Office, folder: str) -> None:
-    """A loader's connection that stops others is ended, though its client has lifted all its time-outs."""
+    """End connections that stop others, although their clients have lifted all time-outs."""
     cluster = office.cluster
     add_login(office, "stuck", "STUCK")
     configured = (
@@ -466,7 +466,7 @@ def show_guard(office: Office, folder: str) -> None:
 
 
 def show_reasons(office: Office, folder: str) -> None:
-    """A load that is stopped says by whom, since when, and what that one waits for."""
+    """Stop loads, and look whether they say by whom, since when, and what that one waits for."""
     cluster = office.cluster
     add_login(office, "opens", "OPENS", "SEALED")
     add_login(office, "waits", "WAITS")
@@ -528,7 +528,7 @@ def show_reasons(office: Office, folder: str) -> None:
         )
     with session(office, OWNER, "BEGIN;", "LOCK TABLE head_office.handed IN SHARE MODE;"):
         shows(
-            "also if it could hand nothing in",
+            "even if it couldn't send its records",
             f"stopped by login {OWNER}, whose transaction is open since {moment} and idles",
         )
     with session(
@@ -558,7 +558,7 @@ def show_reasons(office: Office, folder: str) -> None:
 
 
 def show_plans(office: Office, folder: str) -> None:
-    """What is asked of each bridge doesn't read the journals of all others."""
+    """Ask about many bridges, and count the journals that are read."""
     cluster = office.cluster
     count = "SELECT seq_tup_read + idx_tup_fetch FROM pg_stat_user_tables WHERE relid = 'head_office.journal'::regclass"
     before = int(cluster.told(count))
@@ -569,7 +569,7 @@ def show_plans(office: Office, folder: str) -> None:
     )
     until(lambda: int(cluster.told(count)) > before, 5)
     read = int(cluster.told(count)) - before
-    case("1,500 bridges are asked for without reading all journals for each", read < 15_000, read)
+    case("a question about 1,500 bridges doesn't read all journals for each", read < 15_000, read)
 
 
 def show_bounds(office: Office, folder: str) -> None:

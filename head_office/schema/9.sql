@@ -1,17 +1,17 @@
--- A login that hands records in has a table of its own for them, so that what it leaves there slows down no other load, and takes no more of the disk than
--- `keep_handed_small` allows. `handed` becomes the partitioned table over these, so bridges of every version hand in as before.
+-- Each login has a table of its own for the records of its loads. So what it leaves there slows down no other load, and takes no more of the disk than
+-- `keep_handed_small` allows. `handed` becomes the partitioned table over these, so bridges of every version load as before.
 
 set local role head_office;
 set local search_path = head_office;
 
--- Loads wait meanwhile. What is handed in stands only until the end of its transaction, so nothing is kept of the former table.
+-- Loads wait meanwhile. A record stays only until the end of its transaction, so nothing is kept of the former table.
 alter table handed rename to handed_before;
 create table handed (like handed_before including defaults including constraints) partition by list (login);
 do $$
 declare
     its name;
 begin
-    -- until functions.sql is run, loads go on by the functions of version 8, which a new database doesn't have yet
+    -- until functions.sql is run, loads continue with the functions of version 8, which a new database doesn't have yet
     if to_regclass('head_office.at_hand') is not null then
         create or replace view at_hand as
             select number, key, kind, plate, moment, gross_kg, preset_kg, interval_kg, max_kg, serial, digest, previous
