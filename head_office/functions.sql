@@ -219,15 +219,20 @@ end $$;
 
 -- Makes the sums and open Firsts of a bridge anew from its entries, where more than a load changes them.
 create or replace function rebuild_sums(of_bridge text) returns void language plpgsql security definer set search_path = head_office, pg_temp as $$
+declare
+    its integer;
 begin
     perform lock_bridge(of_bridge);
     perform rebuild_years(journal) from journal where bridge = of_bridge;
     delete from day_sum where bridge = of_bridge;
     insert into day_sum (day, bridge, tickets, gross_kg, net_kg, brought_kg, taken_kg, preset_kg)
     select day, bridge, tickets, gross_kg, net_kg, brought_kg, taken_kg, preset_kg from computed_day_total where bridge = of_bridge;
-    delete from open_entry o using journal j where j.journal = o.journal and j.bridge = of_bridge;
-    insert into open_entry (journal, plate, number, since, gross_kg)
-    select c.journal, c.plate, c.number, c.since, c.gross_kg from computed_open_entry c join journal j using (journal) where j.bridge = of_bridge;
+    -- joined with its journals, the view would sort the entries of all bridges
+    for its in select journal from journal where bridge = of_bridge loop
+        delete from open_entry where journal = its;
+        insert into open_entry (journal, plate, number, since, gross_kg)
+        select journal, plate, number, since, gross_kg from computed_open_entry where journal = its;
+    end loop;
 end $$;
 
 -- Triggers -------------------------------------------------------------------------------------------------------------------------------
