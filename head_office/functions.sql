@@ -361,8 +361,8 @@ begin
     if named is not null then
         raise exception 'the % of record % has % bytes, and at most % are accepted', named, new.number, given, most_of(named) using errcode = 'string_data_right_truncation';
     end if;
-    -- fewer bytes don't hold as many records
-    if pg_relation_size(tg_relid) > 8000000 then
+    -- 100,000 of the shortest records have more bytes
+    if pg_relation_size(tg_relid) > 14000000 then
         execute format('select count(*) from (select from %I where within = pg_current_xact_id() limit 100001) h', tg_table_name) into many;
         if many > 100000 then
             raise exception 'more records than a journal has places' using errcode = 'program_limit_exceeded';

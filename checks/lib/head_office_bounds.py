@@ -574,7 +574,7 @@ def show_plans(office: Office, folder: str) -> None:
     office.load("PLANS", many.write(f"{folder}/plans.csv"), user="plans")
     office.load("ZONED", Book("ZONED1").fill(30).write(f"{folder}/plans.csv"), user="plans")
     time.sleep(1.5)
-    # in a large office the planner reads no whole table by itself
+    # in a large office the planner chooses no scan of a whole table
     read = reads(
         "SET enable_seqscan = off; UPDATE head_office.bridge SET zone = 'Pacific/Auckland' WHERE bridge = 'ZONED'",
         "^entry_",
