@@ -15,11 +15,13 @@ import shutil
 import subprocess
 import tempfile
 import time
+from collections.abc import Iterable
+from typing import Any
 
 OWNER = "keeper"
 
 
-def folder_of_programs():
+def folder_of_programs() -> str:
     found = sorted(glob.glob("/usr/lib/postgresql/*/bin"))
     return found[-1] if found else os.path.dirname(shutil.which("initdb") or "")
 
@@ -27,7 +29,7 @@ def folder_of_programs():
 BIN = folder_of_programs()
 LOCALE = os.environ.get("HEAD_OFFICE_LOCALE", "")
 # Parts of the server's messages that the cases look for.
-MESSAGES = (
+MESSAGES: tuple[str, ...] = (
     "permission denied",
     "too many connections",
     "must be owner of ",
@@ -55,13 +57,13 @@ MESSAGES += (
 )
 
 
-def in_english():
+def in_english() -> list[tuple[re.Pattern[str], str, str]]:
     """Return patterns of the server's messages in another language, each with its English text and the longest part that it always has."""
     if not LOCALE:
         return []
     with open(f"/usr/share/locale/{LOCALE[:2]}/LC_MESSAGES/postgres-15.mo", "rb") as it:
-        catalogue = gettext.GNUTranslations(it)._catalog
-    found = []
+        catalogue: dict[Any, str] = vars(gettext.GNUTranslations(it))["_catalog"]
+    found: list[tuple[re.Pattern[str], str, str]] = []
     for english, other in catalogue.items():
         if (
             isinstance(english, str)
@@ -92,7 +94,7 @@ def in_english():
 IN_ENGLISH = in_english()
 
 
-def english(said):
+def english(said: str) -> str:
     """Return a text in which the messages that the cases look for are English again."""
     possible = [it for it in IN_ENGLISH if it[2] in said]
     if not possible:
@@ -111,7 +113,7 @@ def english(said):
     return "\n".join(lines)
 
 
-def as_server(words, **options):
+def as_server(words: list[str], **options: Any) -> subprocess.CompletedProcess[bytes]:
     """Runs a program of the server as the user that it runs as."""
     words = ["runuser", "-u", "postgres", "--", *words] if os.getuid() == 0 else words
     return subprocess.run(
@@ -127,9 +129,12 @@ def as_server(words, **options):
 class Cluster:
     """A server over data in a folder. `settings` are lines of its configuration."""
 
-    def __init__(self, folder=None, settings=(), make=True):
+    def __init__(
+        self, folder: str | None = None, settings: Iterable[str] = (), make: bool = True
+    ) -> None:
         self.folder = folder or tempfile.mkdtemp(prefix="head_office.")
         self.data, self.port = os.path.join(self.folder, "data"), 5432
+        self.took = 0.0
         if os.getuid() == 0:
             shutil.chown(self.folder, "postgres")
         if make:
@@ -156,21 +161,21 @@ class Cluster:
             ]
         )
 
-    def set(self, lines):
+    def set(self, lines: Iterable[str]) -> None:
         with open(os.path.join(self.data, "postgresql.conf"), "a") as it:
             it.write("".join(f"{line}\n" for line in lines))
 
-    def start(self):
+    def start(self) -> None:
         as_server(
             [f"{BIN}/pg_ctl", "-D", self.data, "-l", os.path.join(self.data, "log"), "-w", "start"],
             cwd=self.folder,
         )
 
-    def stop(self, how="fast"):
+    def stop(self, how: str = "fast") -> None:
         """Stops it: `fast`, or `immediate`, without a checkpoint, as if the machine had failed."""
         as_server([f"{BIN}/pg_ctl", "-D", self.data, "-m", how, "-w", "stop"], cwd=self.folder)
 
-    def environment(self, user=OWNER, database="head_office"):
+    def environment(self, user: str = OWNER, database: str = "head_office") -> dict[str, str]:
         language = {"LC_ALL": LOCALE} if LOCALE else {}
         return {
             **os.environ,
@@ -182,7 +187,14 @@ class Cluster:
             "PGOPTIONS": "",
         }
 
-    def run(self, words, user=OWNER, database="head_office", given=None, **more):
+    def run(
+        self,
+        words: list[str],
+        user: str = OWNER,
+        database: str = "head_office",
+        given: bytes | None = None,
+        **more: str,
+    ) -> tuple[int, str]:
         """Return the status of a program that connects to it, and all that it printed. `took` is then its time in seconds."""
         environment = {**self.environment(user, database), **more}
         began = time.monotonic()
@@ -190,7 +202,9 @@ class Cluster:
         self.took = time.monotonic() - began
         return it.returncode, english((it.stdout + it.stderr).decode(errors="replace"))
 
-    def ask(self, *statements, user=OWNER, database="head_office"):
+    def ask(
+        self, *statements: str, user: str = OWNER, database: str = "head_office"
+    ) -> tuple[int, str]:
         """The status of statements, and their rows or refusals."""
         words = ["psql", "-X", "-q", "-A", "-t", "-v", "ON_ERROR_STOP=1"]
         for it in statements:
@@ -198,14 +212,14 @@ class Cluster:
         status, said = self.run(words, user, database)
         return status, said.strip()
 
-    def told(self, *statements, user=OWNER, database="head_office"):
+    def told(self, *statements: str, user: str = OWNER, database: str = "head_office") -> str:
         """The rows of statements that are answered."""
         status, said = self.ask(*statements, user=user, database=database)
         if status:
             raise SystemExit(f"head_office: {statements}: {said}")
         return said
 
-    def end(self):
+    def end(self) -> None:
         """Stops it, if it runs, and removes it."""
         try:
             self.stop("immediate")
