@@ -1,7 +1,7 @@
 -- The sums of a bridge's days, and in whose zone a day begins and ends. A load keeps them in `day_sum`, and `computed_day_total` computes them from the entries.
 BEGIN;
 SET LOCAL search_path = test, tap;
-SELECT plan(24);
+SELECT plan(27);
 SET LOCAL timezone = 'Pacific/Auckland';
 
 -- In January Berlin is an hour before UTC, New York five hours behind it.
@@ -78,6 +78,14 @@ SELECT is(pg_temp.days_of('LATE'), '(2025-01-15,1,12000,2000,0,2000,0)', '  whos
 SELECT is(load('LATE'), 'LATE: records 4, added 2, findings 0, new 0', 'they come late');
 SELECT is(pg_temp.days_of('LATE'), '(2025-01-15,1,40000,28000,28000,0,0)', '  and the Second is paired again');
 SELECT is(pg_temp.days_of('LATE', 'computed_day_total'), pg_temp.days_of('LATE'), '  as the entries say');
+
+CALL bridge('EVENING', 3650, 'Asia/Tokyo');
+CALL weigh('EVENING', 'single', 'A-1', 9000, 5000, at => '2025-01-14 15:00:00');      -- 1: of the 15th in Tokyo
+CALL weigh('EVENING', 'single', 'A-1', 9000, 5000, at => '2025-01-14 16:00:00');      -- 2
+CALL weigh('EVENING', 'single', 'A-1', 9000, 5000, at => '2025-01-14 17:00:00');      -- 3
+SELECT alike(load('EVENING', without => '{2}'), 'EVENING: records 2, added 2,%', 'a load lacks an entry of a late evening');
+SELECT alike(load('EVENING'), 'EVENING: records 3, added 1,%', '  which comes late');
+SELECT is(rows($$SELECT day, tickets FROM head_office.day_total WHERE bridge = 'EVENING'$$), '(2025-01-15,3)', '  and counts on the day of its zone');
 
 -- A day whose only ticket goes
 CALL bridge('GONE', 3650);
