@@ -1,7 +1,7 @@
 -- The rights of each role on every table, column, function and schema. The lists were written by hand from docs/head_office.md.
 BEGIN;
 SET LOCAL search_path = test, tap;
-SELECT plan(45);
+SELECT plan(46);
 
 -- The rights of a role on the tables and views, such as `bridge: INSERT SELECT`, without `entry_2026` and the other tables of years.
 CREATE FUNCTION pg_temp.table_rights(role text, of_right text) RETURNS text LANGUAGE sql AS $$
@@ -45,6 +45,9 @@ SELECT is(pg_temp.column_rights('ada', 'UPDATE'), 'bridge: entry_within load_wit
 SELECT is(pg_temp.table_rights('ada', 'DELETE'), 'haulier journal loader', 'the registrar removes loaders, plates of hauliers, and journals without entries');
 SELECT is(pg_temp.table_rights('ada', it), '', 'the registrar has no right ' || it) FROM unnest('{TRUNCATE,TRIGGER,REFERENCES}'::text[]) it;
 SELECT is(pg_temp.function_rights('ada'), 'digest_of html is_of_age kept_digest_of line_of seal short thousands', 'the registrar calls what a reader does, and seal');
+
+SELECT is(rows($$SELECT rolname, relname FROM pg_roles, pg_class WHERE rolname IN ('ada', 'bridge_north', 'office') AND relkind = 'S'
+    AND relnamespace = 'head_office'::regnamespace AND has_sequence_privilege(rolname, pg_class.oid, 'USAGE, SELECT, UPDATE')$$), '', 'nobody who logs in counts a sequence up');
 
 -- Everybody else, and what lies around
 CREATE ROLE stranger LOGIN;
