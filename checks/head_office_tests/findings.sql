@@ -1,7 +1,7 @@
 -- The findings of a load: changed records, broken chains, keys, partners and settings that don't fit, and how many of them are written.
 BEGIN;
 SET LOCAL search_path = test, tap;
-SELECT plan(54);
+SELECT plan(62);
 
 -- Five entries are loaded. Then they are changed, and loaded again.
 CREATE PROCEDURE pg_temp.begin_bridge(name text, last bigint DEFAULT 5) LANGUAGE plpgsql AS $$
@@ -29,6 +29,15 @@ SELECT is(findings('U2'), '{unsound 5}', '  and is unsound');
 UPDATE record SET gross_kg = 9000 WHERE book = 'U2' AND number = 5;
 SELECT is(load('U2'), 'U2: records 5, added 1, findings 0, new 0', '  until a sound one comes');
 
+CALL pg_temp.begin_bridge('U3');
+UPDATE record SET previous = repeat('a', 64) WHERE book = 'U3' AND number = 3;
+SELECT is(load('U3'), 'U3: records 5, added 0, findings 1, new 1', 'a previous digest was changed');
+SELECT is(findings('U3'), '{unsound 3}', '  which is unsound');
+CALL pg_temp.begin_bridge('U4');
+UPDATE record SET previous = NULL WHERE book = 'U4' AND number = 3;
+SELECT is(load('U4'), 'U4: records 5, added 0, findings 1, new 1', 'a previous digest was removed');
+SELECT is(findings('U4'), '{unsound 3}', '  which is unsound');
+
 CALL pg_temp.begin_bridge('D1');
 UPDATE record SET gross_kg = 9020 WHERE book = 'D1' AND number = 3;
 CALL pg_temp.digest_again('D1', 3);
@@ -44,6 +53,7 @@ UPDATE record SET gross_kg = 9020 WHERE book = 'D3' AND number IN (2, 4);
 CALL chain('D3', 2);
 SELECT is(load('D3'), 'D3: records 5, added 0, findings 2, new 2', 'two weights were changed');
 SELECT is(findings('D3'), '{differs 2-3,differs 4-5}', '  which are two findings');
+SELECT is(rows($$SELECT numbers FROM head_office.open_finding WHERE bridge IN ('U1', 'D3') ORDER BY finding$$), '(3) (2-3) (4-5)', '  as the view shows their numbers');
 SELECT is((SELECT array_agg(gross_kg ORDER BY number) FROM head_office.entry WHERE journal = journal_of('D3')), '{9000,9000,9000,9000,9000}', '  and what is stored stays');
 
 -- New records that don't hold the digest of the one before
@@ -62,6 +72,16 @@ UPDATE record SET previous = repeat('0', 64) WHERE book = 'C3' AND number = 5;
 CALL pg_temp.digest_again('C3', 5);
 SELECT alike(load('C3'), '%, findings 1, new 1', 'zeros between others');
 SELECT is(findings('C3'), '{unchained 5}', '  are no digest of the one below');
+
+CALL pg_temp.begin_bridge('C4', 3);
+UPDATE record SET previous = NULL WHERE book = 'C4' AND number = 4;
+CALL chain('C4', 4);
+SELECT is(load('C4'), 'C4: records 5, added 2, findings 1, new 1', 'an entry of version 1 behind others of version 2');
+SELECT is(findings('C4'), '{unchained 4}', '  holds no digest of the one below');
+CALL bridge('C5');
+CALL weigh('C5', 'single', 'A-1', 9000, 5000, version => 1);
+CALL weigh('C5', 'single', 'A-1', 9000, 5000, version => 1);
+SELECT alike(load('C5'), 'C5: records 2, added 2, findings 0, new 0', 'entries of version 1 behind others of version 1 need none');
 
 CALL pg_temp.begin_bridge('M1');
 SELECT is(load('M1', without => '{3,4}'), 'M1: records 3, added 0, findings 1, new 1', 'stored entries are gone at the bridge');

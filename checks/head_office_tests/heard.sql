@@ -1,7 +1,7 @@
 -- When each bridge was heard of last: silence, nothing weighed, an overdue whole export.
 BEGIN;
 SET LOCAL search_path = test, tap;
-SELECT plan(34);
+SELECT plan(35);
 
 CREATE FUNCTION pg_temp.heard(name text) RETURNS text LANGUAGE sql AS $$
 SELECT rows(format('SELECT number, is_silent, is_idle, is_overdue FROM head_office.heard WHERE bridge = %L', name)) $$;
@@ -63,6 +63,7 @@ SELECT is(pg_temp.wants('WHOLE'), true, '  and it is wanted still');
 CALL loaded('WHOLE');
 SELECT is((SELECT is_overdue FROM head_office.heard WHERE bridge = 'WHOLE'), false, 'a whole export is one');
 SELECT is(pg_temp.wants('WHOLE'), false, '  and then the newest entries do');
+SELECT is(value_as('bridge_south', $$SELECT head_office.wants_whole('WHOLE')$$), 'true', '  but a login that doesn''t load the bridge learns nothing of that');
 CALL new_file('WHOLE');
 SELECT is(pg_temp.wants('WHOLE'), true, 'a new file is wanted whole');
 SELECT is(pg_temp.wants('NOWHERE'), true, 'an unknown bridge''s export is wanted whole, so that it is refused');

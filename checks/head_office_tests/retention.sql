@@ -1,7 +1,7 @@
 -- How long an entry must be kept at the bridge, and what is found if it is gone before. Days are days of UTC.
 BEGIN;
 SET LOCAL search_path = test, tap;
-SELECT plan(43);
+SELECT plan(47);
 SET LOCAL timezone = 'America/New_York';
 
 -- Midnight of UTC, a number of days ago
@@ -130,5 +130,16 @@ SELECT is(pg_temp.full('F1', 20, 9), '{}', 'nine of ten places are no finding');
 SELECT is(pg_temp.full('F2', 21, 9, 1), '{"nearly full"}', '  and more than nine of ten are');
 SELECT is(pg_temp.full('F3', 20, 8, 1), '{}', 'an open First takes two places');
 SELECT is(pg_temp.full('F4', 20, 8, 2), '{"nearly full"}', '  and two take four');
+
+-- The same finding comes again thirty days after somebody acknowledged it.
+SELECT is(load('F4'), 'F4: records 18, added 0, findings 0, new 0', 'a journal that is nearly full is a finding once');
+INSERT INTO head_office.acknowledgement (finding, note, at) SELECT finding, 'soon', now() - interval '30 days' FROM head_office.finding WHERE journal = journal_of('F4');
+CALL weigh('F4', 'first', 'O-9', 10000);
+SELECT is(load('F4'), 'F4: records 19, added 1, findings 1, new 1', '  and again thirty days after it was acknowledged');
+CALL bridge('F5', places => 20);
+CALL weigh_pairs('F5', 10);
+SELECT is(load('F5'), 'F5: records 20, added 20, findings 1, new 1', 'another one');
+INSERT INTO head_office.acknowledgement (finding, note, at) SELECT finding, 'soon', now() - interval '29 days 23 hours' FROM head_office.finding WHERE journal = journal_of('F5');
+SELECT is(load('F5'), 'F5: records 20, added 0, findings 0, new 0', '  but not before');
 SELECT * FROM finish();
 ROLLBACK;

@@ -1,7 +1,7 @@
 -- Years whose plates are dropped: what is refused, what goes, what stays, and how a change of it shows.
 BEGIN;
 SET LOCAL search_path = test, tap;
-SELECT plan(50);
+SELECT plan(53);
 SELECT extract(year FROM now())::integer - 3 AS year \gset
 
 -- Six entries of three years ago, one of which is a First whose Second is of the next year, and three of the present year.
@@ -117,6 +117,16 @@ SELECT is(rows('SELECT bridge, year FROM head_office.unsound_year'), format('(NO
 -- The year ends in the zone of the bridge: the last one of the year is of the next one in Tokyo
 CALL pg_temp.begin_bridge('TOKYO', 2, 'Asia/Tokyo');
 SELECT alike(pg_temp.sealed('TOKYO', :year), 'TOKYO: journal %, 1 to 5, 5 entries, %', 'a year ends at midnight of the bridge');
+
+-- A First that is open for years has no place on site any more.
+CALL bridge('LEFT');
+UPDATE head_office.bridge SET plate_years = 2 WHERE bridge = 'LEFT';
+CALL weigh('LEFT', 'first', 'A-1', 10000, at => make_timestamp(:year, 5, 1, 8, 0, 0));
+CALL weigh('LEFT', 'first', 'B-2', 10000, age => '1 hour');
+CALL loaded('LEFT');
+SELECT alike(pg_temp.sealed('LEFT', :year), 'LEFT: journal %, 1 to 1, 1 entries, %', 'a First without a Second is dropped');
+SELECT is(rows($$SELECT plate FROM head_office.on_site WHERE bridge = 'LEFT'$$), '(B-2)', '  and on site no more');
+SELECT is(rows('SELECT * FROM head_office.sum_difference'), '', '  as the entries say');
 
 -- The oldest year is due, once it is over for as many whole years as plates are kept
 CALL bridge('DUE');

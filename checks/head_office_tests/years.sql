@@ -1,7 +1,7 @@
 -- The table of each entry's year, and the years in which a load looks for a journal's numbers.
 BEGIN;
 SET LOCAL search_path = test, tap, head_office;
-SELECT plan(34);
+SELECT plan(36);
 SET LOCAL timezone = 'Pacific/Auckland';
 SELECT extract(year FROM now() AT TIME ZONE 'UTC')::integer AS year \gset
 
@@ -60,6 +60,13 @@ SELECT is(pg_temp.years(), '(2012,1,1,1,1,2012,2012) (2013,2,5,3,2,2013,9999) (2
 SELECT is((SELECT tableoid::regclass::text FROM head_office.entry WHERE journal = journal_of('NORTH') AND number = 7), 'entry_misdated', 'what is of no year stands apart');
 SELECT is(rows('SELECT ticket, first FROM head_office.ticket WHERE ticket > 4 ORDER BY ticket'), '(6,5) (8,7)', '  and its tickets are found');
 SELECT is(rows('SELECT * FROM head_office.sum_difference'), '', '  and the sums are those of the entries');
+
+-- A record that doesn't fit its digest makes no table.
+CALL bridge('FALSE', 3650);
+CALL weigh('FALSE', 'single', 'A-1', 9000, 5000, at => '2003-01-01 00:00:00');
+UPDATE record SET gross_kg = 9020 WHERE book = 'FALSE';
+SELECT is(load('FALSE'), 'FALSE: records 1, added 0, findings 1, new 1', 'a false record of another year');
+SELECT hasnt_table('head_office', 'entry_2003', '  makes no table');
 
 -- A number may be stored once, whatever its year.
 CALL bridge('TWICE', 3650);
