@@ -1,7 +1,7 @@
 -- The findings of a load: changed records, broken chains, keys, partners and settings that don't fit, and how many of them are written.
 BEGIN;
 SET LOCAL search_path = test, tap;
-SELECT plan(62);
+SELECT plan(61);
 
 -- Five entries are loaded. Then they are changed, and loaded again.
 CREATE PROCEDURE pg_temp.begin_bridge(name text, last bigint DEFAULT 5) LANGUAGE plpgsql AS $$
@@ -184,6 +184,5 @@ SELECT is((SELECT count(*) FROM said), 4::bigint, '  and that is all');
 SELECT is((SELECT string_agg(what, ',' ORDER BY rank) FROM head_office.advice WHERE rank <= 5), 'replaced,differs,unsound,missing,unchained', 'what points at a changed journal comes first');
 SELECT is((SELECT count(DISTINCT rank) FROM head_office.advice), (SELECT count(*) FROM head_office.advice), 'no two findings have one rank');
 SELECT is((SELECT count(*) FROM head_office.advice WHERE means = '' OR to_do = ''), 0::bigint, 'each finding has a meaning and something to do');
-SELECT is((SELECT count(*) FROM head_office.advice), 26::bigint, '  and there are 26 of them');
 SELECT * FROM finish();
 ROLLBACK;

@@ -2,12 +2,12 @@
 BEGIN;
 SET LOCAL search_path = test, tap;
 SELECT plan(53);
-SELECT extract(year FROM now())::integer - 3 AS year \gset
+SELECT extract(year FROM now() AT TIME ZONE 'UTC')::integer - 3 AS year \gset
 
 -- Six entries of three years ago, one of which is a First whose Second is of the next year, and three of the present year.
 CREATE PROCEDURE pg_temp.begin_bridge(name text, plate_years integer DEFAULT 2, its_zone text DEFAULT 'UTC') LANGUAGE plpgsql AS $$
 DECLARE
-    year integer := extract(year FROM now())::integer - 3;
+    year integer := extract(year FROM now() AT TIME ZONE 'UTC')::integer - 3;
 BEGIN
     CALL bridge(name, 30, its_zone);
     UPDATE head_office.bridge b SET plate_years = begin_bridge.plate_years WHERE bridge = name;
@@ -100,7 +100,7 @@ DECLARE
 BEGIN
     EXECUTE format('SELECT (%I)::text FROM head_office.sealed_entry WHERE journal = journal_of(''NORTH'') AND number = %s', field, its) INTO was;
     EXECUTE format('UPDATE head_office.sealed_entry SET %I = %s WHERE journal = journal_of(''NORTH'') AND number = %s', field, wanted, its);
-    RETURN NEXT is(rows('SELECT bridge, year FROM head_office.unsound_year'), format('(NORTH,%s)', extract(year FROM now())::integer - 3), 'another ' || field || ' shows');
+    RETURN NEXT is(rows('SELECT bridge, year FROM head_office.unsound_year'), format('(NORTH,%s)', extract(year FROM now() AT TIME ZONE 'UTC')::integer - 3), 'another ' || field || ' shows');
     EXECUTE format('UPDATE head_office.sealed_entry SET %I = %L WHERE journal = journal_of(''NORTH'') AND number = %s', field, was, its);
 END $$;
 SELECT pg_temp.of_one('kind', '''second''', 1);
