@@ -1,7 +1,7 @@
 -- The findings of a load: changed records, broken chains, keys, partners and settings that don't fit, and how many of them are written.
 BEGIN;
 SET LOCAL search_path = test, tap;
-SELECT plan(61);
+SELECT plan(66);
 
 -- Five entries are loaded. Then they are changed, and loaded again.
 CREATE PROCEDURE pg_temp.begin_bridge(name text, last bigint DEFAULT 5) LANGUAGE plpgsql AS $$
@@ -73,6 +73,11 @@ CALL pg_temp.digest_again('C3', 5);
 SELECT alike(load('C3'), '%, findings 1, new 1', 'zeros between others');
 SELECT is(findings('C3'), '{unchained 5}', '  are no digest of the one below');
 
+CALL pg_temp.begin_bridge('C6', 3);
+UPDATE record SET gross_kg = 9020 WHERE book = 'C6' AND number = 3;
+CALL pg_temp.digest_again('C6', 3);
+SELECT is(load('C6'), 'C6: records 5, added 2, findings 1, new 1', 'a stored entry was changed after the next one was weighed');
+SELECT is(findings('C6'), '{differs 3}', '  and the next one follows what is stored');
 CALL pg_temp.begin_bridge('C4', 3);
 UPDATE record SET previous = NULL WHERE book = 'C4' AND number = 4;
 CALL chain('C4', 4);
@@ -93,6 +98,7 @@ CALL pg_temp.begin_bridge('K1');
 CALL weigh('K1', 'single', 'A-1', 9000, 5000, key => 'K2');
 SELECT is(pg_temp.found('K1'), '{"key again 6"}', 'a key of a stored entry comes again');
 SELECT is((SELECT record FROM head_office.finding JOIN head_office.journal USING (journal) WHERE bridge = 'K1'), 'key K2 of number 2', '  and the finding says whose');
+SELECT is(load('K1'), 'K1: records 6, added 0, findings 0, new 0', '  once, when it is new');
 CALL bridge('K2');
 CALL weigh('K2', 'single', 'A-1', 9000, 5000, key => 'SAME');
 CALL weigh('K2', 'single', 'A-1', 9000, 5000, key => 'SAME');
@@ -129,6 +135,7 @@ CALL weigh('S1', 'single', 'A-1', 9000, 5000, interval_kg => 50, max_kg => 10000
 SELECT is(pg_temp.found('S1'), '{setup 6}', 'another e and Max');
 SELECT is((SELECT record FROM head_office.finding JOIN head_office.journal USING (journal) WHERE bridge = 'S1'),
     'e 50 kg, Max 100000 kg, serial S11; before e 20 kg, Max 60000 kg, serial S11', '  and the finding says both');
+SELECT is(load('S1'), 'S1: records 7, added 0, findings 0, new 0', '  once, when it is new');
 CALL pg_temp.begin_bridge('S2');
 INSERT INTO head_office.instrument VALUES ('OTHER2', 'S2');
 CALL weigh('S2', 'single', 'A-1', 9000, 5000, serial => 'OTHER2');
@@ -181,6 +188,12 @@ SELECT alike((SELECT s FROM said WHERE place = 2), 'unsound 1: 1,K1,single,A-1,%
 SELECT alike((SELECT s FROM said WHERE place = 3), '  stored here: 1,K1,single,A-1,%,9000,5000,20,60000,SAID1,%', '  then the one that is stored');
 SELECT is((SELECT s FROM said WHERE place = 4), '  ' || (SELECT to_do FROM head_office.advice WHERE what = 'unsound'), '  and what to do');
 SELECT is((SELECT count(*) FROM said), 4::bigint, '  and that is all');
+DROP TABLE taken, compared, found, touched, delta, paired;
+CALL bridge('LINES');
+INSERT INTO record SELECT 'LINES', number, key, kind, plate, moment, gross_kg, preset_kg, interval_kg, max_kg, 'LINES1', '', '' FROM record WHERE book = 'MANY' AND number <= 25;
+CALL chain('LINES');
+CALL give('LINES');
+SELECT is((SELECT count(*) FROM head_office.take_in('LINES')), 61::bigint, 'of 25 findings twenty are printed, three lines each, behind the first one');
 SELECT is((SELECT string_agg(what, ',' ORDER BY rank) FROM head_office.advice WHERE rank <= 5), 'replaced,differs,unsound,missing,unchained', 'what points at a changed journal comes first');
 SELECT is((SELECT count(DISTINCT rank) FROM head_office.advice), (SELECT count(*) FROM head_office.advice), 'no two findings have one rank');
 SELECT is((SELECT count(*) FROM head_office.advice WHERE means = '' OR to_do = ''), 0::bigint, 'each finding has a meaning and something to do');

@@ -1,7 +1,7 @@
 -- A journal that was migrated follows the former one: each ticket counts once, and what differs is found.
 BEGIN;
 SET LOCAL search_path = test, tap;
-SELECT plan(36);
+SELECT plan(38);
 CREATE FUNCTION pg_temp.sums_of(name text) RETURNS text LANGUAGE sql AS $$
 SELECT rows(format('SELECT sum(tickets), sum(net_kg) FROM head_office.day_total WHERE bridge = %L', name)) $$;
 CREATE FUNCTION pg_temp.tickets_of(name text) RETURNS text LANGUAGE sql AS $$
@@ -108,6 +108,23 @@ DELETE FROM record WHERE book = 'EARLY-2' AND number = 1;
 CALL chain('EARLY-2');
 SELECT is(load('EARLY-2', 'EARLY'), 'EARLY: records 1, added 1, findings 1, new 1', 'an entry that had to be kept must be migrated');
 SELECT is(findings('EARLY'), '{left out 1}', '  or it is left out');
+
+-- The first day on which an entry needn't be migrated: the 31st after it
+CREATE FUNCTION pg_temp.migrated_without(name text, age interval) RETURNS text[] LANGUAGE plpgsql AS $$
+BEGIN
+    CALL bridge(name, 30);
+    CALL weigh(name, 'single', 'A-1', 9000, 5000, age => age, version => 1);
+    CALL weigh(name, 'single', 'A-1', 9000, 5000, age => '1 second', version => 1);
+    CALL loaded(name);
+    CALL new_file(name, follows => true);
+    CALL copy_book(name, name || '-2');
+    DELETE FROM record WHERE book = name || '-2' AND number = 1;
+    CALL chain(name || '-2');
+    PERFORM load(name || '-2', name);
+    RETURN findings(name);
+END $$;
+SELECT is(pg_temp.migrated_without('DAY30', '30 days'), '{left out 1}', 'an entry of the 30th day before is left out');
+SELECT is(pg_temp.migrated_without('DAY31', '31 days'), '{}', '  and one of the 31st day is not');
 
 -- A journal follows one older journal of its bridge.
 SELECT throws_ok($$INSERT INTO head_office.follower VALUES ('EARLY', (SELECT min(journal) FROM head_office.journal WHERE bridge = 'EARLY'), journal_of('EARLY'))$$,

@@ -1,7 +1,7 @@
 -- Vehicles on site: the Firsts of each bridge's newest journal that have neither a Second nor a Void.
 BEGIN;
 SET LOCAL search_path = test, tap;
-SELECT plan(14);
+SELECT plan(15);
 CREATE FUNCTION pg_temp.on_site(name text) RETURNS text LANGUAGE sql AS $$
 SELECT rows(format('SELECT plate, number, gross_kg FROM head_office.on_site WHERE bridge = %L ORDER BY number', name)) $$;
 
@@ -26,6 +26,10 @@ SELECT is(load('NORTH'), 'NORTH: records 9, added 1, findings 1, new 1', 'a Firs
 SELECT is(findings('NORTH'), '{open twice 9}', '  is a finding');
 SELECT is(pg_temp.on_site('NORTH'), '(A-1,9,11500)', '  and the newer one is on site');
 SELECT is(rows('SELECT plate, number FROM head_office.computed_open_entry'), '(A-1,9)', '  as the entries say');
+
+CALL weigh('NORTH', 'single', 'A-1', 11600, 5000, age => '5 minutes');     -- 10
+CALL loaded('NORTH', newest => true, first => 10);
+SELECT is(pg_temp.on_site('NORTH'), '(A-1,9,11500)', 'a Single of a later load changes nothing');
 
 -- another bridge, and another file of it
 CALL bridge('SOUTH');

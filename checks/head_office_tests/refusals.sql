@@ -1,7 +1,7 @@
 -- Loads that are refused: by which reason, which reason comes first, what is written down, and how much of it.
 BEGIN;
 SET LOCAL search_path = test, tap;
-SELECT plan(64);
+SELECT plan(70);
 SET LOCAL client_min_messages = error;
 CREATE FUNCTION pg_temp.stored(name text) RETURNS bigint LANGUAGE sql AS $$ SELECT count(*) FROM head_office.entry JOIN head_office.journal USING (journal) WHERE bridge = name $$;
 CREATE FUNCTION pg_temp.reasons(name text) RETURNS text[] LANGUAGE sql AS $$ SELECT coalesce(array_agg(reason ORDER BY refusal), '{}') FROM head_office.refusal WHERE bridge = name $$;
@@ -94,6 +94,17 @@ CALL loaded('CHAINED');
 UPDATE record SET previous = NULL WHERE book = 'CHAINED';
 SELECT is(load('CHAINED'), 'CHAINED: refused: the column previous is missing, which this journal has', 'an export without the column of the previous digest is refused');
 
+-- Numbers at the end of what is stored
+CALL bridge('EDGE');
+CALL weigh_pairs('EDGE', 2, '2 days');
+CALL loaded('EDGE', last => 3);
+CALL weigh('EDGE', 'single', 'A-1', 9000, 5000);
+SELECT is(load('EDGE', newest => true, first => 5), 'EDGE: refused: the newest entries begin at 5, and what is stored ends at 3: load the whole export', 'newest entries that miss one number are refused');
+SELECT is(load('EDGE', newest => true, first => 4), 'EDGE: records 2, added 2, findings 0, new 0', '  and those that follow are taken');
+CALL weigh('EDGE-NEW', 'single', 'A-1', 9100, 5000, serial => 'EDGE1', number => 5);
+SELECT is(load('EDGE-NEW', 'EDGE'), 'EDGE: refused: the journal of EDGE was replaced whole: none of its digests is one that is stored, and 1 of 1 entries differ in more, the first of them 5',
+    'another entry with the last number is none of this journal');
+
 -- Records that have no form of an entry
 CREATE FUNCTION pg_temp.malformed(name text, field text, wanted text) RETURNS text LANGUAGE plpgsql AS $$
 BEGIN
@@ -140,6 +151,11 @@ SELECT is(pg_temp.note('FULL', 'another text', 'form'), 1::bigint, '  but one of
 CALL bridge('ROOM');
 SELECT is(pg_temp.note('ROOM'), 1::bigint, '  or of another bridge');
 SELECT is(findings('FULL'), '{refused,refused}', 'each text is one finding');
+INSERT INTO head_office.refusal (bridge, reason, why) SELECT 'FULL', 'form', 'full' FROM generate_series(1, 100);
+INSERT INTO head_office.refusal (bridge, reason, why) SELECT 'FULL', 'listener', 'full' FROM generate_series(1, 100);
+SELECT is(pg_temp.note('FULL', 'words of the loader', 'form'), 101::bigint, 'a loader can''t fill the findings with its words about a form');
+SELECT is(pg_temp.note('FULL', 'words of the loader', 'listener'), 100::bigint, '  or a listener');
+SELECT is(findings('FULL'), '{refused,refused}', '  so that there is no other finding');
 INSERT INTO head_office.refusal (bridge, reason, why) SELECT 'FULL', 'serial', 'full' FROM generate_series(1, 100);
 CALL weigh('FULL', 'single', 'A-1', 9000, 5000, serial => 'EAST1');
 SELECT is(load('FULL'), 'FULL: refused: serial EAST1 is registered for EAST', 'a new finding is written even when the day is full');

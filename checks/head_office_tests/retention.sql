@@ -1,7 +1,7 @@
 -- How long an entry must be kept at the bridge, and what is found if it is gone before. Days are days of UTC.
 BEGIN;
 SET LOCAL search_path = test, tap;
-SELECT plan(47);
+SELECT plan(49);
 SET LOCAL timezone = 'America/New_York';
 
 -- Midnight of UTC, a number of days ago
@@ -101,6 +101,14 @@ END $$;
 SELECT is(pg_temp.zeros('Z1', '40 days', 30), '{}', 'an entry after a purge of all holds zeros');
 SELECT is(pg_temp.zeros('Z2', '30 days', 30), '{unchained 2,early 1}', '  but not if the one below had to be kept');
 SELECT is(pg_temp.zeros('Z3', '31 days', 30), '{}', '  which it hadn''t a day later');
+
+CALL bridge('Z4', 30);
+CALL weigh('Z4', 'single', 'A-1', 9000, 5000, age => '40 days');
+CALL weigh('Z4', 'single', 'A-1', 9000, 5000);
+UPDATE record r SET previous = repeat('0', 64), digest = test.digest(r.number, r.key, r.kind, r.plate, r.moment, r.gross_kg, r.preset_kg, r.interval_kg, r.max_kg, r.serial, repeat('0', 64))
+    WHERE book = 'Z4' AND number = 2;
+SELECT is(load('Z4'), 'Z4: records 2, added 2, findings 1, new 1', 'zeros behind an entry that the export has');
+SELECT is(findings('Z4'), '{unchained 2}', '  are no digest of it, however old it is');
 
 -- Retention that is lowered would hide a purge
 CALL bridge('LOWER', 90);

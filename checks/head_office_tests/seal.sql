@@ -1,7 +1,7 @@
 -- Years whose plates are dropped: what is refused, what goes, what stays, and how a change of it shows.
 BEGIN;
 SET LOCAL search_path = test, tap;
-SELECT plan(53);
+SELECT plan(62);
 SELECT extract(year FROM now() AT TIME ZONE 'UTC')::integer - 3 AS year \gset
 
 -- Six entries of three years ago, one of which is a First whose Second is of the next year, and three of the present year.
@@ -117,6 +117,36 @@ SELECT is(rows('SELECT bridge, year FROM head_office.unsound_year'), format('(NO
 -- The year ends in the zone of the bridge: the last one of the year is of the next one in Tokyo
 CALL pg_temp.begin_bridge('TOKYO', 2, 'Asia/Tokyo');
 SELECT alike(pg_temp.sealed('TOKYO', :year), 'TOKYO: journal %, 1 to 5, 5 entries, %', 'a year ends at midnight of the bridge');
+
+-- The next year takes the First with it, whose Second is of that year.
+UPDATE head_office.bridge SET plate_years = 1 WHERE bridge = 'NORTH';
+SELECT alike(pg_temp.sealed('NORTH', :year + 1), 'NORTH: journal %, 7 to 7, 1 entries, %', 'the next year is dropped');
+SELECT is(rows($$SELECT number, plate FROM head_office.entry WHERE journal = journal_of('NORTH') ORDER BY number$$), '(8,E-5) (9,E-5)', '  with the First that waited for it');
+SELECT is(rows($$SELECT ticket, first, tare_kg, net_kg FROM head_office.sealed_ticket WHERE bridge = 'NORTH' AND ticket > 6$$), '(7,6,10000,4000)', '  and its ticket is a pair still');
+SELECT is(rows($$SELECT * FROM head_office.sum_difference WHERE bridge = 'NORTH'$$), '', '  and the sums are those of the entries');
+
+-- The first second of a year is of that year.
+CALL bridge('EXACT');
+UPDATE head_office.bridge SET plate_years = 2 WHERE bridge = 'EXACT';
+CALL weigh('EXACT', 'single', 'A-1', 9000, 5000, at => make_timestamp(:year, 12, 31, 23, 59, 59));
+CALL weigh('EXACT', 'single', 'A-1', 9000, 5000, at => make_timestamp(:year + 1, 1, 1, 0, 0, 0));
+CALL loaded('EXACT');
+SELECT alike(pg_temp.sealed('EXACT', :year), 'EXACT: journal %, 1 to 1, 1 entries, %', 'a year ends with its last second');
+
+-- A follower: each ticket counts once before, between and afterwards.
+CALL bridge('FORMER');
+UPDATE head_office.bridge SET plate_years = 2 WHERE bridge = 'FORMER';
+CALL weigh('FORMER', 'single', 'A-1', 9000, 5000, at => make_timestamp(:year, 5, 1, 8, 0, 0), version => 1);
+CALL weigh('FORMER', 'single', 'A-1', 9000, 5000, at => make_timestamp(:year, 5, 2, 8, 0, 0), version => 1);
+CALL loaded('FORMER');
+CALL copy_book('FORMER', 'FORMER-2');
+CALL weigh('FORMER-2', 'single', 'A-1', 9000, 5000, at => make_timestamp(:year, 5, 3, 8, 0, 0), serial => 'FORMER1');
+CALL new_file('FORMER', follows => true);
+CALL loaded('FORMER-2', 'FORMER');
+SELECT is((SELECT count(*) FROM head_office.ticket WHERE bridge = 'FORMER'), 3::bigint, 'a follower and its former journal have three tickets');
+SELECT matches(pg_temp.sealed('FORMER', :year), '^FORMER: journal \d+, 1 to 2, 2 entries, [0-9a-f]{64} FORMER: journal \d+, 1 to 3, 3 entries, [0-9a-f]{64}$', '  both are sealed');
+SELECT is((SELECT sum(tickets) FROM head_office.computed_day_total WHERE bridge = 'FORMER'), 3::numeric, '  and three tickets count afterwards');
+SELECT is(rows($$SELECT * FROM head_office.sum_difference WHERE bridge = 'FORMER'$$), '', '  as the sums say');
 
 -- A First that is open for years has no place on site any more.
 CALL bridge('LEFT');
