@@ -605,9 +605,9 @@ create or replace function end_stuck_loads() returns setof text
 language plpgsql security definer set search_path = head_office, pg_temp
 set idle_in_transaction_session_timeout = '60s' set lock_timeout = '90s' set statement_timeout = '10min' as $$
 declare
-    idles interval := current_setting('idle_in_transaction_session_timeout');
-    waits interval := current_setting('lock_timeout');
-    runs  interval := current_setting('statement_timeout');
+    idles interval := current_setting('idle_in_transaction_session_timeout')::interval;
+    waits interval := current_setting('lock_timeout')::interval;
+    runs  interval := current_setting('statement_timeout')::interval;
     one   record;
 begin
     insert into guard_run (at) values (now()) on conflict (is_one) do update set at = excluded.at;

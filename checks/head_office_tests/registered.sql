@@ -1,7 +1,7 @@
 -- Registrations that are accepted, and those that are refused.
 BEGIN;
 SET LOCAL search_path = test, tap;
-SELECT plan(58);
+SELECT plan(59);
 SET LOCAL client_min_messages = error;
 CREATE FUNCTION pg_temp.registers(bridge text, fields text DEFAULT '', field_values text DEFAULT '') RETURNS text LANGUAGE sql AS $$
 SELECT as_login('ada', format('INSERT INTO head_office.bridge (bridge, retention_days%s) VALUES (%L, 30%s)', fields, bridge, field_values)) $$;
@@ -66,6 +66,9 @@ CREATE FUNCTION pg_temp.gives(count integer, login text DEFAULT 'bridge_north', 
 SELECT as_login(login, format('INSERT INTO head_office.handed (number, key, kind, plate, moment, interval_kg, max_kg, serial, digest%s)
     SELECT n, ''K'', ''void'', ''X'', now(), 20, 60000, ''WB01'', ''''%s FROM generate_series(1, %s) n', more, more_values, count)) $$;
 CREATE FUNCTION pg_temp.given(its text DEFAULT 'bridge_north') RETURNS bigint LANGUAGE sql AS $$ SELECT count(*) FROM head_office.handed WHERE login = its $$;
+SELECT is(pg_temp.gives(3, 'bridge_south'), '42501', 'a login that loads no bridge gives no records');
+SET LOCAL client_min_messages = error;
+INSERT INTO head_office.loader VALUES ('bridge_south', NULL);
 SELECT is(pg_temp.gives(3), 'done', 'a login gives records');
 SELECT is(pg_temp.given(), 3::bigint, '  which stay in the transaction');
 SELECT is(pg_temp.gives(1, more => ', login', more_values => ', ''bridge_south'''), '42501', '  not in another login''s name');
@@ -77,6 +80,6 @@ SELECT is(pg_temp.gives(2, 'bridge_south'), 'done', 'another login gives some');
 SELECT is(pg_temp.given(), 3::bigint, '  and leaves those of the first one');
 SELECT is(pg_temp.gives(1), 'done', 'the first one gives one in another transaction');
 SELECT is(pg_temp.given(), 1::bigint, '  and what it gave before is gone');
-SELECT is(pg_temp.gives(100000), 'P0001', 'more records than a journal has places are refused');
+SELECT is(pg_temp.gives(100000), '54000', 'more records than a journal has places are refused');
 SELECT * FROM finish();
 ROLLBACK;

@@ -16,7 +16,7 @@ SELECT coalesce(string_agg(its, '; ' ORDER BY its COLLATE "C"), '') FROM (
 CREATE FUNCTION pg_temp.function_rights(role text) RETURNS text LANGUAGE sql AS $$
 SELECT coalesce(string_agg(DISTINCT proname, ' ' ORDER BY proname), '') FROM pg_proc WHERE pronamespace = 'head_office'::regnamespace AND has_function_privilege(role, oid, 'EXECUTE') $$;
 
--- The loader: writes into `handed`, reads nothing, and calls three functions.
+-- The loader: writes into `handed`, reads nothing, and calls four functions.
 SELECT is(pg_temp.table_rights('bridge_north', 'SELECT'), '', 'a loader reads no table and no view');
 SELECT is(pg_temp.column_rights('bridge_north', 'SELECT'), '', '  and no column');
 SELECT is(pg_temp.table_rights('bridge_north', 'INSERT'), '', 'a loader writes no whole row');
@@ -25,18 +25,19 @@ SELECT is(pg_temp.column_rights('bridge_north', 'INSERT'),
     '  and of a record all, but not whose it is');
 SELECT is(pg_temp.table_rights('bridge_north', it) || pg_temp.column_rights('bridge_north', it), '', 'a loader has no right ' || it) FROM unnest('{UPDATE,REFERENCES}'::text[]) it;
 SELECT is(pg_temp.table_rights('bridge_north', it), '', 'a loader has no right ' || it) FROM unnest('{DELETE,TRUNCATE,TRIGGER}'::text[]) it;
-SELECT is(pg_temp.function_rights('bridge_north'), 'note_refusal take_in wants_whole', 'a loader calls three functions');
+SELECT is(pg_temp.function_rights('bridge_north'), 'begin_load note_refusal take_in wants_whole', 'a loader calls four functions');
 
 -- The reader: reads everything but what is given to a load, and writes nothing.
 SELECT is(pg_temp.table_rights('office', it) || pg_temp.column_rights('office', it), '', 'a reader has no right ' || it) FROM unnest('{INSERT,UPDATE,REFERENCES}'::text[]) it;
 SELECT is(pg_temp.table_rights('office', it), '', 'a reader has no right ' || it) FROM unnest('{DELETE,TRUNCATE,TRIGGER}'::text[]) it;
 SELECT is((SELECT coalesce(string_agg(relname, ' ' ORDER BY relname), '') FROM pg_class WHERE relnamespace = 'head_office'::regnamespace AND relkind IN ('r', 'p', 'v')
-    AND NOT has_table_privilege('office', oid, 'SELECT')), 'at_hand handed', 'a reader reads all tables and views, but not what a loader gives');
-SELECT is(pg_temp.function_rights('office'), 'digest_of html is_of_age kept_digest_of line_of short thousands', 'a reader calls what the views need');
+    AND NOT has_table_privilege('office', oid, 'SELECT')), 'handed handed_by_keeper', 'a reader reads all tables and views, but not what a loader gives');
+SELECT is(pg_temp.function_rights('office'), 'digest_of end_stuck_loads html is_of_age kept_digest_of line_of short thousands',
+    'a reader calls what the views need, and what ends connections of loaders');
 
 -- The registrar
 SELECT is((SELECT coalesce(string_agg(relname, ' ' ORDER BY relname), '') FROM pg_class WHERE relnamespace = 'head_office'::regnamespace AND relkind IN ('r', 'p', 'v')
-    AND NOT has_table_privilege('ada', oid, 'SELECT')), 'at_hand handed', 'the registrar reads as much as a reader');
+    AND NOT has_table_privilege('ada', oid, 'SELECT')), 'handed handed_by_keeper', 'the registrar reads as much as a reader');
 SELECT is(pg_temp.table_rights('ada', 'INSERT'), 'bridge follower haulier instrument journal loader', 'the registrar registers');
 SELECT is(pg_temp.column_rights('ada', 'INSERT'), 'acknowledgement: finding note', '  and acknowledges, under her own name');
 SELECT is(pg_temp.table_rights('ada', 'UPDATE'), '', 'the registrar changes no whole row');
@@ -63,20 +64,23 @@ SELECT is(rows($$SELECT rolname FROM pg_roles WHERE rolname IN ('ada', 'bridge_n
 SELECT is(rows($$SELECT proname FROM pg_proc WHERE proname IN ('lo_creat', 'lo_create', 'lo_from_bytea') AND has_function_privilege('bridge_north', oid, 'EXECUTE')$$), '',
     'a loader fills the disk with no large object');
 
--- The role that stores has no members, and nobody logs in as it or as the owner.
-SELECT is(rows($$SELECT member::regrole FROM pg_auth_members WHERE roleid = 'head_office_storer'::regrole$$), '', 'nobody is a member of the role that stores');
+-- The roles that store and that end connections have no members, and nobody logs in as one of them or as the owner.
+SELECT is(rows($$SELECT member::regrole FROM pg_auth_members WHERE roleid IN ('head_office_storer'::regrole, 'head_office_guard'::regrole)$$), '',
+    'nobody is a member of the role that stores, or of the one that ends connections');
 SELECT is(rows($$SELECT rolname FROM pg_roles WHERE rolname ~ '^head_office' AND (rolcanlogin OR rolsuper OR rolcreaterole OR rolcreatedb OR rolbypassrls)$$), '',
     'no role of the head office logs in or has a right of the cluster');
-SELECT is(rows($$SELECT DISTINCT member::regrole::text FROM pg_auth_members WHERE roleid = 'head_office'::regrole AND member <> current_user::regrole$$), '(head_office_storer)',
-    'only the role that stores is a member of the owner');
+SELECT is(rows($$SELECT DISTINCT member::regrole::text FROM pg_auth_members WHERE roleid = 'head_office'::regrole AND member <> current_user::regrole$$), '(head_office_guard) (head_office_storer)',
+    'only the role that stores and the one that ends connections are members of the owner');
 SELECT is(rows($$SELECT proname, pg_get_userbyid(proowner) FROM pg_proc WHERE pronamespace = 'head_office'::regnamespace AND pg_get_userbyid(proowner) <> 'head_office'$$),
-    '(take_in,head_office_storer)', 'take_in runs as the role that stores, and all others are the owner''s');
+    '(take_in,head_office_storer) (end_stuck_loads,head_office_guard) (who_stops,head_office_guard)',
+    'take_in runs as the role that stores, two as the one that ends connections, and all others are the owner''s');
 SELECT is(rows($$SELECT proname FROM pg_proc WHERE pronamespace = 'head_office'::regnamespace AND prosecdef
     AND NOT coalesce(proconfig, '{}') @> '{"search_path=head_office, pg_temp"}' ORDER BY proname$$), '',
     'each function that runs with other rights looks for names in the schema only');
 SELECT is((SELECT string_agg(proname, ' ' ORDER BY proname) FROM pg_proc WHERE pronamespace = 'head_office'::regnamespace AND prosecdef),
-    'follow_bridge follow_follower follow_journal keep_handed_small make_year note_change note_refusal rebuild_sums seal take_in wants_whole',
-    '  and there are eleven of them');
+    'begin_load end_stuck_loads follow_bridge follow_follower follow_journal follow_loader keep_handed_small keep_record_short make_landing make_year note_change note_refusal '
+    'rebuild_sums seal take_in wants_whole warn_of_login who_stops',
+    '  and there are eighteen of them');
 SELECT is((SELECT proconfig FROM pg_proc WHERE proname = 'take_in' AND pronamespace = 'head_office'::regnamespace) @> '{lock_timeout=60s}', true, 'a load waits for another for a minute at most');
 SELECT is((SELECT proconfig FROM pg_proc WHERE proname = 'seal' AND pronamespace = 'head_office'::regnamespace) @> '{lock_timeout=60s}', true, '  and so does seal');
 SELECT * FROM finish();
