@@ -1,7 +1,7 @@
 -- A journal that was migrated follows the former one: each ticket counts once, and what differs is found.
 BEGIN;
 SET LOCAL search_path = test, tap;
-SELECT plan(38);
+SELECT plan(40);
 CREATE FUNCTION pg_temp.sums_of(name text) RETURNS text LANGUAGE sql AS $$
 SELECT rows(format('SELECT sum(tickets), sum(net_kg) FROM head_office.day_total WHERE bridge = %L', name)) $$;
 CREATE FUNCTION pg_temp.tickets_of(name text) RETURNS text LANGUAGE sql AS $$
@@ -55,6 +55,18 @@ CALL loaded('AFTER');
 SELECT is(pg_temp.tickets_of('AFTER'), '(0,2) (0,4) (0,6) (1,8)', '  and is the former journal''s, once that has it');
 SELECT is(pg_temp.sums_of('AFTER'), '(4,80000)', '  and counts once');
 SELECT is(rows('SELECT * FROM head_office.sum_difference'), '', '  as the entries say');
+
+-- A former journal of two years
+CALL bridge('LONG', 3650);
+CALL weigh('LONG', 'single', 'A-1', 9000, 5000, age => '400 days', version => 1);
+CALL weigh('LONG', 'single', 'A-1', 9000, 5000, age => '2 days', version => 1);
+CALL loaded('LONG');
+CALL new_file('LONG', follows => true);
+CALL copy_book('LONG', 'LONG-2');
+CALL weigh('LONG-2', 'single', 'A-1', 9000, 5000, serial => 'LONG1');
+CALL loaded('LONG-2', 'LONG');
+SELECT is(pg_temp.tickets_of('LONG'), '(0,1) (0,2) (1,3)', 'a former journal of two years has its tickets, and the follower the newer one');
+SELECT is(pg_temp.sums_of('LONG'), '(3,12000)', '  also in the sums');
 
 -- Changed, left out, put in
 CALL pg_temp.begin_bridge('ALTERED');
