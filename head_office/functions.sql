@@ -1323,7 +1323,10 @@ create or replace view due_year as
         select extract(year from e.moment at time zone b.zone)::integer as year
         from (select * from journal_year y where y.journal = j.journal order by y.first limit 1) y
         cross join lateral (select e.moment from entry e where e.journal = y.journal and e.year = y.year and e.number = y.first offset 0) e) y
-    where y.year + b.plate_years < extract(year from now() at time zone b.zone) group by 1, 2;
+    where y.year + b.plate_years < extract(year from now() at time zone b.zone)
+        -- a First of it whose Second comes later may stay
+        and not exists (select from sealed_year s where s.journal = j.journal and s.year >= y.year)
+    group by 1, 2;
 
 -- Drops the plates of a bridge's entries up to the end of a year: what is kept of them has no plate, key or digest, and one digest stays over those of
 -- all. A First whose Second comes later stays with it.

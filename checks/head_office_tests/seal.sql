@@ -1,7 +1,7 @@
 -- Years whose plates are dropped: what is refused, what goes, what stays, and how a change of it shows.
 BEGIN;
 SET LOCAL search_path = test, tap;
-SELECT plan(62);
+SELECT plan(65);
 SELECT extract(year FROM now() AT TIME ZONE 'UTC')::integer - 3 AS year \gset
 
 -- Six entries of three years ago, one of which is a First whose Second is of the next year, and three of the present year.
@@ -171,6 +171,17 @@ SELECT alike(pg_temp.sealed('DUE', :year - 1), 'DUE: journal %, 1 to 1, 1 entrie
 SELECT is(pg_temp.due(), format('(%s)', :year), '  then the next one is due');
 SELECT alike(pg_temp.sealed('DUE', :year), 'DUE: journal %, 2 to 2, 1 entries, %', '  and dropped');
 SELECT is(pg_temp.due(), '', '  and then none, because the next one isn''t over for two whole years');
+
+-- A First stays if its Second comes later. Its year is over all the same.
+CALL bridge('WAITS');
+UPDATE head_office.bridge SET plate_years = 2 WHERE bridge = 'WAITS';
+CALL weigh('WAITS', 'first', 'A-1', 9000, at => make_timestamp(:year, 12, 30, 8, 0, 0));
+CALL weigh('WAITS', 'single', 'B-2', 9000, 5000, at => make_timestamp(:year, 12, 31, 8, 0, 0));
+CALL weigh('WAITS', 'second', 'A-1', 15000, at => make_timestamp(:year + 1, 1, 2, 8, 0, 0));
+CALL loaded('WAITS');
+SELECT is(rows('SELECT year FROM head_office.due_year WHERE bridge = ''WAITS'''), format('(%s)', :year), 'a year with a First whose Second comes later is due');
+SELECT alike(pg_temp.sealed('WAITS', :year), 'WAITS: journal %', '  and dropped');
+SELECT is(rows('SELECT year FROM head_office.due_year WHERE bridge = ''WAITS'''), '', '  and then due no more');
 
 -- Nothing that seal turned off stays off
 SELECT throws_ok('DELETE FROM head_office.entry', 'P0001', 'entry is never changed', 'after all of this no entry is ever changed');
