@@ -12,8 +12,8 @@ import time
 from collections.abc import Callable
 from typing import IO, Any, Protocol
 
-from ports import HOST as HOST
-from ports import free_port as free_port
+from checks.lib.ports import HOST as HOST
+from checks.lib.ports import free_port as free_port
 
 Answer = tuple[int, str]  # the status and the body
 

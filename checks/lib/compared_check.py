@@ -10,7 +10,7 @@ import subprocess
 import sys
 import tempfile
 
-PROGRAM, FOLDER, LIB = "@program@", "@folder@", "@lib@"
+PROGRAM, FOLDER, TOP = "@program@", "@folder@", "@top@"
 # The endings of the files that a verifier needs.
 ENDINGS = ("", "-wal", "-newest")
 
@@ -26,8 +26,8 @@ def journal_of(words: list[str]) -> str | None:
 def compare(path: str) -> dict[str, object] | None:
     """Return both verdicts about a copy of the journal. Return None if it can't be copied whole, because a service writes it or a file isn't plain."""
     sys.dont_write_bytecode = True
-    sys.path[:0] = [LIB, os.path.join(os.path.dirname(os.path.dirname(LIB)), "inspect")]
-    from second_verifier import verdict_of
+    sys.path.insert(0, TOP)
+    from checks.lib.second_verifier import verdict_of
 
     real = os.path.realpath(path)
     folder = tempfile.mkdtemp(dir=FOLDER)

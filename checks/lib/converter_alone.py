@@ -8,8 +8,8 @@ import subprocess
 import threading
 import time
 
-import bridge
-from converting import (
+from checks.lib import bridge
+from checks.lib.converting import (
     OLD,
     POINTS,
     Running,
@@ -21,7 +21,7 @@ from converting import (
     same,
     undisturbed,
 )
-from devices import wait_for
+from checks.lib.devices import wait_for
 
 
 def makes_a_calibration(folder):

@@ -9,9 +9,9 @@ import threading
 import time
 from fractions import Fraction
 
-import bridge
-from converting import PROGRAM, TOP, Running, calibrate, holds, ran, same, undisturbed
-from devices import wait_for
+from checks.lib import bridge
+from checks.lib.converting import PROGRAM, TOP, Running, calibrate, holds, ran, same, undisturbed
+from checks.lib.devices import wait_for
 
 
 def filtered(kind, number, readings):

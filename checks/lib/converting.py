@@ -9,9 +9,9 @@ import threading
 import time
 from fractions import Fraction
 
-import bridge
-from devices import begun, wait_for
-from stalls import Stalls
+from checks.lib import bridge
+from checks.lib.devices import begun, wait_for
+from checks.lib.stalls import Stalls
 
 TOP = os.path.dirname(os.path.dirname(os.path.dirname(os.path.abspath(__file__))))
 GIVEN = [it for it in sys.argv[1:] if it != "--long"]

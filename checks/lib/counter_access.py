@@ -2,8 +2,8 @@
 
 import time
 
-from counter_clerk import ESCAPE, Clerk, at_of
-from countering import Bridge, becomes, holds, same
+from checks.lib.counter_clerk import ESCAPE, Clerk, at_of
+from checks.lib.countering import Bridge, becomes, holds, same
 
 CONTROLS = {"button", "link", "textbox", "searchbox", "combobox", "checkbox", "listbox"}
 REGIONS = {"region", "form", "navigation"}

@@ -6,8 +6,8 @@ import signal
 import subprocess
 import time
 
-from counter_clerk import ENTER, ESCAPE
-from countering import becomes, holds, kg_of
+from checks.lib.counter_clerk import ENTER, ESCAPE
+from checks.lib.countering import becomes, holds, kg_of
 
 FAULTS = (
     "No connection to the counter's program.",

@@ -6,8 +6,8 @@ import select
 import socket
 import time
 
-from bridge import HOST, free_port
-from countering import Bridge, becomes, same
+from checks.lib.bridge import HOST, free_port
+from checks.lib.countering import Bridge, becomes, same
 
 
 class Board:

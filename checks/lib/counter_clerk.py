@@ -4,9 +4,9 @@ import re
 import shutil
 import tempfile
 
-from bridge import HOST, free_port
-from browser import Browser
-from countering import becomes
+from checks.lib.bridge import HOST, free_port
+from checks.lib.browser import Browser
+from checks.lib.countering import becomes
 
 ENTER, ESCAPE, TAB, SPACE, F1, F4, F6, F7, F8, F9, F10 = (
     "\ue007",

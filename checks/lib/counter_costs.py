@@ -9,8 +9,8 @@ import statistics
 import threading
 import time
 
-import bridge as sizes
-from countering import Bridge, holds
+from checks.lib import bridge as sizes
+from checks.lib.countering import Bridge, holds
 
 MOST_ATTACKED = 100.0  # MB
 MOST_CPU, MOST_MEMORY = 5.0, 50.0  # per cent of a core, MB: 20 pages, 50 readings a second

@@ -8,9 +8,9 @@ import random
 import re
 import time
 
-from counter_clerk import ENTER, ESCAPE, F1, F6, F7, F9, Clerk, at_of
-from countering import Bridge, becomes, holds, same
-from network import Network
+from checks.lib.counter_clerk import ENTER, ESCAPE, F1, F6, F7, F9, Clerk, at_of
+from checks.lib.countering import Bridge, becomes, holds, same
+from checks.lib.network import Network
 
 VEHICLES, PATIENCE = 30, 60
 # Seconds: for so long a page that is loaded may say nothing yet.

@@ -6,9 +6,9 @@ import subprocess
 import time
 from concurrent.futures import ThreadPoolExecutor
 
-from bridge import HOST
-from counter_nginx import Nginx
-from countering import Bridge, holds, same
+from checks.lib.bridge import HOST
+from checks.lib.counter_nginx import Nginx
+from checks.lib.countering import Bridge, holds, same
 
 KNOWN = ["-u", "clerk:weigh-in"]
 WRONG = ["-u", "clerk:guess"]

@@ -8,9 +8,9 @@ import hashlib
 import signal
 import time
 
-from counter_clerk import ENTER, ESCAPE, F4, F7, F10, Clerk, at_of
-from countering import Bridge, holds, same
-from network import Network
+from checks.lib.counter_clerk import ENTER, ESCAPE, F4, F7, F10, Clerk, at_of
+from checks.lib.countering import Bridge, holds, same
+from checks.lib.network import Network
 
 VEHICLES, SEEN_BY_NOBODY = 60, 9
 TEN, F3, F8 = 10 * ENTER, chr(0xE033), chr(0xE038)

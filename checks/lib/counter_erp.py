@@ -9,8 +9,8 @@ import subprocess
 import sys
 from collections.abc import Callable
 
-from bridge import HOST
-from countering import TOP, Bridge, becomes, holds, same
+from checks.lib.bridge import HOST
+from checks.lib.countering import TOP, Bridge, becomes, holds, same
 
 TARE, LOAD = 5000, 9170
 # With the bridge empty, the counter asks for an export some seconds later.

@@ -4,7 +4,7 @@ import random
 import re
 import time
 
-from countering import Bridge, Client, Meanwhile, becomes, holds, same, without_reset
+from checks.lib.countering import Bridge, Client, Meanwhile, becomes, holds, same, without_reset
 
 NO_TARE = "TA A          0 kg"
 REPLIES = {

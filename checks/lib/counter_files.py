@@ -12,7 +12,7 @@ import sqlite3
 import subprocess
 import time
 
-from countering import Bridge, becomes, holds, same
+from checks.lib.countering import Bridge, becomes, holds, same
 
 NO_TARE = "TA A          0 kg"
 SIZE = 512  # KiB

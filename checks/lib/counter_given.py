@@ -2,8 +2,8 @@
 
 import json
 
-from counter_clerk import ENTER, ESCAPE, F4, Clerk, at_of
-from countering import Bridge, becomes, same
+from checks.lib.counter_clerk import ENTER, ESCAPE, F4, Clerk, at_of
+from checks.lib.countering import Bridge, becomes, same
 
 OTHERS = "return [...document.querySelectorAll('#others button')].map(it => it.textContent)"
 PRESS = "[...document.querySelectorAll(arguments[0])].find(it => it.textContent.startsWith(arguments[1])).click()"

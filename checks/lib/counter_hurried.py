@@ -7,8 +7,21 @@ the key of that answer, and never a ticket of another plate.
 import signal
 import time
 
-from counter_clerk import ENTER, ESCAPE, F1, F4, F6, F7, F9, F10, SPACE, TAB, Clerk, at_of
-from countering import Bridge, becomes, holds, same
+from checks.lib.counter_clerk import (
+    ENTER,
+    ESCAPE,
+    F1,
+    F4,
+    F6,
+    F7,
+    F9,
+    F10,
+    SPACE,
+    TAB,
+    Clerk,
+    at_of,
+)
+from checks.lib.countering import Bridge, becomes, holds, same
 
 TEN = 10 * ENTER
 KNOWN, NEW, ON_SITE = "RA-KM-1238", "RA-KM-1237", "RA-KM-1236"

@@ -9,7 +9,7 @@ import subprocess
 import time
 import zoneinfo
 
-from countering import TOP, Bridge, Meanwhile, becomes, holds, same
+from checks.lib.countering import TOP, Bridge, Meanwhile, becomes, holds, same
 
 OPENAPI_SCHEMA = "/usr/share/openapi-specification/schemas/v3.0/schema.json"
 

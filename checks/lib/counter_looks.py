@@ -3,8 +3,8 @@
 import re
 import time
 
-from counter_clerk import ESCAPE, Clerk, at_of
-from countering import same
+from checks.lib.counter_clerk import ESCAPE, Clerk, at_of
+from checks.lib.countering import same
 
 LOOKS = [
     (1280, 800, False, "en"),

@@ -7,8 +7,8 @@ import subprocess
 import tempfile
 import time
 
-from bridge import HOST, free_port
-from countering import TOP
+from checks.lib.bridge import HOST, free_port
+from checks.lib.countering import TOP
 
 
 class Nginx:

@@ -4,8 +4,8 @@ import datetime
 import json
 import time
 
-from counter_clerk import ENTER, ESCAPE, Clerk, at_of
-from countering import Bridge, becomes, holds, same
+from checks.lib.counter_clerk import ENTER, ESCAPE, Clerk, at_of
+from checks.lib.countering import Bridge, becomes, holds, same
 
 OTHERS = "return [...document.querySelectorAll('#others button')].map(it => it.textContent)"
 PRESS = "[...document.querySelectorAll('#others button')].find(it => it.textContent === 'Weigh once').click()"

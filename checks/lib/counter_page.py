@@ -7,13 +7,18 @@ import subprocess
 import threading
 import time
 
-from bridge import HOST
-from counter_ages import a_change_at_the_page, never_old, press_to_ticket, weight_within_a_second
-from counter_clerk import ENTER, ESCAPE, F1, F4, F8, F9, SPACE, TAB, Clerk, at_of
-from counter_looks import looks
-from counter_nginx import Nginx
-from countering import Bridge, becomes, holds, same
-from network import Network
+from checks.lib.bridge import HOST
+from checks.lib.counter_ages import (
+    a_change_at_the_page,
+    never_old,
+    press_to_ticket,
+    weight_within_a_second,
+)
+from checks.lib.counter_clerk import ENTER, ESCAPE, F1, F4, F8, F9, SPACE, TAB, Clerk, at_of
+from checks.lib.counter_looks import looks
+from checks.lib.counter_nginx import Nginx
+from checks.lib.countering import Bridge, becomes, holds, same
+from checks.lib.network import Network
 
 
 def a_pair_by_keyboard(bridge, clerk):

@@ -3,8 +3,8 @@
 import io
 import time
 
-from counter_clerk import ENTER, F9, Clerk, at_of
-from countering import Bridge
+from checks.lib.counter_clerk import ENTER, F9, Clerk, at_of
+from checks.lib.countering import Bridge
 
 # Of the page at each size: width and height in pixels, and how high each is in the picture of all of them.
 SIZES = ((360, 740), (1024, 768), (1280, 900), (1920, 1080))

@@ -8,8 +8,8 @@ import threading
 import time
 from collections import Counter
 
-from counter_fanout import REPLIES
-from countering import Bridge, Client, becomes, holds, kg_of, same
+from checks.lib.counter_fanout import REPLIES
+from checks.lib.countering import Bridge, Client, becomes, holds, kg_of, same
 
 OLD = 1.45  # seconds: no value is older, with what it takes to look on a busy machine
 LEAST, MOST = 2000, 2900  # tenths of e: far above what a zero may shift

@@ -2,9 +2,9 @@
 
 import time
 
-from counter_ages import press_to_ticket
-from counter_clerk import ENTER, ESCAPE, TAB, Clerk, at_of
-from countering import Bridge, becomes, holds, same
+from checks.lib.counter_ages import press_to_ticket
+from checks.lib.counter_clerk import ENTER, ESCAPE, TAB, Clerk, at_of
+from checks.lib.countering import Bridge, becomes, holds, same
 
 DOWN, RIGHT, LEFT, END = "\ue015", "\ue014", "\ue012", "\ue010"
 ON_SITE = 300

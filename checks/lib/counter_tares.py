@@ -6,8 +6,8 @@ The page shows each tare as the scale rounds it.
 import random
 import time
 
-from counter_clerk import ENTER, ESCAPE, F1, F6, F7, F10, Clerk, at_of
-from countering import Bridge, becomes, holds, same
+from checks.lib.counter_clerk import ENTER, ESCAPE, F1, F6, F7, F10, Clerk, at_of
+from checks.lib.countering import Bridge, becomes, holds, same
 
 F2, F3 = chr(0xE032), chr(0xE033)
 TEN = 10 * ENTER

@@ -16,8 +16,8 @@ from collections import deque
 from collections.abc import Callable, Iterable, Mapping
 from typing import Any, TypeVar
 
-import bridge
-from bridge import HOST, free_port
+from checks.lib import bridge
+from checks.lib.bridge import HOST, free_port
 
 TOP = os.path.dirname(os.path.dirname(os.path.dirname(os.path.abspath(__file__))))
 COUNTER = os.path.join(TOP, "counter", "weighbridge-counter")

@@ -4,7 +4,7 @@ import socket
 import threading
 from collections.abc import Callable, Iterable
 
-from bridge import HOST, exchange_bytes
+from checks.lib.bridge import HOST, exchange_bytes
 
 
 Step = Callable[["Gateway", bytes], bytes]

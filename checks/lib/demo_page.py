@@ -5,12 +5,12 @@ import shutil
 import tempfile
 import time
 
-from bridge import free_port
-from browser import Browser
-from counter_clerk import ENTER, F6, F9
-from counter_looks import FAINT
-from countering import becomes, holds, same
-from demoing import WEIGHS_AFTER, Running, asked
+from checks.lib.bridge import free_port
+from checks.lib.browser import Browser
+from checks.lib.counter_clerk import ENTER, F6, F9
+from checks.lib.counter_looks import FAINT
+from checks.lib.countering import becomes, holds, same
+from checks.lib.demoing import WEIGHS_AFTER, Running, asked
 
 ARROW_LEFT, ARROW_RIGHT = "\ue012", "\ue014"
 

@@ -13,7 +13,7 @@ import urllib.error
 import urllib.parse
 import urllib.request
 
-from countering import failures
+from checks.lib.countering import failures
 from collections.abc import Callable, Iterable, Mapping
 from typing import IO, Any
 

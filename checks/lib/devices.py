@@ -10,7 +10,7 @@ import threading
 import time
 import tty
 
-import bridge
+from checks.lib import bridge
 
 SERVER = os.path.join(os.path.dirname(os.path.abspath(__file__)), "modbus_server.py")
 

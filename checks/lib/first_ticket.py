@@ -9,9 +9,9 @@ import sys
 import time
 from urllib.error import HTTPError
 
-from counter_clerk import ENTER, Clerk
-from countering import becomes, failures, holds, same
-from demoing import Running
+from checks.lib.counter_clerk import ENTER, Clerk
+from checks.lib.countering import becomes, failures, holds, same
+from checks.lib.demoing import Running
 
 WITHIN = 60  # seconds from the command until the slip can be read
 WAITS = 60  # seconds for each thing that comes

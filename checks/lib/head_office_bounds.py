@@ -11,8 +11,8 @@ import time
 from collections.abc import Callable, Iterator
 from typing import Protocol
 
-from books import Book
-from counted import case, same
+from checks.lib.books import Book
+from checks.lib.counted import case, same
 
 top = os.path.dirname(os.path.dirname(os.path.dirname(os.path.abspath(__file__))))
 PARTS = os.path.join(top, "head_office")

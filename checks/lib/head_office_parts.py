@@ -13,12 +13,12 @@ import subprocess
 import sys
 import time
 
-import cluster as clusters
-from books import Book
-from browser import Browser
-from counted import case, same
-from journal import digest_of
-from ports import free_port
+from checks.lib import cluster as clusters
+from checks.lib.books import Book
+from checks.lib.browser import Browser
+from checks.lib.counted import case, same
+from checks.lib.journal import digest_of
+from checks.lib.ports import free_port
 
 top = os.path.dirname(os.path.dirname(os.path.dirname(os.path.abspath(__file__))))
 PARTS = os.path.join(top, "head_office")

@@ -8,7 +8,7 @@ import glob
 import os
 import re
 
-import traces
+from checks.lib import traces
 
 TOP = os.path.dirname(os.path.dirname(os.path.dirname(os.path.abspath(__file__))))
 PLAIN = "the clause"

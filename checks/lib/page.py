@@ -24,7 +24,7 @@ import tempfile
 import time
 from collections.abc import Iterable, Mapping, Sequence
 
-import bridge
+from checks.lib import bridge
 
 TOP = os.path.dirname(os.path.dirname(os.path.dirname(os.path.abspath(__file__))))
 SECONDS = 60  # for each command

@@ -7,13 +7,13 @@ import subprocess
 import sys
 import time
 
-from counter_clerk import ENTER, F8, F9, Clerk, at_of
-from counter_looks import FAINT, WIDE
-from countering import HOST, TOP, Bridge, becomes, holds, same
-from paper_forms import beside, large_of
-from paper_roll import Printed, code_of, legal_of
+from checks.lib.counter_clerk import ENTER, F8, F9, Clerk, at_of
+from checks.lib.counter_looks import FAINT, WIDE
+from checks.lib.countering import HOST, TOP, Bridge, becomes, holds, same
+from checks.lib.paper_forms import beside, large_of
+from checks.lib.paper_roll import Printed, code_of, legal_of
 from PIL import Image
-from papering import Desk, about, code_in_pdf, legal_in_pdf, lines_of_width, picture_of
+from checks.lib.papering import Desk, about, code_in_pdf, legal_in_pdf, lines_of_width, picture_of
 
 from tests.papers import LONGEST, USUAL
 from tests.played_printer import PlayedPrinter

@@ -6,7 +6,7 @@ import subprocess
 import tempfile
 import time
 
-from bridge import HOST, free_port
+from checks.lib.bridge import HOST, free_port
 
 FILES = """ServerRoot {folder}
 CacheDir {folder}/cache

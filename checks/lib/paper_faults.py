@@ -10,9 +10,9 @@ import threading
 import time
 import tty
 
-from countering import becomes, holds, same
-from papering import Desk
-from paper_roll import Printed
+from checks.lib.countering import becomes, holds, same
+from checks.lib.papering import Desk
+from checks.lib.paper_roll import Printed
 
 from tests.papers import LONGEST, USUAL, Sample
 from tests.played_printer import PlayedPrinter

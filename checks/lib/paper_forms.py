@@ -2,9 +2,9 @@
 
 import os
 
-from countering import holds, same
-from paper_roll import code_of
-from papering import (
+from checks.lib.countering import holds, same
+from checks.lib.paper_roll import code_of
+from checks.lib.papering import (
     Desk,
     about,
     code_in_pdf,

@@ -5,9 +5,9 @@ import signal
 import subprocess
 import time
 
-from countering import becomes, same
-from paper_cups import Cups
-from papering import Desk, about, code_in_pdf, fonts_left_out, legal_in_pdf
+from checks.lib.countering import becomes, same
+from checks.lib.paper_cups import Cups
+from checks.lib.papering import Desk, about, code_in_pdf, fonts_left_out, legal_in_pdf
 
 from tests.papers import LONGEST, USUAL, Sample
 

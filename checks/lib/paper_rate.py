@@ -3,8 +3,8 @@
 import time
 from pathlib import Path
 
-from countering import holds, same
-from papering import Desk
+from checks.lib.countering import holds, same
+from checks.lib.papering import Desk
 
 from tests.papers import Sample
 from tests.played_printer import PlayedPrinter

@@ -8,10 +8,10 @@ import subprocess
 import sys
 import tempfile
 
-from countering import TOP, failures
-from paper_roll import Printed, code_in, legal_of
+from checks.lib.countering import TOP, failures
+from checks.lib.paper_roll import Printed, code_in, legal_of
 
-sys.path.insert(0, os.path.join(TOP, "counter"))
+sys.path.insert(0, os.path.dirname(os.path.dirname(os.path.dirname(os.path.abspath(__file__)))))
 COMMAND = os.path.join(TOP, "counter", "weighbridge-paper")
 # width in points of a letter of the legal text
 LETTERS = {

@@ -21,9 +21,9 @@ from http.server import BaseHTTPRequestHandler, ThreadingHTTPServer
 from typing import Any
 
 TOP = os.path.dirname(os.path.dirname(os.path.dirname(os.path.abspath(__file__))))
-sys.path.insert(0, os.path.join(TOP, "checks", "lib"))
-from bridge import HOST  # noqa: E402
-from showing import same  # noqa: E402
+sys.path.insert(0, TOP)
+from checks.lib.bridge import HOST  # noqa: E402
+from checks.lib.showing import same  # noqa: E402
 
 END = "AT 2025-03-10 08:00:00\nG      18340 kg\nE 20 kg MAX 60000 kg SERIAL WB01\nDIGEST a9\n"
 SLIP = f"WEIGHING SLIP 1\nPLATE AB-12\nFIRST NO 1\n{END}"

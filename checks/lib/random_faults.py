@@ -9,8 +9,8 @@ import threading
 import time
 import tty
 
-import bridge
-from devices import begun, wait_for
+from checks.lib import bridge
+from checks.lib.devices import begun, wait_for
 
 STEP = 0.02  # seconds for which a value is held
 

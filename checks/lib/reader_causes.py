@@ -17,8 +17,8 @@ import tty
 
 TOP = os.path.dirname(os.path.dirname(os.path.dirname(os.path.abspath(__file__))))
 READERS = os.path.join(TOP, "readers")
-sys.path.insert(0, os.path.join(TOP, "checks", "lib"))
-from showing import same  # noqa: E402
+sys.path.insert(0, TOP)
+from checks.lib.showing import same  # noqa: E402
 
 PYMODBUS = "\n".join(
     (

@@ -9,9 +9,9 @@ import subprocess
 import threading
 import time
 
-import bridge
-import odd_modbus
-from converting import (
+from checks.lib import bridge
+from checks.lib import odd_modbus
+from checks.lib.converting import (
     IS_LONG,
     NEW,
     OLD,
@@ -29,9 +29,16 @@ from converting import (
     undisturbed,
     with_pymodbus,
 )
-from devices import begun, wait_for
-from random_faults import FaultyAsked, FaultyIio, FaultyLine, FaultyModbus, FaultySir, FaultyText
-from sir_device import SirDevice
+from checks.lib.devices import begun, wait_for
+from checks.lib.random_faults import (
+    FaultyAsked,
+    FaultyIio,
+    FaultyLine,
+    FaultyModbus,
+    FaultySir,
+    FaultyText,
+)
+from checks.lib.sir_device import SirDevice
 
 
 def goes_through(name, device, folder, rate=10):

@@ -8,10 +8,10 @@ import struct
 import subprocess
 import time
 
-import bridge
-from converting import CONVERTER, READERS, TOP, first_line, holds, same
-from devices import begun
-from register_modbus import RegisterModbus
+from checks.lib import bridge
+from checks.lib.converting import CONVERTER, READERS, TOP, first_line, holds, same
+from checks.lib.devices import begun
+from checks.lib.register_modbus import RegisterModbus
 
 
 def reads_devices(folder):

@@ -18,7 +18,8 @@ import unittest.mock
 from typing import Any
 
 TOP = os.path.dirname(os.path.dirname(os.path.dirname(os.path.abspath(__file__))))
-sys.path[:0] = [os.path.join(TOP, "checks", "lib"), os.path.join(TOP, "readers")]
+sys.path.insert(0, TOP)
+import checks  # noqa: E402, F401
 from paced import Lost  # noqa: E402
 
 SCRATCH = tempfile.TemporaryDirectory()

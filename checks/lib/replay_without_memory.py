@@ -5,7 +5,7 @@ import subprocess
 import sys
 from collections.abc import Iterable
 
-import day
+from checks.lib import day
 
 PROGRAM, REFUSE = sys.argv[1], sys.argv[2]
 FIRST = "o 1741593600 POST /weighings key=K1&kind=first&plate=AB-12"

@@ -16,8 +16,8 @@ from collections.abc import Callable
 from pathlib import Path
 
 import verify
-from journal import TABLES, ZEROS, digest_of, newest_line, write_newest
-from showing import NAME, fail, same
+from checks.lib.journal import TABLES, ZEROS, digest_of, newest_line, write_newest
+from checks.lib.showing import NAME, fail, same
 
 TOP = Path(__file__).resolve().parent.parent.parent
 SOURCE = TOP / "inspect" / "verify.c"

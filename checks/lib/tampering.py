@@ -3,7 +3,7 @@
 import sqlite3
 from typing import Any
 
-from journal import ZEROS, digest_of
+from checks.lib.journal import ZEROS, digest_of
 
 KINDS = ("first", "second", "single", "void")
 

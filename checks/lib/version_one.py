@@ -18,8 +18,8 @@ import subprocess
 import sys
 import tempfile
 
-sys.path.insert(0, os.path.dirname(os.path.abspath(__file__)))
-import bridge  # noqa: E402
+sys.path.insert(0, os.path.dirname(os.path.dirname(os.path.dirname(os.path.abspath(__file__)))))
+from checks.lib import bridge  # noqa: E402
 
 KEPT = os.path.join(
     os.path.dirname(os.path.dirname(os.path.abspath(__file__))), "data", "version_1"

@@ -3,7 +3,7 @@
 import threading
 import time
 
-import bridge
+from checks.lib import bridge
 
 # How old a reading may be whose reply comes in: a second, and what a reply takes on a busy machine.
 OLD = 1.25

@@ -4,7 +4,15 @@ import os
 import re
 from collections.abc import Iterator
 
-from rattle_sources import PARTS, Key, blanked, contracts_of, files_below, functions_of, read
+from checks.lib.rattle_sources import (
+    PARTS,
+    Key,
+    blanked,
+    contracts_of,
+    files_below,
+    functions_of,
+    read,
+)
 
 TOP = os.path.dirname(os.path.dirname(os.path.dirname(os.path.realpath(__file__))))
 

@@ -14,8 +14,8 @@ import time
 from dataclasses import dataclass
 from datetime import datetime, timedelta
 
-import bridge
-from showing import fail
+from checks.lib import bridge
+from checks.lib.showing import fail
 
 LIBRARY = "/usr/lib/*/faketime/libfaketimeMT.so.1"
 FORM = "%Y-%m-%d %H:%M:%S"

@@ -353,8 +353,8 @@ class VerifyTest(NightCase):
         import sqlite3
         import sys
 
-        sys.path.insert(0, os.path.join(TOP, "checks", "lib"))
-        from journal import make_journal as make_entries
+        sys.path.insert(0, TOP)
+        from checks.lib.journal import make_journal as make_entries
 
         live = os.path.join(self.box, "live.db")
         make_entries(live, 5)

@@ -1,0 +1,99 @@
+"""The base class of all checks. It says what a check needs and how it may be run, and has the few assertions that unittest lacks."""
+
+import importlib.util
+import os
+import re
+import shutil
+import subprocess
+import sys
+import tempfile
+import unittest
+from collections.abc import Callable
+from typing import Any, ClassVar
+
+from checks.lib.waiting import wait_until
+
+from checks import TOP
+
+# Set it to keep the folders of a test, also by `--keep`.
+KEEP = "CHECKS_KEEP"
+# What a class needs that tries the built program. `python3 -m checks` builds it first.
+PROGRAM = "the program"
+# Names that stand for more than a command or a module of Python.
+OTHERS: dict[str, tuple[str, Callable[[], bool]]] = {
+    PROGRAM: ("the launcher is not there", (TOP / "weighbridge").exists),
+    "root": ("the check isn't run by root", lambda: os.geteuid() == 0),
+    "the kit": ("the kit is not installed", lambda: shutil.which("rt") is not None),
+}
+
+
+def lacked(names: tuple[str, ...]) -> list[str]:
+    """Return a sentence for each command or module that this machine lacks."""
+    words = []
+    for name in names:
+        why, is_there = OTHERS.get(name, (f"{name} is not installed", lambda: False))
+        if not (is_there() or shutil.which(name) or importlib.util.find_spec(name)):
+            words.append(why)
+    return words
+
+
+def needs(*names: str) -> Callable[[Any], Any]:
+    """Skip a test, or a class, unless this machine has all these commands and modules."""
+    words = lacked(names)
+    return unittest.skipIf(bool(words), "; ".join(words))
+
+
+class Check(unittest.TestCase):
+    """A check. `python3 -m checks` decides by its attributes when it runs, and beside what."""
+
+    needs: ClassVar[tuple[str, ...]] = ()
+    """Commands and modules of Python. The class is skipped without one of them."""
+    slow: ClassVar[bool] = False
+    """It runs only with --slow."""
+    alone: ClassVar[bool] = False
+    """Nothing runs beside it, because it measures time or changes what others use."""
+    seconds: ClassVar[int] = 10
+    """About how long it takes on a quiet machine. Only the order depends on it."""
+    maxDiff = None
+
+    def __init_subclass__(cls, **more: Any) -> None:
+        super().__init_subclass__(**more)
+        if words := lacked(cls.needs):
+            unittest.skip("; ".join(words))(cls)
+
+    def folder(self) -> str:
+        """Return a new folder. It is removed after the test, but with --keep."""
+        path = tempfile.mkdtemp(prefix=f"{type(self).__name__.lower()}-")
+        if os.environ.get(KEEP):
+            print(f"kept: {path}", flush=True)
+        else:
+            self.addCleanup(shutil.rmtree, path, ignore_errors=True)
+        return path
+
+    def same(self, what: str, wanted: object, found: object) -> None:
+        """Compare two values as a case of its own. The test goes on after a difference."""
+        with self.subTest(what):
+            self.assertEqual(wanted, found)
+
+    def holds(self, what: str, is_so: object, found: object = "") -> None:
+        """Show that something is so, as a case of its own. `found` tells what was there if it isn't."""
+        with self.subTest(what):
+            self.assertTrue(is_so, found)
+
+    def becomes(
+        self, what: str, wanted: object, look: Callable[[], object], seconds: float = 20
+    ) -> None:
+        """Look until the wanted value is found, as a case of its own."""
+        with self.subTest(what):
+            wait_until(what, look, lambda found: found == wanted, seconds)
+
+    def passes_unittest(self, part: str) -> None:
+        """Show that the tests pass that a part of this repository has in its own folder."""
+        words = [sys.executable, "-B", "-m", "unittest", "discover", "-s", ".", "-t", "."]
+        ran = subprocess.run(words, cwd=TOP / part, stderr=subprocess.PIPE, text=True)
+        self.same(
+            f"status of the tests in {part}/tests",
+            (0, ""),
+            (ran.returncode, ran.stderr if ran.returncode else ""),
+        )
+        self.holds(f"tests in {part}/tests", re.search(r"^Ran [1-9]", ran.stderr, re.M), ran.stderr)

@@ -1,0 +1,106 @@
+"""The checks that are programs of their own, and no classes yet. A new check belongs in a class; this module goes with the last of them."""
+
+import os
+import re
+from dataclasses import dataclass
+from pathlib import Path
+
+from checks.lib.running import Counts, names_of_checks
+
+from checks import TOP
+
+# These are no checks themselves.
+NO_CHECKS = {"all", "gate"}
+# They run only with --slow.
+SLOW = {
+    "agreement",
+    "library_against_model",
+    "office_without_memory",
+    "random_requests",
+    "replay_against_model",
+    "same_package",
+    "serve_long",
+    "head_office",
+    "head_office_inputs",
+    "units_in_trouble",
+    "wrong_bodies",
+    "year",
+}
+# They measure how late something comes, or change what the launcher built.
+ALONE = {
+    "converters",
+    "same_package",
+    "serve_bad_clients",
+    "serve_held_up",
+    "serve_late",
+    "serve_long",
+    "serve_repetition",
+    "try_replay",
+    "wrong_bodies",
+}
+QUICK = {
+    "one_version",
+    "python_form",
+    "shell_form",
+    "without_the_kit",
+    "names_in_the_pages",
+    "verify",
+    "conformity",
+    "tutorial",
+    "check_and_export",
+}
+# About how many seconds the others take, if it is more than a minute.
+SECONDS = {
+    "lost_entries": 1500,
+    "counter": 1500,
+    "store_in_sqlite3": 600,
+    "replay_without_memory": 500,
+    "store_without_memory": 450,
+    "release": 400,
+    "paper": 350,
+    "demo": 300,
+    "units": 250,
+    "broken_files": 200,
+}
+# The end, or the beginning, of a line that reports a case.
+CASE = re.compile(r"ok\b|.*(?:[:,] ok(?: \(.*\))?|\| ok \|)$")
+
+
+@dataclass(frozen=True)
+class Program:
+    """A check that is a program of its own."""
+
+    name: str
+    slow: bool
+    alone: bool
+    seconds: int
+
+
+def programs() -> list[Program]:
+    """Return those in checks/ that can be run, and are no check of the package."""
+    classes = {*NO_CHECKS, *names_of_checks()}
+    names = (
+        it.name
+        for it in sorted((TOP / "checks").iterdir())
+        if it.is_file() and not it.suffix and it.name not in classes and os.access(it, os.X_OK)
+    )
+    return [
+        Program(it, it in SLOW, it in ALONE, SECONDS.get(it, 5 if it in QUICK else 60))
+        for it in names
+    ]
+
+
+def counts_of(log: Path, status: int | OSError) -> Counts:
+    """Return what a program's lines say. It counts as one test."""
+    said = log.read_text(encoding="utf-8", errors="replace").rstrip().split("\n")
+    is_skipped = not status and "skipped, since" in said[-1]
+    lacks = [
+        found[1] for it in said if (found := re.search(r"(?:skipped|left out), since (.*)", it))
+    ]
+    return Counts(
+        passed=int(not status and not is_skipped),
+        failed=int(bool(status)),
+        skipped=int(is_skipped),
+        cases=sum(bool(CASE.match(it)) for it in said),
+        lacks=lacks,
+    )

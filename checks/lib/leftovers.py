@@ -1,0 +1,67 @@
+"""Ends what a check has left running. Each process of a check inherits a mark in its environment, also if it left the check's group or was adopted.
+
+A check that another check runs adds its own mark to the other's, and ends only what has its own.
+"""
+
+import os
+import signal
+import sys
+import time
+import uuid
+from types import FrameType
+
+MARKS = "CHECKS_MARKS"
+
+
+def new_mark() -> str:
+    """Mark all processes that this one starts from now on, and return the mark."""
+    mark = uuid.uuid4().hex
+    os.environ[MARKS] = " ".join([*os.environ.get(MARKS, "").split(), mark])
+    return mark
+
+
+def has_mark(environment: bytes, mark: str) -> bool:
+    named = MARKS.encode() + b"="
+    return any(
+        it.startswith(named) and mark.encode() in it.removeprefix(named).split()
+        for it in environment.split(b"\0")
+    )
+
+
+def marked(mark: str) -> list[int]:
+    """Return the numbers of the processes with this mark, but for this one."""
+    found = []
+    for name in os.listdir("/proc"):
+        if name.isdigit() and int(name) != os.getpid():
+            try:
+                with open(f"/proc/{name}/environ", "rb") as file:
+                    if has_mark(file.read(), mark):
+                        found.append(int(name))
+            except OSError:
+                continue  # it has ended, or it is another user's
+    return found
+
+
+def end_marked(mark: str) -> int:
+    """Kill each process with this mark until none is left, and return how many there were."""
+    killed: set[int] = set()
+    until = time.monotonic() + 10
+    while (found := marked(mark)) and time.monotonic() < until:
+        for it in found:
+            try:
+                os.kill(it, signal.SIGKILL)
+            except ProcessLookupError:
+                pass
+        killed.update(found)
+        time.sleep(0.01)
+    return len(killed)
+
+
+def end_on_signals() -> None:
+    """Let SIGTERM and SIGHUP end this process as Ctrl-C does, so that everything is cleaned up."""
+
+    def stop(number: int, _: FrameType | None) -> None:
+        sys.exit(128 + number)
+
+    for it in (signal.SIGTERM, signal.SIGHUP):
+        signal.signal(it, stop)

@@ -1,0 +1,194 @@
+"""Runs the classes of a check within this process, and shows a line for each case."""
+
+import argparse
+import fnmatch
+import importlib
+import json
+import os
+import sys
+import unittest
+from collections.abc import Iterator
+from dataclasses import dataclass, field
+from pathlib import Path
+from types import ModuleType, TracebackType
+
+from checks.lib.case import KEEP, Check
+from checks.lib.leftovers import end_marked, end_on_signals, new_mark
+
+HERE = Path(__file__).resolve().parent.parent
+# Debian's own Python, for which the packages of the distribution are.
+DEBIANS = "/usr/bin/python3"
+# The file that gets the counts of a run, if the variable is set.
+COUNTS = "CHECKS_COUNTS"
+Fault = tuple[type[BaseException], BaseException, TracebackType]
+
+
+@dataclass
+class Counts:
+    """How the tests of a run went. `cases` also counts the parts of tests that have a name of their own."""
+
+    passed: int = 0
+    failed: int = 0
+    skipped: int = 0
+    cases: int = 0
+    lacks: list[str] = field(default_factory=list)
+
+    def __str__(self) -> str:
+        return f"{self.passed} passed, {self.failed} failed, {self.skipped} skipped"
+
+
+class Shown(unittest.TestResult):
+    """Prints a line for each test, and for each named part of it, when it ends."""
+
+    def __init__(self) -> None:
+        super().__init__()
+        self.counts = Counts()
+        self.parts_failed = 0
+
+    def say(self, word: str, what: str, why: str = "") -> None:
+        print(f"{word:7} {what}{f': {why}' if why else ''}", flush=True)
+
+    def startTest(self, test: unittest.TestCase) -> None:
+        super().startTest(test)
+        self.parts_failed = 0
+
+    def addSubTest(  # type: ignore[override]
+        self, test: unittest.TestCase, subtest: unittest.TestCase, err: Fault | None
+    ) -> None:
+        super().addSubTest(test, subtest, err)
+        self.counts.cases += 1
+        what = str(subtest).removeprefix(f"{test} ").removeprefix("[").removesuffix("]")
+        if err is None:
+            self.say("ok", what)
+        else:
+            self.parts_failed += 1
+            self.say("FAILED", what, self._exc_info_to_string(err, test))  # type: ignore[attr-defined]
+
+    def addSuccess(self, test: unittest.TestCase) -> None:
+        super().addSuccess(test)
+        self.counts.passed += 1
+        self.counts.cases += 1
+        self.say("ok", name_of(test))
+
+    def _bad(self, test: unittest.TestCase, err: Fault) -> None:
+        self.parts_failed = 0
+        self.counts.failed += 1
+        self.counts.cases += 1
+        self.say("FAILED", name_of(test), self._exc_info_to_string(err, test))  # type: ignore[attr-defined]
+
+    def addFailure(self, test: unittest.TestCase, err: Fault) -> None:  # type: ignore[override]
+        super().addFailure(test, err)
+        self._bad(test, err)
+
+    def addError(self, test: unittest.TestCase, err: Fault) -> None:  # type: ignore[override]
+        super().addError(test, err)
+        self._bad(test, err)
+
+    def addSkip(self, test: unittest.TestCase, reason: str) -> None:
+        super().addSkip(test, reason)
+        self.counts.skipped += 1
+        self.counts.lacks.append(reason)
+        self.say("skipped", name_of(test), reason)
+
+    def stopTest(self, test: unittest.TestCase) -> None:
+        super().stopTest(test)
+        if self.parts_failed:
+            self.counts.failed += 1
+            self.say("FAILED", name_of(test), f"{self.parts_failed} cases")
+
+
+def name_of(test: unittest.TestCase) -> str:
+    """Return a test's name without its package: `test_support.Support.test_file`."""
+    return test.id().removeprefix("checks.")
+
+
+def names_of_checks() -> list[str]:
+    return sorted(it.stem.removeprefix("test_") for it in HERE.glob("test_*.py"))
+
+
+def module_of(name: str) -> ModuleType:
+    """Import a check. Raise SkipTest if this machine lacks something that its head imports."""
+    return importlib.import_module(f"checks.test_{name}")
+
+
+def classes_of(module: ModuleType) -> list[type[Check]]:
+    """Return the classes of a check that have tests, in the order of the file."""
+    return [
+        it
+        for it in vars(module).values()
+        if isinstance(it, type)
+        and issubclass(it, Check)
+        and it.__module__ == module.__name__
+        and unittest.defaultTestLoader.getTestCaseNames(it)
+    ]
+
+
+def chosen(each: type[Check], patterns: list[str] | None) -> Iterator[Check]:
+    """Return the tests of a class whose name has one of the patterns, as with `python3 -m unittest -k`."""
+    for method in unittest.defaultTestLoader.getTestCaseNames(each):
+        test = each(method)
+        if not patterns or any(
+            fnmatch.fnmatchcase(name_of(test), it if "*" in it else f"*{it}*") for it in patterns
+        ):
+            yield test
+
+
+def run(classes: list[type[Check]], patterns: list[str] | None, failfast: bool = False) -> Counts:
+    """Run the tests of these classes."""
+    suite = unittest.TestSuite(
+        unittest.TestSuite(tests) for each in classes if (tests := [*chosen(each, patterns)])
+    )
+    result = Shown()
+    result.failfast = failfast
+    suite.run(result)
+    return result.counts
+
+
+def use_debians_python() -> None:
+    """Begin anew under Debian's own Python, unless this is it."""
+    if os.path.exists(DEBIANS) and not os.path.samefile(sys.executable, DEBIANS):
+        os.execv(DEBIANS, [DEBIANS, *sys.orig_argv[1:]])
+
+
+def arguments(name: str, words: str | None) -> argparse.ArgumentParser:
+    """Return the options that each check takes."""
+    options = argparse.ArgumentParser(
+        prog=name, description=words, formatter_class=argparse.RawDescriptionHelpFormatter
+    )
+    options.add_argument(
+        "-k", action="append", metavar="PATTERN", help="only tests whose name has it"
+    )
+    options.add_argument("--slow", action="store_true", help="also those that take long")
+    options.add_argument("--list", action="store_true", help="only print the tests' names")
+    options.add_argument("--keep", action="store_true", help="keep the folders of the tests")
+    return options
+
+
+def alone(name: str) -> int:
+    """Run one check within this process, as its file in checks/ does. Return its status."""
+    use_debians_python()
+    try:
+        module = module_of(name)
+    except unittest.SkipTest as why:
+        print(f"{name}: skipped, since {why}")
+        return 0
+    options = arguments(f"checks/{name}", module.__doc__)
+    options.add_argument("--failfast", action="store_true", help="stop at the first failure")
+    asked = options.parse_args()
+    classes = [it for it in classes_of(module) if asked.slow or not it.slow]
+    if asked.list:
+        print("\n".join(name_of(it) for each in classes for it in chosen(each, asked.k)))
+        return 0
+    if asked.keep:
+        os.environ[KEEP] = "1"
+    end_on_signals()
+    mark = new_mark()
+    try:
+        counts = run(classes, asked.k, asked.failfast)
+    finally:
+        if left := end_marked(mark):
+            print(f"{name}: {left} processes were left, and killed", flush=True)
+    if path := os.environ.get(COUNTS):
+        Path(path).write_text(json.dumps(vars(counts)), encoding="utf-8")
+    print(f"{name}: {counts}")
+    return 1 if counts.failed or not counts.passed + counts.skipped else 0

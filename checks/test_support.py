@@ -1,0 +1,87 @@
+"""Shows that the file for a service company has what it needs, no plate, key or secret, and says why a part is missing.
+
+- The tests in support/tests play a bridge, and take each of its sources away in turn. They hide 3,000 random plates and keys in several forms of a
+  line.
+- The real script, in folders as the package installs them, runs on this machine. Its file has each part, and the owner's mode. A file that is there,
+  and a folder that isn't, are refused by name.
+"""
+
+import os
+import shutil
+import stat
+import subprocess
+
+from checks.lib.case import Check
+
+from checks import TOP
+
+TITLES = [
+    "Versions",
+    "Clock",
+    "Units",
+    "/etc/weighbridge.conf",
+    "/etc/weighbridge-alarm.toml",
+    "Health of the counter",
+    "Check by the office",
+    "Alarm",
+    "Audit trail",
+    "Last night",
+    "/var/lib/weighbridge",
+    "Disks",
+    "Memory",
+    "The last hour's lines",
+]
+
+
+def installed(box: str) -> str:
+    """Install the script and what it imports as the package does, and return its path."""
+    for name in ("support", "night", "alarm"):
+        os.mkdir(os.path.join(box, name))
+        for it in (f"weighbridge-{name}", f"weighbridge_{name}"):
+            source, target = TOP / name / it, os.path.join(box, name, it)
+            if source.is_dir():
+                shutil.copytree(source, target)
+            else:
+                shutil.copy2(source, target)
+    script = os.path.join(box, "weighbridge-support")
+    os.symlink(os.path.join(box, "support", "weighbridge-support"), script)
+    return script
+
+
+class Support(Check):
+    """The tests of the part, and the script as it is installed."""
+
+    def test_tests_of_the_part(self) -> None:
+        self.passes_unittest("support")
+
+    def test_file(self) -> None:
+        box = self.folder()
+        script, path = installed(box), os.path.join(box, "file.txt")
+
+        def written(to: str) -> subprocess.CompletedProcess[str]:
+            return subprocess.run([script, "--output", to], capture_output=True, text=True)
+
+        ran = written(path)
+        self.same("the file is written", 0, ran.returncode)
+        self.same("where it is", f"{path}: written, ", ran.stdout[: len(path) + 11])
+        self.same("only its owner reads it", 0o600, stat.S_IMODE(os.stat(path).st_mode))
+        with open(path, encoding="utf-8") as file:
+            text = file.read()
+        self.same(
+            "parts that are missing", [], [it for it in TITLES if f"\n== {it} ==\n" not in text]
+        )
+        setup = "/etc/weighbridge-alarm.toml"
+        is_said = f"== {setup} ==\nnot available: " in text or os.path.exists(setup)
+        self.holds("a setup that isn't there is named", is_said, text)
+        again = written(path)
+        with open(path, encoding="utf-8") as file:
+            self.same("a file that is there stays", (1, text), (again.returncode, file.read()))
+        gone = written(f"{box}/gone/x")
+        words = "No such file or directory; name a new file with --output"
+        self.same(
+            "a folder that isn't there is named",
+            (1, f"weighbridge-support: {box}/gone/x: {words}"),
+            (gone.returncode, gone.stderr.splitlines()[-1]),
+        )
+        shown = written("-")
+        self.same("on the screen", (0, True), (shown.returncode, "== Versions ==" in shown.stdout))
