@@ -29,7 +29,7 @@ from checks.lib.running import (
     arguments,
     chosen,
     classes_of,
-    module_of,
+    modules_of,
     name_of,
     names_of_checks,
     use_debians_python,
@@ -70,11 +70,11 @@ def units(patterns: list[str] | None) -> list[Unit]:
     for name in names_of_checks():
         words = [str(TOP / "checks" / name), "--slow"]
         try:
-            module = module_of(name)
+            modules = modules_of(name)
         except unittest.SkipTest as why:
             found.append(Unit(name, False, False, 0, words, str(why)))
             continue
-        for it in classes_of(module):
+        for it in classes_of(modules):
             if tests := tuple(name_of(test) for test in chosen(it, patterns)):
                 only = [f"-k={test}" for test in tests] if patterns else [f"-k={it.__name__}."]
                 found.append(

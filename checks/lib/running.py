@@ -103,18 +103,26 @@ def name_of(test: unittest.TestCase) -> str:
 
 
 def names_of_checks() -> list[str]:
-    return sorted(it.stem.removeprefix("test_") for it in HERE.glob("test_*.py"))
+    """Return the names of the checks. A check is a file `test_NAME.py`, or a folder `NAME_tests` of such files."""
+    files = {it.stem.removeprefix("test_") for it in HERE.glob("test_*.py")}
+    folders = {it.parent.name.removesuffix("_tests") for it in HERE.glob("*_tests/__init__.py")}
+    return sorted(files | folders)
 
 
-def module_of(name: str) -> ModuleType:
-    """Import a check. Raise SkipTest if this machine lacks something that its head imports."""
-    return importlib.import_module(f"checks.test_{name}")
+def modules_of(name: str) -> list[ModuleType]:
+    """Import a check: the module that says what it shows, and then those of its folder. Raise SkipTest if this machine lacks something that a head imports."""
+    folder = HERE / f"{name}_tests"
+    if not folder.is_dir():
+        return [importlib.import_module(f"checks.test_{name}")]
+    parts = [f"checks.{folder.name}.{it.stem}" for it in sorted(folder.glob("test_*.py"))]
+    return [importlib.import_module(it) for it in [f"checks.{folder.name}", *parts]]
 
 
-def classes_of(module: ModuleType) -> list[type[Check]]:
-    """Return the classes of a check that have tests, in the order of the file."""
+def classes_of(modules: list[ModuleType]) -> list[type[Check]]:
+    """Return the classes of a check that have tests, in the order of the files."""
     return [
         it
+        for module in modules
         for it in vars(module).values()
         if isinstance(it, type)
         and issubclass(it, Check)
@@ -168,14 +176,14 @@ def alone(name: str) -> int:
     """Run one check within this process, as its file in checks/ does. Return its status."""
     use_debians_python()
     try:
-        module = module_of(name)
+        modules = modules_of(name)
     except unittest.SkipTest as why:
         print(f"{name}: skipped, since {why}")
         return 0
-    options = arguments(f"checks/{name}", module.__doc__)
+    options = arguments(f"checks/{name}", modules[0].__doc__)
     options.add_argument("--failfast", action="store_true", help="stop at the first failure")
     asked = options.parse_args()
-    classes = [it for it in classes_of(module) if asked.slow or not it.slow]
+    classes = [it for it in classes_of(modules) if asked.slow or not it.slow]
     if asked.list:
         print("\n".join(name_of(it) for each in classes for it in chosen(each, asked.k)))
         return 0
