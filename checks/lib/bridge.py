@@ -3,6 +3,7 @@
 The checks beside this folder use it. It needs python3 alone.
 """
 
+import contextlib
 import os
 import signal
 import socket
@@ -10,7 +11,8 @@ import subprocess
 import threading
 import time
 from collections.abc import Callable
-from typing import IO, Any, Protocol
+from types import TracebackType
+from typing import IO, Any, Protocol, Self
 
 from checks.lib.ports import HOST as HOST
 from checks.lib.ports import free_port as free_port
@@ -40,7 +42,25 @@ def sizes_of(process: subprocess.Popen[Any]) -> tuple[int, float]:
     return int(kept.split()[1]), (int(fields[11]) + int(fields[12])) / ticks
 
 
-class Converter(threading.Thread):
+class Closing:
+    """What is closed at the end of a `with` block, or of a test that entered it by `enterContext`."""
+
+    def close(self) -> None:
+        raise NotImplementedError
+
+    def __enter__(self) -> Self:
+        return self
+
+    def __exit__(
+        self,
+        kind: type[BaseException] | None,
+        error: BaseException | None,
+        trace: TracebackType | None,
+    ) -> None:
+        self.close()
+
+
+class Converter(Closing, threading.Thread):
     """Sends a line so many times a second, as long as it isn't told to be silent. The line is what `load` gives for its number."""
 
     def __init__(
@@ -97,7 +117,7 @@ class Played(Converter):
             time.sleep(0.002)
 
 
-class Fed:
+class Fed(Closing):
     """A converter that sends the loads that it is given, at once."""
 
     def __init__(self) -> None:
@@ -122,8 +142,8 @@ class Fed:
         self.listener.close()
 
 
-class Service:
-    """`weighbridge serve` over a file, with a converter that this program plays."""
+class Service(Closing):
+    """`weighbridge serve` over a file, with a converter that this program plays. At its end it is killed, and its converter closed."""
 
     def __init__(
         self,
@@ -191,6 +211,15 @@ class Service:
         self.process.send_signal(signal.SIGKILL)
         self.process.wait()
 
+    def close(self) -> None:
+        if self.process.poll() is None:
+            self.process.send_signal(signal.SIGCONT)
+            self.kill()
+        for it in (self.process.stdout, self.process.stderr):
+            if it is not None:
+                it.close()
+        self.converter.close()
+
     def end(self) -> tuple[str, str, int]:
         """Lets the converter end, and gives what the service printed, reported and answered."""
         self.converter.close()
@@ -198,7 +227,7 @@ class Service:
         return out, err, self.process.returncode
 
 
-class Terminal:
+class Terminal(Closing):
     """A client of the terminal."""
 
     def __init__(self, service: HasTerminal, timeout: float = 20) -> None:
