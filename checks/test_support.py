@@ -7,13 +7,12 @@
 """
 
 import os
-import shutil
 import stat
 import subprocess
 
 from checks.lib.case import Check
+from checks.lib.installed import install
 
-from checks import TOP
 
 TITLES = [
     "Versions",
@@ -33,21 +32,6 @@ TITLES = [
 ]
 
 
-def installed(box: str) -> str:
-    """Install the script and what it imports as the package does, and return its path."""
-    for name in ("support", "night", "alarm"):
-        os.mkdir(os.path.join(box, name))
-        for it in (f"weighbridge-{name}", f"weighbridge_{name}"):
-            source, target = TOP / name / it, os.path.join(box, name, it)
-            if source.is_dir():
-                shutil.copytree(source, target)
-            else:
-                shutil.copy2(source, target)
-    script = os.path.join(box, "weighbridge-support")
-    os.symlink(os.path.join(box, "support", "weighbridge-support"), script)
-    return script
-
-
 class Support(Check):
     """The tests of the part, and the script as it is installed."""
 
@@ -56,7 +40,7 @@ class Support(Check):
 
     def test_file(self) -> None:
         box = self.folder()
-        script, path = installed(box), os.path.join(box, "file.txt")
+        script, path = install(box, "support", "night", "alarm"), os.path.join(box, "file.txt")
 
         def written(to: str) -> subprocess.CompletedProcess[str]:
             return subprocess.run([script, "--output", to], capture_output=True, text=True)

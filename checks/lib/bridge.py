@@ -3,7 +3,6 @@
 The checks beside this folder use it. It needs python3 alone.
 """
 
-import contextlib
 import os
 import signal
 import socket

@@ -14,6 +14,7 @@ from typing import Any, ClassVar
 from checks.lib.waiting import wait_until
 
 from checks import TOP
+from checks.lib import program
 
 # Set it to keep the folders of a test, also by `--keep`.
 KEEP = "CHECKS_KEEP"
@@ -21,7 +22,7 @@ KEEP = "CHECKS_KEEP"
 PROGRAM = "the program"
 # Names that stand for more than a command or a module of Python.
 OTHERS: dict[str, tuple[str, Callable[[], bool]]] = {
-    PROGRAM: ("the launcher is not there", (TOP / "weighbridge").exists),
+    PROGRAM: ("the program is not there", lambda: os.access(program.PROGRAM, os.X_OK)),
     "root": ("the check isn't run by root", lambda: os.geteuid() == 0),
     "the kit": ("the kit is not installed", lambda: shutil.which("rt") is not None),
 }
