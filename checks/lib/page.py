@@ -22,9 +22,10 @@ import signal
 import subprocess
 import tempfile
 import time
-from collections.abc import Iterable, Mapping, Sequence
+from collections.abc import Iterable, Iterator, Mapping
 
 from checks.lib import bridge
+from checks.lib.program import named
 
 TOP = os.path.dirname(os.path.dirname(os.path.dirname(os.path.abspath(__file__))))
 SECONDS = 60  # for each command
@@ -177,35 +178,33 @@ def end_session(process: subprocess.Popen[bytes]) -> None:
     process.wait()
 
 
-def check(
-    name: str,
-    page: str,
-    tools: Iterable[str],
-    ports: Iterable[int],
-    names: Mapping[str, str] | None = None,
-    programs: Sequence[str | None] | None = None,
-) -> int:
-    """Run the page's commands in a new folder, in which clients/ and inspect/ are there. Free ports replace the ports that the page names, and other texts the
-    names; `{here}` in such a text is the folder. Without programs the launcher is run.
+def shown(
+    page: str, ports: Iterable[int], names: Mapping[str, str] | None = None
+) -> Iterator[tuple[str, str, str]]:
+    """Run the page's commands in a new folder, in which clients/ and inspect/ are there. For each of them yield where it stands, what the page shows, and what it
+    printed. Free ports replace the ports that the page names, and other texts the names; `{here}` in such a text is the folder.
     """
-    missing = [tool for tool in tools if not shutil.which(tool)]
-    if missing:
-        print(f"{name}: skipped, since {missing[0]} is not installed")
-        return 0
     steps = steps_of(os.path.join(TOP, page))
-    if not steps:
-        raise SystemExit(f"{name}: {page} has no command that can be run")
     with tempfile.TemporaryDirectory() as folder:
         known = {it: value.replace("{here}", folder) for it, value in (names or {}).items()}
         known.update(ports_of(ports))
-        shell = shell_in(folder, *(programs or []))
+        shell = shell_in(folder, *named())
         try:
             for step in steps:
-                check_step(name, page, step, shell, known)
+                yield (f"{page}:{step.line}: {step.command}", *compared(step, shell, known))
         finally:
             shell.end()
-    print(f"{name}: ok, {len(steps)} commands of {page}")
-    return 0
+
+
+def compared(
+    step: Step, shell: Shell, names: dict[str, str], is_exact: bool = False
+) -> tuple[str, str]:
+    """Run a command of a page. Return what the page shows and what came: to the letter if it is exact, else but for what differs each time."""
+    printed = shell.run(replaced(step.command, names))
+    if printed is None:
+        return "an end of the command", f"none within {SECONDS} s"
+    wanted, found = "\n".join(step.wanted).strip("\n"), printed.strip("\n")
+    return (wanted, found) if is_exact else (formed(wanted, names), formed(found, names))
 
 
 def shell_in(folder: str, *programs: str | None) -> Shell:
@@ -245,13 +244,8 @@ def check_step(
     is_told: bool = True,
     is_exact: bool = False,
 ) -> None:
-    """Runs a command of the page, and fails unless it prints what the page shows: to the letter if it is exact, else but for what differs each time."""
-    printed = shell.run(replaced(step.command, names))
-    if printed is None:
-        raise SystemExit(f"{name}: {page}:{step.line}: it doesn't end: {step.command}")
-    wanted, found = "\n".join(step.wanted).strip("\n"), printed.strip("\n")
-    if not is_exact:
-        wanted, found = formed(wanted, names), formed(found, names)
+    """Run a command of the page, and fail unless it prints what the page shows."""
+    wanted, found = compared(step, shell, names, is_exact)
     if wanted != found:
         raise SystemExit(
             f"{name}: {page}:{step.line}: {step.command}\nwanted:\n{wanted}\nfound:\n{found}"

@@ -5,8 +5,14 @@ import subprocess
 
 from checks import TOP
 
-# Another program than that of this folder can be named by this variable.
+# Other programs than those of this folder can be named by these variables.
 PROGRAM = os.environ.get("WEIGHBRIDGE_PROGRAM") or str(TOP / "weighbridge")
+CONVERTER = os.environ.get("WEIGHBRIDGE_CONVERTER_PROGRAM") or str(TOP / "weighbridge-converter")
+
+
+def named() -> list[str]:
+    """Return the programs that the variables name, or none if the launchers are tried."""
+    return [PROGRAM, CONVERTER] if "WEIGHBRIDGE_PROGRAM" in os.environ else []
 
 
 def printed(*words: str, program: str = PROGRAM) -> tuple[int, str, str]:
