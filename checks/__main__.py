@@ -32,6 +32,7 @@ from checks.lib.running import (
     modules_of,
     name_of,
     names_of_checks,
+    use,
     use_debians_python,
 )
 
@@ -162,6 +163,7 @@ def main() -> int:
         return 0
     logs = asked.logs or Path(tempfile.mkdtemp(prefix="checks-"))
     logs.mkdir(parents=True, exist_ok=True)
+    use(asked)
     end_on_signals()
     mark = new_mark()
     try:

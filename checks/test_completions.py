@@ -7,7 +7,7 @@ import subprocess
 from collections.abc import Callable
 
 from checks import TOP
-from checks.lib.case import PROGRAM, Check, needs
+from checks.lib.case import PROGRAM, Check, skip_without
 from checks.lib.program import CONVERTER
 from checks.lib.program import PROGRAM as BUILT
 
@@ -117,14 +117,14 @@ class Completions(Check):
         ):
             self.same(f"{shell}: {what}", wanted, offered(folder, "weighbridge", words))
 
-    @needs("bash")
+    @skip_without("bash")
     def test_bash(self) -> None:
         self.show("bash", offered_by_bash)
 
-    @needs("zsh")
+    @skip_without("zsh")
     def test_zsh(self) -> None:
         self.show("zsh", offered_by_zsh)
 
-    @needs("fish")
+    @skip_without("fish")
     def test_fish(self) -> None:
         self.show("fish", offered_by_fish)

@@ -8,7 +8,7 @@ import unittest
 from collections.abc import Iterator
 
 from checks import TOP
-from checks.lib.case import Check, needs
+from checks.lib.case import Check, skip_without
 
 # Each place: a file, and the text around its version. A number in digits only is 10,000 for the first place, 100 for the second, 1 for the third.
 PLACES = [
@@ -79,7 +79,7 @@ class OneVersion(Check):
         for path, version in places:
             self.same(path, wanted, version)
 
-    @needs("git")
+    @skip_without("git")
     @unittest.skipUnless((TOP / ".git").exists(), "there is no .git")
     def test_commits_of_the_releases(self) -> None:
         ran = subprocess.run([str(TOP / "tools" / "tag_releases"), "--check"], check=False)

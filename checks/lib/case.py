@@ -16,8 +16,10 @@ from checks.lib.waiting import wait_until
 from checks import TOP
 from checks.lib import program
 
-# Set it to keep the folders of a test, also by `--keep`.
+# Set it to keep the folders of a test, as --keep does.
 KEEP = "CHECKS_KEEP"
+# How many times the usual number of random or repeated trials is made, as --times sets it.
+TIMES = "CHECKS_TIMES"
 # What a class needs that tries the built program. `python3 -m checks` builds it first.
 PROGRAM = "the program"
 # Names that stand for more than a command or a module of Python.
@@ -26,6 +28,11 @@ OTHERS: dict[str, tuple[str, Callable[[], bool]]] = {
     "root": ("the check isn't run by root", lambda: os.geteuid() == 0),
     "the kit": ("the kit is not installed", lambda: shutil.which("rt") is not None),
 }
+
+
+def many(usual: int) -> int:
+    """Return how many trials to make, where so many are usual."""
+    return max(1, round(usual * float(os.environ.get(TIMES, 1))))
 
 
 def lacked(names: tuple[str, ...]) -> list[str]:
@@ -38,7 +45,7 @@ def lacked(names: tuple[str, ...]) -> list[str]:
     return words
 
 
-def needs(*names: str) -> Callable[[Any], Any]:
+def skip_without(*names: str) -> Callable[[Any], Any]:
     """Skip a test, or a class, unless this machine has all these commands and modules."""
     words = lacked(names)
     return unittest.skipIf(bool(words), "; ".join(words))

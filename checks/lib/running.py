@@ -12,7 +12,7 @@ from dataclasses import dataclass, field
 from pathlib import Path
 from types import ModuleType, TracebackType
 
-from checks.lib.case import KEEP, Check
+from checks.lib.case import KEEP, TIMES, Check
 from checks.lib.leftovers import end_marked, end_on_signals, new_mark
 
 HERE = Path(__file__).resolve().parent.parent
@@ -169,7 +169,18 @@ def arguments(name: str, words: str | None) -> argparse.ArgumentParser:
     options.add_argument("--slow", action="store_true", help="also those that take long")
     options.add_argument("--list", action="store_true", help="only print the tests' names")
     options.add_argument("--keep", action="store_true", help="keep the folders of the tests")
+    options.add_argument(
+        "--times", type=float, metavar="FACTOR", help="make so many times the usual trials"
+    )
     return options
+
+
+def use(asked: argparse.Namespace) -> None:
+    """Let the tests of this process, and of those below it, do as the options say."""
+    if asked.keep:
+        os.environ[KEEP] = "1"
+    if asked.times is not None:
+        os.environ[TIMES] = str(asked.times)
 
 
 def alone(name: str) -> int:
@@ -187,8 +198,7 @@ def alone(name: str) -> int:
     if asked.list:
         print("\n".join(name_of(it) for each in classes for it in chosen(each, asked.k)))
         return 0
-    if asked.keep:
-        os.environ[KEEP] = "1"
+    use(asked)
     end_on_signals()
     mark = new_mark()
     try:

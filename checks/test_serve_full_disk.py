@@ -1,0 +1,108 @@
+"""Shows that if the disk fills up amid weighings, the service returns 503, the terminal continues, and nothing that was
+answered is lost.
+
+The service may make its files only as long as a limit of the system on the size of a file. The limit represents a full
+disk. The check sends weighings until one returns 503. From then on each request that reads the journal returns 503,
+while the indication and the terminal continue. Under --verbose a line says which fault of the store each is. Once there
+is space and the service was started again, each weighing that returned 201 gets the same text. `weighbridge check`
+finds only these, and at most the one that was refused.
+"""
+
+import os
+import resource
+import signal
+from collections.abc import Callable
+from typing import Any
+
+from checks.lib import bridge
+from checks.lib.case import PROGRAM, Check
+from checks.lib.program import PROGRAM as BUILT
+from checks.lib.waiting import wait_until
+
+LOADS = [0] * 8 + [9_170] * 8
+REFUSED = (503, "refused 15 store\n")
+
+
+def limited(count: int) -> Callable[[], None]:
+    """Let a process write no file longer than this many bytes; a longer write is refused, and doesn't end it."""
+
+    def limit() -> None:
+        signal.signal(signal.SIGXFSZ, signal.SIG_IGN)
+        resource.setrlimit(resource.RLIMIT_FSIZE, (count, count))
+
+    return limit
+
+
+def weigh(service: bridge.Service, number: int) -> bridge.Answer | None:
+    """Ask for a weighing until the bridge is as it must be for it."""
+    body = f"key=K{number}&kind={['first', 'second'][number % 2]}&plate=P-{number // 2}"
+    return wait_until(
+        body,
+        lambda: bridge.post(service, "/weighings", body),
+        lambda it: it is not None and it[0] != 409,
+        60,
+        0,
+    )
+
+
+class ServeFullDisk(Check):
+    """The disk fills up amid weighings."""
+
+    needs = (PROGRAM,)
+    seconds = 30
+
+    def start(self, *options: str, **given: Any) -> bridge.Service:
+        converter = bridge.Converter(400.0, lambda number: LOADS[number % len(LOADS)])
+        return self.enterContext(bridge.Service(BUILT, self.path, converter, *options, **given))
+
+    def fill(self, count: int) -> list[str]:
+        """Weigh until the disk is full, and return the texts of those that returned 201."""
+        log = f"{self.path}-told"
+        with open(log, "w", encoding="ascii") as told:
+            service = self.start("--verbose", limit=limited(count), errors=told)
+        texts: list[str] = []
+        while (answer := weigh(service, len(texts))) and answer[0] == 201:
+            texts.append(answer[1])
+        self.same("a full disk", REFUSED, answer)
+        for method, target in (
+            ("POST", "/purge"),
+            ("GET", "/check"),
+            ("GET", "/journal.csv"),
+            ("GET", "/tickets/2"),
+        ):
+            data = bridge.request_bytes(method, target, "" if method == "POST" else None)
+            self.same(f"{target} after the fault", REFUSED, bridge.exchange(service, data))
+        self.same("a repeated weighing", REFUSED, weigh(service, 0))
+        indication = bridge.get(service, "/indication")
+        self.same("the indication continues", 200, indication and indication[0])
+        with bridge.Terminal(service) as terminal:
+            replies = {terminal.ask("SI")[:3] for _ in range(100)}
+        self.holds("the terminal continues", replies <= {"S S", "S D"}, replies)
+        end = service.end()
+        self.same("the service's status at its end", 0, end[2])
+        with open(log, encoding="ascii") as file:
+            lines = [line.rstrip("\n") for line in file if line.startswith("journal: ")]
+        closed = ["journal: fault of the store 5 closed"] * 5
+        self.same("the log", ["journal: fault of the store 2 disk", *closed], lines)
+        return texts
+
+    def look_again(self, texts: list[str]) -> None:
+        """Start the service with room, and look for each weighing."""
+        service = self.start()
+        for number, text in enumerate(texts):
+            self.same(f"the text of weighing {number}", (201, text), weigh(service, number))
+        sound = [(200, f"SOUND {len(texts) + more}\n") for more in (0, 1)]
+        self.assertIn(bridge.get(service, "/check"), sound, f"after {len(texts)} weighings")
+        service.end()
+
+    def show(self, count: int) -> None:
+        self.path = os.path.join(self.folder(), "journal.db")
+        texts = self.fill(count)
+        self.holds("some weighings fit", texts)
+        self.look_again(texts)
+
+    def test_400_000_bytes(self) -> None:
+        self.show(400_000)
+
+    def test_2_000_000_bytes(self) -> None:
+        self.show(2_000_000)
