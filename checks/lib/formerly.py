@@ -19,7 +19,6 @@ SLOW = {
     "random_requests",
     "replay_against_model",
     "same_package",
-    "serve_long",
     "head_office",
     "head_office_inputs",
     "units_in_trouble",
@@ -33,20 +32,14 @@ ALONE = {
     "serve_bad_clients",
     "serve_held_up",
     "serve_late",
-    "serve_long",
     "serve_repetition",
     "try_replay",
     "wrong_bodies",
 }
 QUICK = {
-    "one_version",
     "python_form",
-    "shell_form",
-    "without_the_kit",
-    "names_in_the_pages",
     "verify",
     "conformity",
-    "tutorial",
     "check_and_export",
 }
 # About how many seconds the others take, if it is more than a minute.
