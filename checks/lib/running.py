@@ -12,6 +12,7 @@ from dataclasses import dataclass, field
 from pathlib import Path
 from types import ModuleType, TracebackType
 
+from checks.lib import showing
 from checks.lib.case import KEEP, TIMES, Check
 from checks.lib.leftovers import end_marked, end_on_signals, new_mark
 
@@ -44,6 +45,7 @@ class Shown(unittest.TestResult):
         super().__init__()
         self.counts = Counts()
         self.parts_failed = 0
+        self.shown_before = 0
 
     def say(self, word: str, what: str, why: str = "") -> None:
         print(f"{word:7} {what}{f': {why}' if why else ''}", flush=True)
@@ -51,6 +53,7 @@ class Shown(unittest.TestResult):
     def startTest(self, test: unittest.TestCase) -> None:
         super().startTest(test)
         self.parts_failed = 0
+        self.shown_before = showing.shown
 
     def addSubTest(  # type: ignore[override]
         self, test: unittest.TestCase, subtest: unittest.TestCase, err: Fault | None
@@ -92,6 +95,7 @@ class Shown(unittest.TestResult):
 
     def stopTest(self, test: unittest.TestCase) -> None:
         super().stopTest(test)
+        self.counts.cases += showing.shown - self.shown_before
         if self.parts_failed:
             self.counts.failed += 1
             self.say("FAILED", name_of(test), f"{self.parts_failed} cases")

@@ -1,44 +1,50 @@
-"""How a check in Python shows what it shows: by a line for each thing, or by both texts where they differ."""
+"""Assertions for functions outside a class. Each shows one thing by a line, or fails with both values."""
 
 import os
 import shutil
 import sys
-import time
 from collections.abc import Callable
 from typing import NoReturn
 
+from checks.lib.waiting import wait_until
+
 NAME = os.path.basename(sys.argv[0])
+# How many were shown in this process.
+shown = 0
 
 
 def skip(why: str) -> NoReturn:
-    """End the check, because this machine lacks something."""
+    """End a check that is a program of its own, because this machine lacks something."""
     print(f"{NAME}: skipped, since {why}")
     raise SystemExit(0)
 
 
 def skip_without(*tools: str) -> None:
-    """Ends the check where a tool is not installed."""
+    """End a check that is a program of its own where a tool is not installed."""
     for tool in tools:
         if shutil.which(tool) is None:
             skip(f"{tool} is not installed")
 
 
 def fail(words: str) -> NoReturn:
-    raise SystemExit(f"{NAME}: {words}")
+    raise AssertionError(words)
+
+
+def ok(what: str) -> None:
+    """Print the line of a thing that was shown."""
+    global shown
+    shown += 1
+    print(f"ok      {what}", flush=True)
 
 
 def same(what: str, wanted: object, found: object) -> None:
-    """Fails where the two differ."""
+    """Fail where the two differ."""
     if wanted != found:
         fail(f"{what}\nwanted: {wanted}\nfound:  {found}")
-    print(f"{what}: ok", flush=True)
+    ok(what)
 
 
 def becomes(what: str, wanted: object, look: Callable[[], object], seconds: float = 20) -> None:
-    """Looks again and again until it finds what is wanted."""
-    until = time.monotonic() + seconds
-    found = look()
-    while found != wanted and time.monotonic() < until:
-        time.sleep(0.05)
-        found = look()
-    same(what, wanted, found)
+    """Look until the wanted value is found."""
+    wait_until(what, look, lambda found: found == wanted, seconds, 0.05)
+    ok(what)
