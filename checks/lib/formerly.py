@@ -30,9 +30,6 @@ ALONE = {
     "converters",
     "same_package",
     "serve_bad_clients",
-    "serve_held_up",
-    "serve_late",
-    "serve_repetition",
     "try_replay",
     "wrong_bodies",
 }

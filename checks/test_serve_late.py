@@ -1,0 +1,391 @@
+"""Shows that nothing is carried out late, whether behind another terminal, a process that was stopped, a thousand silent
+connections, or too many requests.
+
+- A `TA` and a `Z` of clients that waited behind another terminal and left aren't carried out when that one leaves. A
+  client that waits is closed after two seconds, and sees it. A command that waited less is carried out.
+- Four terminals that send nothing wait, and are served one after the other. A fifth is closed.
+- If another terminal waits, a terminal that sends nothing for a minute is disconnected, even a display under `SIR`. If
+  none waits, it stays.
+- A process that was stopped for three seconds drops what the terminal sent meanwhile, and after six what clients
+  requested of the office.
+- Behind a thousand silent connections a weighing is stored within two seconds.
+- Of more requests at once than five seconds of turns answer, each is answered or closed, and none later than it may be.
+  A weighing at their end, whose client gave up, is never stored. One whose client was closed for its age, and sends the
+  same key again, is stored once. At fifty turns a second, five seconds of turns answer more requests than the
+  listener's queue holds, so there the process is stopped for 4.8 seconds first.
+
+The kernel's queue of a listener holds 129 connections, of which the service accepts one for each that it answers. If
+the queue is full, the kernel drops what would complete another connection. The client's system may count that
+connection as made, and the client sends its request. The kernel drops this too, and the client's system sends it again
+after growing pauses. So does the system of a silent client that has left, and its connection takes a place in the queue
+seconds later. The service can't know of a request before it is in the queue. So this check counts the age of a request
+from when /proc/net/tcp shows its first byte in the service's socket.
+"""
+
+import os
+import resource
+import signal
+import socket
+import threading
+import time
+from concurrent.futures import ThreadPoolExecutor
+
+from checks.lib import bridge
+from checks.lib.arrivals import Arrivals
+from checks.lib.case import PROGRAM, Check
+from checks.lib.program import PROGRAM as BUILT
+from checks.lib.showing import becomes, same
+
+# A turn, and what a busy machine adds.
+SLACK = 1.5
+LATE_COMMAND, LATE_REQUEST, IDLE = 2.0, 5.0, 60.0
+# A listener's queue is full once it holds one connection more than this.
+LISTENER = 128
+# Requests that are sent before the weighings behind them: fewer than the queue holds.
+BEFORE = 100
+# Seconds for which the process stands still if five seconds of turns answer more requests than the queue holds.
+STILL = 4.8
+LOADED = "S S      18340 kg"
+
+
+def part(answer: bridge.Answer | None, number: int) -> int | str:
+    """Return the status of an answer, or its body."""
+    return answer[number] if answer else "no answer"
+
+
+def connected(port: int) -> socket.socket:
+    return socket.create_connection((bridge.HOST, port), 20)
+
+
+def left(port: int, data: bytes) -> None:
+    """Connect a client that sends this, and leaves at once."""
+    with connected(port) as stream:
+        stream.sendall(data)
+
+
+def until_closed(stream: socket.socket, seconds: float = 20.0) -> tuple[float | None, bytes]:
+    """Return how long the other side needs to close the connection, and what it sent before. Return None if it doesn't within this many seconds."""
+    began, got = time.monotonic(), b""
+    stream.settimeout(seconds)
+    try:
+        while more := stream.recv(4096):
+            got += more
+    except ConnectionResetError:
+        pass
+    except TimeoutError:
+        return None, got
+    return time.monotonic() - began, got
+
+
+def answered(
+    port: int, data: bytes, sent: list[bytes] | None = None, arrivals: Arrivals | None = None
+) -> tuple[float, int]:
+    """Returns for how many seconds a request was there for the service until it was answered or closed, and the status, which is 0 if it was closed.
+    Notes in `sent` that it was sent."""
+    with connected(port) as stream:
+        client, began = stream.getsockname()[1], time.monotonic()
+        stream.sendall(data)
+        if sent is not None:
+            sent.append(data)
+        _, got = until_closed(stream, 60)
+        now = time.monotonic()
+        since = arrivals.since(client, began) if arrivals else began
+        return now - since, int(got.split()[1]) if got.startswith(b"HTTP/1.1 ") else 0
+
+
+def tare_is(service: bridge.Service, wanted: str, what: str) -> None:
+    """Show by a new terminal that the preset tare is the wanted one."""
+    terminal = bridge.Terminal(service)
+    same(what, wanted, terminal.ask("TA"))
+    terminal.close()
+
+
+def show_waiting_commands(service: bridge.Service, name: str) -> None:
+    """Commands behind another terminal."""
+    service.put(200)
+    first = bridge.Terminal(service)
+    same(f"{name}: the first terminal", 'I4 A "WB01"', first.ask("I4"))
+    left(service.terminal, b"TA 9000 kg\r\n")
+    left(service.terminal, b"Z\r\n")
+    waiting = connected(service.terminal)
+    waiting.sendall(b"TA 9000 kg\r\n")
+    took, got = until_closed(waiting)
+    same(f"{name}: a command that waits is closed without a reply", b"", got)
+    same(
+        f"{name}: after two seconds",
+        True,
+        took is not None and LATE_COMMAND - 0.3 < took < LATE_COMMAND + SLACK,
+    )
+    first.close()
+    terminal = bridge.Terminal(service)
+    same(
+        f"{name}: and isn't carried out, nor are those of clients that left",
+        ["TA A          0 kg", "S S        400 kg"],
+        [terminal.ask("TA"), terminal.ask("SI")],
+    )
+    behind = bridge.Terminal(service)
+    behind.send(b"TA 9000 kg\r\n")
+    terminal.close()
+    same(f"{name}: what waited less is carried out", "TA A       9000 kg", behind.line())
+    same(f"{name}: and cleared", "TAC A", behind.ask("TAC"))
+    behind.close()
+
+
+def show_four(service: bridge.Service, name: str) -> None:
+    """Terminals that say nothing wait."""
+    first = bridge.Terminal(service)
+    first.ask("I4")
+    waiting = [connected(service.terminal) for _ in range(4)]
+    time.sleep(0.3)
+    fifth = connected(service.terminal)
+    took, _ = until_closed(fifth)
+    same(f"{name}: a fifth that waits is closed at once", True, took is not None and took < SLACK)
+    time.sleep(LATE_COMMAND + 1)
+    first.close()
+    for stream in waiting:
+        time.sleep(0.3)
+        stream.sendall(b"I4\r\n")
+        stream.settimeout(5)
+        same(f"{name}: one that waited is served", b'I4 A "WB01"\r\n', stream.recv(4096))
+        stream.close()
+
+
+def show_idle(service: bridge.Service, name: str, command: bytes) -> bridge.Terminal:
+    """Show that a terminal that holds its place and sends nothing more gives way after a minute."""
+    idle = connected(service.terminal)
+    idle.sendall(command)
+    time.sleep(0.5)
+    waiting = bridge.Terminal(service)
+    took, _ = until_closed(idle, IDLE + 10)
+    same(
+        f"{name}: after {command!r} it is disconnected after a minute for another",
+        True,
+        took is not None and IDLE - 1 < took < IDLE + SLACK,
+    )
+    same(f"{name}: which is served", 'I4 A "WB01"', waiting.ask("I4"))
+    return waiting
+
+
+def show_alone(name: str, terminal: bridge.Terminal) -> None:
+    """Show that a terminal stays if nobody waits for it."""
+    time.sleep(IDLE + 3)
+    same(
+        f"{name}: without another it stays longer than a minute", 'I4 A "WB01"', terminal.ask("I4")
+    )
+    terminal.close()
+
+
+def show_stopped(service: bridge.Service, name: str) -> None:
+    """Stop the process while something comes."""
+    service.put(0)
+    service.put(9170)
+    same(
+        f"{name}: a weighing",
+        201,
+        part(bridge.post(service, "/weighings", "key=K1&kind=first&plate=AB-12"), 0),
+    )
+    terminal = bridge.Terminal(service)
+    same(f"{name}: the terminal before", LOADED, terminal.ask("SI"))
+    service.process.send_signal(signal.SIGSTOP)
+    terminal.send(b"TA 9000 kg\r\n")
+    time.sleep(3)
+    service.process.send_signal(signal.SIGCONT)
+    same(
+        f"{name}: stopped for three seconds, the terminal is closed without a reply",
+        b"",
+        until_closed(terminal.stream)[1],
+    )
+    tare_is(service, "TA A          0 kg", f"{name}: and the tare isn't set")
+    service.process.send_signal(signal.SIGSTOP)
+    office = connected(service.office)
+    office.sendall(bridge.request_bytes("POST", "/voids", "key=K2&plate=AB-12"))
+    time.sleep(6)
+    service.process.send_signal(signal.SIGCONT)
+    same(
+        f"{name}: stopped for six seconds, a void is closed without an answer",
+        b"",
+        until_closed(office)[1],
+    )
+    same(f"{name}: and isn't stored", "SOUND 1\n", part(bridge.get(service, "/check"), 1))
+    same(
+        f"{name}: sent again it is",
+        201,
+        part(bridge.post(service, "/voids", "key=K2&plate=AB-12"), 0),
+    )
+
+
+def show_silent(service: bridge.Service, name: str) -> None:
+    """Show that a weighing behind a thousand silent connections is stored."""
+    service.put(0)
+    service.put(9170)
+    silent = []
+    for _ in range(1000):
+        stream = socket.socket()
+        stream.setblocking(False)
+        stream.connect_ex((bridge.HOST, service.office))
+        silent.append(stream)
+    took, status = answered(
+        service.office, bridge.request_bytes("POST", "/weighings", "key=K3&kind=first&plate=CD-34")
+    )
+    print(f"{name}: behind a thousand silent connections it took {took:.2f} s", flush=True)
+    same(f"{name}: the weighing is stored", 201, status)
+    same(f"{name}: in time", True, took < LATE_COMMAND + SLACK)
+    for stream in silent:
+        stream.close()
+
+
+def show_many(service: bridge.Service, rate: float, name: str) -> None:
+    """More requests at once than turns of five seconds answer, and weighings behind them."""
+    service.put(0)
+    service.put(4070)
+    arrivals = Arrivals(service.office)
+    becomes(f"{name}: no connection is left of those before", 0, lambda: unanswered(arrivals), 60)
+    count = int(rate * LATE_REQUEST * 1.4)
+    found: list[tuple[float, int]] = []
+    behind: list[tuple[float, int]] = []
+    sent: list[bytes] = []
+    asking = [
+        threading.Thread(
+            target=lambda: found.append(
+                answered(service.office, bridge.request_bytes("GET", "/indication"), sent, arrivals)
+            ),
+            daemon=True,
+        )
+        for _ in range(count)
+    ]
+    weighing = threading.Thread(
+        target=lambda: behind.append(
+            answered(
+                service.office,
+                bridge.request_bytes("POST", "/weighings", "key=K5&kind=second&plate=CD-34"),
+                sent,
+            )
+        ),
+        daemon=True,
+    )
+    stands_still = count > LISTENER
+    if stands_still:
+        service.process.send_signal(signal.SIGSTOP)
+    until = time.monotonic() + STILL
+    for it in asking[:BEFORE]:
+        it.start()
+    are_sent(name, sent, min(count, BEFORE))
+    left(
+        service.office,
+        bridge.request_bytes("POST", "/weighings", "key=K4&kind=second&plate=CD-34"),
+    )
+    weighing.start()
+    are_sent(name, sent, min(count, BEFORE) + 1)
+    for it in asking[BEFORE:]:
+        it.start()
+    if stands_still:
+        becomes(
+            f"{name}: the listener's queue is full", True, lambda: arrivals.waiting > LISTENER, 5
+        )
+        time.sleep(max(0, until - time.monotonic()))
+        service.process.send_signal(signal.SIGCONT)
+    for it in [weighing, *asking]:
+        it.join(60)
+    arrivals.close()
+    tell_many(name, count, found)
+    same(f"{name}: a weighing behind them is closed", [0], [status for _, status in behind])
+    same(
+        f"{name}: no weighing behind them is stored",
+        "SOUND 3\n",
+        part(bridge.get(service, "/check"), 1),
+    )
+    same(
+        f"{name}: the same key again is",
+        201,
+        part(bridge.post(service, "/weighings", "key=K5&kind=second&plate=CD-34"), 0),
+    )
+    same(
+        f"{name}: and again, it is answered",
+        201,
+        part(bridge.post(service, "/weighings", "key=K5&kind=second&plate=CD-34"), 0),
+    )
+    same(f"{name}: as one entry", "SOUND 4\n", part(bridge.get(service, "/check"), 1))
+
+
+def are_sent(name: str, sent: list[bytes], count: int) -> None:
+    becomes(f"{name}: {count} requests are sent", True, lambda: len(sent) >= count)
+
+
+def unanswered(arrivals: Arrivals) -> int:
+    """Returns the number of connections in the listener's queue, and of sockets of the service and its clients."""
+    arrivals.next_poll()
+    return arrivals.waiting + arrivals.sockets
+
+
+def tell_many(name: str, count: int, found: list[tuple[float, int]]) -> None:
+    """Judges the answers to the requests at once."""
+    kept = [took for took, status in found if status == 200]
+    closed = [took for took, status in found if status == 0]
+    oldest = max(kept, default=0.0)
+    print(
+        f"{name}: of {count} at once {len(kept)} are answered, at most {oldest:.1f} s old, and {len(closed)} closed",
+        flush=True,
+    )
+    same(f"{name}: each is answered or closed", count, len(kept) + len(closed))
+    same(f"{name}: some are answered", True, len(kept) > 0)
+    same(f"{name}: none is answered late", True, oldest < LATE_REQUEST + SLACK)
+    same(f"{name}: some are closed", True, len(closed) > 0)
+
+
+def start(folder: str, rate: float) -> bridge.Service:
+    """Start a service with so many turns a second and an empty bridge."""
+    pace = f"{rate:.0f}"
+    service = bridge.Service(
+        BUILT, os.path.join(folder, f"{pace}.db"), bridge.Played(rate), "--pace", pace
+    )
+    service.put(0)
+    return service
+
+
+class ServeLate(Check):
+    """Commands and requests that wait, at ten turns a second."""
+
+    needs = (PROGRAM,)
+    alone = True
+    seconds = 60
+    rate = 10.0
+
+    def test_commands_and_requests(self) -> None:
+        most = max(4096, resource.getrlimit(resource.RLIMIT_NOFILE)[1])
+        resource.setrlimit(resource.RLIMIT_NOFILE, (4096, most))
+        name = f"{self.rate:.0f} a second"
+        service = self.enterContext(start(self.folder(), self.rate))
+        show_waiting_commands(service, name)
+        show_four(service, name)
+        show_stopped(service, name)
+        show_silent(service, name)
+        show_many(service, self.rate, name)
+        _, err, status = service.end()
+        self.same("the service's end", (0, ""), (status, err))
+
+
+class ServeLateAtFifty(ServeLate):
+    """The same at fifty turns a second."""
+
+    rate = 50.0
+
+
+class IdleTerminals(Check):
+    """Terminals that hold their place for a minute. Both rates run at once, because almost all of it is waiting."""
+
+    needs = (PROGRAM,)
+    alone = True
+    seconds = 190
+
+    def show(self, rate: float) -> tuple[int, str]:
+        name = f"{rate:.0f} a second"
+        with start(self.folder(), rate) as service:
+            show_idle(service, name, b"I4\r\n").close()
+            show_alone(name, show_idle(service, name, b"SIR\r\n"))
+            _, err, status = service.end()
+        return status, err
+
+    def test_idle_terminals(self) -> None:
+        with ThreadPoolExecutor(2) as pool:
+            for rate, end in zip((10, 50), pool.map(self.show, (10.0, 50.0))):
+                self.same(f"{rate} a second: the service's end", (0, ""), end)
