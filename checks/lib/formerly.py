@@ -50,7 +50,6 @@ SECONDS = {
     "paper": 350,
     "demo": 300,
     "units": 250,
-    "broken_files": 200,
 }
 # The end, or the beginning, of a line that reports a case.
 CASE = re.compile(r"ok\b|.*(?:[:,] ok(?: \(.*\))?|\| ok \|)$")

@@ -19,3 +19,10 @@ def printed(*words: str, program: str = PROGRAM) -> tuple[int, str, str]:
     """Return the status of a run, and what it printed and reported."""
     it = subprocess.run([program, *words], stdin=subprocess.DEVNULL, capture_output=True, text=True)
     return it.returncode, it.stdout, it.stderr
+
+
+def compiled() -> str:
+    """Return the program itself, which the launcher of this folder runs."""
+    if PROGRAM != str(TOP / "weighbridge"):
+        return PROGRAM
+    return str(TOP / "crates" / "weighbridge" / "out" / "weighbridge")
