@@ -1,0 +1,1201 @@
+"""Shows that the inspectors' reader reports each kind of falsification, by the journal, a printout or an older export.
+
+- The reader finds no fault in sound journals of both versions, after a purge, and if only the log has the last entries.
+- It reports rows and tables that no service wrote, and a view without end. It reports entries that were changed, removed or chained again, and
+  spent keys that are made up. If the journal doesn't show a change, the digest of a printout or an older export does.
+- It reports a log that is cut at any frame or within a frame, and a flipped bit in the header or any part of any frame. It reports a log that is
+  gone or is another journal's, and a journal that is behind its witness. It accepts frames that an earlier log left.
+- Without a whole witness, for example with only the journal's file, it says that it didn't examine the end.
+- It confirms each printout that has the digest of a sound entry. If a digest differs, it names both causes: digests were computed again, or the printout
+  is false. If a known number above it fits, and the chain between them is whole, it says that the change was before that number was printed.
+- The second verifier, inspect/verify.c, prints the same and ends with the same status. So it does with odd fields and exports, and with some hundred
+  files that were changed by chance. It never reads memory that isn't its own. If the program is built, its check agrees with both about
+  each journal without a log.
+- inspect/mend_log.py repairs one bit in each damaged frame and in the header, and says what is still wrong with the copy. It returns status 1 then,
+  and if the program refuses the copy.
+"""
+
+import atexit
+import csv
+import functools
+import glob
+import hashlib
+import os
+import shutil
+import sqlite3
+import struct
+import subprocess
+import sys
+import tempfile
+from collections.abc import Mapping
+from typing import NoReturn
+
+from verify import COUNT, Log, checksum
+
+from checks import TOP
+from checks.lib.case import Check
+from checks.lib.journal import ZEROS, digest_of, make_journal, newest_line, write_newest
+from checks.lib.second_verifier import (
+    Second,
+    agree_with_check,
+    said_by_both,
+    show_damage_by_chance,
+    show_odd_exports,
+    show_odd_fields,
+    show_odd_numbers,
+)
+from checks.lib.showing import fail, ok
+
+Digests = dict[int, str]  # those of a journal's entries, by number
+# A name, places, the bytes that are put there (None cuts the log), and the number of the frame that the readers name.
+Row = tuple[str, int | tuple[int, ...], bytes | None, int | None]
+
+
+@functools.cache
+def second() -> Second:
+    """Compile the second verifier, once."""
+    folder = tempfile.TemporaryDirectory()
+    atexit.register(folder.cleanup)
+    return Second(folder.name)
+
+
+COLUMNS = [
+    "number",
+    "key",
+    "kind",
+    "plate",
+    "moment",
+    "gross_kg",
+    "preset_kg",
+    "interval_kg",
+    "max_kg",
+    "serial",
+    "digest",
+    "previous",
+]
+ENDLESS = "CREATE VIEW journal AS WITH RECURSIVE r(n) AS (SELECT 1 UNION ALL SELECT n + 1 FROM r) SELECT n AS number FROM r"
+PURGE = "INSERT INTO spent SELECT request_key, number FROM journal WHERE number < 4; DELETE FROM journal WHERE number < 4"
+# Tables that take a text as a number, as no service makes them.
+LOOSE = """ALTER TABLE journal RENAME TO strict_journal; DROP TABLE spent; CREATE TABLE spent (request_key TEXT, number INTEGER);
+CREATE TABLE journal (number INTEGER, request_key TEXT, kind INTEGER, plate TEXT, moment INTEGER, gross_kg INTEGER, preset_kg INTEGER,
+interval_kg INTEGER, max_kg INTEGER, serial TEXT, digest TEXT, previous TEXT); INSERT INTO journal SELECT * FROM strict_journal; DROP TABLE strict_journal"""
+# A script that changes a journal of eight entries, and the beginning of what the reader prints. An empty text means that it finds no fault.
+FALSIFIED = [
+    ("", ""),
+    (PURGE, ""),
+    ("UPDATE journal SET gross_kg = 18360 WHERE number = 3", "number 3 doesn't fit its digest"),
+    ("DELETE FROM journal WHERE number = 3", "number 3 is missing"),
+    ("DELETE FROM journal WHERE number BETWEEN 3 AND 6", "numbers 3 to 6 are missing"),
+    ("DELETE FROM journal WHERE number < 4", "numbers 1 to 3 are missing"),
+    (f"{PURGE}; DELETE FROM spent", "numbers 1 to 3 are missing"),
+    ("INSERT INTO spent VALUES ('X1', 9)", "spent number 9 isn't below each stored entry"),
+    ("INSERT INTO spent VALUES ('X1', 4294967295)", "spent number 4294967295 isn't below"),
+    (
+        f"{PURGE}; UPDATE spent SET request_key = 'K8' WHERE number = 1",
+        "spent number 1 isn't below each stored entry, or an entry has its key",
+    ),
+    (
+        f"{PURGE}; UPDATE spent SET request_key = 'K 1' WHERE number = 1",
+        "spent number 1 is no spent key",
+    ),
+    ("UPDATE journal SET kind = 5 WHERE number = 2", "number 2 is no entry"),
+    (
+        "UPDATE journal SET kind = 2, preset_kg = NULL WHERE number = 2",
+        "number 2 doesn't fit its digest\nnumber 2 has no First",
+    ),
+    (
+        "UPDATE journal SET moment = moment + 100 WHERE number = 2",
+        "number 2 doesn't fit its digest\nnumber 3 is older than the one before",
+    ),
+    (
+        "UPDATE journal SET previous = digest WHERE number = 5",
+        "number 5 doesn't fit its digest\nnumber 5 isn't chained to number 4",
+    ),
+    (
+        f"{LOOSE}; UPDATE journal SET moment = 'x' WHERE number = 2",
+        "number 2 is no entry: a field isn't within its limits\nentries: 8",
+    ),
+    (
+        f"{LOOSE}; UPDATE journal SET number = char(27) || '[2J' WHERE number = 8",
+        "number '\\x1b[2J' is no entry: a field isn't within its limits\nnumber 8 is the newest that ",
+    ),
+    (
+        f"{LOOSE}; INSERT INTO spent VALUES ('X1', char(27))",
+        "spent number '\\x1b' is no spent key: a field isn't within its limits\nentries: 8",
+    ),
+    ("DROP TABLE spent", "REFUSED it has no table spent"),
+    (f"DROP TABLE journal; {ENDLESS}", "REFUSED it has no table journal"),
+    ("UPDATE about SET value = 3", "REFUSED its table about says neither version"),
+    (
+        "ALTER TABLE journal ADD COLUMN note TEXT",
+        "not examined: the column 'note' of the table journal, which no service makes\nentries: 8, faults: 0",
+    ),
+    ("ALTER TABLE journal DROP COLUMN plate", "REFUSED its table journal has no column plate TEXT"),
+]
+
+
+def differs(what: str, wanted: object, found: object) -> NoReturn:
+    fail(f"{what}\nwanted: {wanted!r}\nfound:  {found!r}")
+
+
+def said_of(path: str, *words: str) -> str:
+    it = said_by_both(second(), [path, *words])
+    out, err = it.stdout.decode(), it.stderr.decode()
+    if it.returncode == 2 and not out:
+        return err.replace(f"verify.py: {path}: ", "REFUSED ")
+    faults, is_unknown = int(out.rstrip().rpartition(" ")[2]), "\nnot examined: " in f"\n{out}"
+    if it.returncode != (faults > 0 or is_unknown):
+        differs(f"the status of {out}", faults > 0 or is_unknown, it.returncode)
+    if not words:
+        agree_with_check(second(), path, out)
+    return out if it.returncode else ""
+
+
+def tells(what: str, wanted: str, found: str) -> None:
+    """Fail if `found` doesn't begin with `wanted`, or isn't empty if `wanted` is."""
+    if not (found.startswith(wanted) if wanted else found == ""):
+        differs(what, wanted, found)
+    ok(what or "nothing")
+
+
+def run(path: str, script: str) -> None:
+    database = sqlite3.connect(path)
+    database.executescript(script)
+    database.close()
+
+
+def bytes_below(folder: str) -> dict[str, str]:
+    return {
+        name: hashlib.sha256(open(f"{folder}/{name}", "rb").read()).hexdigest()
+        for name in sorted(os.listdir(folder))
+    }
+
+
+def chained_anew(path: str, since: int) -> None:
+    """Changes the plate of an entry, and makes its digest and that of each one above it anew."""
+    database, previous = sqlite3.connect(path), ZEROS
+    for number, key, plate, moment, gross, preset, most, serial in database.execute(
+        "SELECT number, request_key, plate, moment, gross_kg, preset_kg, max_kg, serial FROM journal ORDER BY number"
+    ).fetchall():
+        plate = "OTHER" if number == since else plate
+        digest = digest_of(
+            number,
+            key,
+            "single",
+            plate,
+            moment,
+            gross,
+            preset,
+            most=most,
+            serial=serial,
+            previous=previous,
+        )
+        database.execute(
+            "UPDATE journal SET plate = ?, previous = ?, digest = ? WHERE number = ?",
+            (plate, previous, digest, number),
+        )
+        previous = digest
+    database.commit()
+    database.close()
+
+
+def copy_journal(path: str, to: str) -> None:
+    for end in ("", "-wal", "-newest"):
+        if os.path.exists(path + end):
+            shutil.copy(path + end, to + end)
+
+
+def digest_in(path: str, number: int) -> str:
+    database = sqlite3.connect(path)
+    (found,) = database.execute("SELECT digest FROM journal WHERE number = ?", (number,)).fetchone()
+    database.close()
+    return str(found)
+
+
+def show_witnesses(folder: str, kept: str, digests: Digests) -> None:
+    """Show what the reader says about each kind of `-newest` file, the witness."""
+    path = f"{folder}/witness.db"
+    shutil.copy(kept, path)
+    whole, torn = newest_line(8, digests[8]), newest_line(8, digests[8]).replace(
+        "newest 0000000008", "newest 0000000009"
+    )
+    for what, letters, wanted in (
+        (
+            "a journal whose witness is missing",
+            None,
+            f"not examined: whether entries are missing at the end, because {path}-newest isn't there",
+        ),
+        (
+            "one whose witness is empty",
+            "",
+            f"not examined: whether entries are missing at the end, because {path}-newest is empty",
+        ),
+        (
+            "one whose witness is torn in both lines",
+            torn * 2,
+            f"not examined: whether entries are missing at the end, because {path}-newest has no whole line",
+        ),
+        (
+            "one whose witness is torn in its first line",
+            torn + whole,
+            f"not examined: whether entries are missing at the end, because {path}-newest has only one whole line",
+        ),
+        (
+            "one whose witness is torn in its second line",
+            whole + torn,
+            f"not examined: whether entries are missing at the end, because {path}-newest has only one whole line",
+        ),
+        (
+            "one whose witness is cut to a line",
+            whole,
+            f"not examined: whether entries are missing at the end, because {path}-newest has only one whole line",
+        ),
+        (
+            "one whose witness is torn in one line and behind",
+            newest_line(7, digests[7]) + torn,
+            f"not examined: whether entries are missing at the end, because {path}-newest names number 7",
+        ),
+        (
+            "one whose witness is behind",
+            2 * newest_line(3, digests[3]),
+            f"not examined: whether entries are missing at the end, because {path}-newest names number 3",
+        ),
+        (
+            "one whose witness is a new journal's",
+            2 * newest_line(0, ZEROS),
+            f"not examined: whether entries are missing at the end, because {path}-newest names number 0",
+        ),
+        (
+            "one whose witness names its last two entries",
+            newest_line(8, digests[8]) + newest_line(7, digests[7]),
+            "",
+        ),
+        ("one whose witness has a number without a digest", 2 * newest_line(8, ZEROS), ""),
+        (
+            "one whose witness is ahead",
+            whole + newest_line(9, digests[8]),
+            f"number 9 is the newest that {path}-newest recorded, but the greatest number is 8",
+        ),
+        (
+            "one whose witness is ahead by many",
+            2 * newest_line(60, digests[8]),
+            f"number 60 is the newest that {path}-newest recorded, but the greatest number is 8",
+        ),
+        (
+            "one whose witness has another entry",
+            2 * newest_line(8, digests[7]),
+            f"number 8 differs from the entry that {path}-newest recorded",
+        ),
+    ):
+        if letters is None:
+            for it in glob.glob(f"{path}-newest"):
+                os.remove(it)
+        else:
+            with open(f"{path}-newest", "w", encoding="ascii") as file:
+                file.write(letters)
+        tells(what, wanted, said_of(path))
+    with open(f"{path}-newest", "w", encoding="ascii") as file:
+        file.write(2 * whole)
+    os.symlink(path, f"{folder}/link.db")
+    tells("a symbolic link to a journal", "", said_of(f"{folder}/link.db"))
+
+
+def with_log(path: str, entries: int, is_restarted: bool = False) -> dict[str, bytes]:
+    """Make a journal with its tables in its file and its entries in its log, one in each commit, as a kill leaves it.
+
+    Return the content of its files by their endings. If `is_restarted`, restart the log before its last two entries, so that older frames follow.
+    """
+    make_journal(f"{path}-made", entries)
+    source = sqlite3.connect(f"{path}-made")
+    rows = source.execute("SELECT * FROM journal ORDER BY number").fetchall()
+    source.close()
+    make_journal(path, 0)
+    database = sqlite3.connect(path, isolation_level=None)
+    for it in ("journal_mode = WAL", "wal_autocheckpoint = 0"):
+        database.execute(f"PRAGMA {it}")
+    for at, row in enumerate(rows):
+        if is_restarted and at == entries - 2:
+            database.execute("PRAGMA wal_checkpoint(RESTART)")
+        database.execute(f"INSERT INTO journal VALUES ({','.join('?' * 12)})", row)
+    write_newest(path, entries, rows[-1][10])
+    files = {end: open(path + end, "rb").read() for end in ("", "-wal", "-newest")}
+    database.close()
+    return files
+
+
+def said_of_files(folder: str, files: Mapping[str, bytes | None]) -> str:
+    """Return what the reader says about these files. Fail if it changes them."""
+    path = f"{folder}/files.db"
+    for end in ("", "-wal", "-newest"):
+        if os.path.exists(path + end):
+            os.remove(path + end)
+        if files.get(end) is not None:
+            with open(path + end, "wb") as file:
+                file.write(files[end] or b"")
+    said = said_of(path)
+    for end, data in files.items():
+        if data is not None and open(path + end, "rb").read() != data:
+            differs("the reader changed the files", end, "")
+    return said.replace(path, "files.db")
+
+
+def show_logs(folder: str) -> None:
+    files = with_log(f"{folder}/logged.db", 6)
+    log = files["-wal"]
+    page = int.from_bytes(log[8:12], "big")
+    borders = range(32, len(log) + 1, 24 + page)
+    tells("a journal whose entries are only in the log", "", said_of_files(folder, files))
+    ends = [at for at in borders[1:] if any(log[at - page - 20 : at - page - 16])]
+    for at in borders[:-1]:
+        entries = sum(it <= at for it in ends)
+        tells(
+            f"its log cut at byte {at}, the end of a frame",
+            f"number 6 is the newest that files.db-newest recorded, but the greatest number is {entries}, so the last answered entries are gone\n",
+            said_of_files(folder, files | {"-wal": log[:at]}),
+        )
+    for at in (0, 20, 31, borders[0] + 10, borders[1] - 1, borders[-2] + 24, len(log) - 1):
+        tells(
+            f"its log cut at byte {at}, within a frame",
+            "number 6 is the newest that files.db-newest recorded",
+            said_of_files(folder, files | {"-wal": log[:at]}),
+        )
+    tells(
+        "its log is gone",
+        "number 6 is the newest that files.db-newest recorded, but the greatest number is 0, so "
+        "the last answered entries are gone; or they are in files.db-wal, which isn't there: copy "
+        "all files of the journal\n",
+        said_of_files(folder, files | {"-wal": None}),
+    )
+    bare = f"{folder}/bare.db"
+    sqlite3.connect(bare).close()
+    write_newest(bare, 6, ZEROS)
+    tells(
+        "no table, and no log",
+        f"number 6 is the newest that {bare}-newest recorded, but the greatest number is 0, so the last answered entries are gone; or they are in {bare}-wal, which isn't there: copy all files of the journal\nnot examined: whether this is a journal, because it has none of the tables; they may be in {bare}-wal, which isn't there: copy all files of the journal\n",
+        said_of(bare),
+    )
+    tells(
+        "only the file",
+        "not examined: whether entries are missing at the end, because files.db-newest isn't there",
+        said_of_files(folder, {"": files[""]}),
+    )
+    tells(
+        "only the file and its log",
+        "not examined: whether",
+        said_of_files(folder, files | {"-newest": None}),
+    )
+    for bit in (0, 7, 8 * 5, 8 * 9 + 4, 8 * 16, 8 * 20 + 3, 8 * 24, 8 * 31 + 7):
+        tells(
+            f"bit {bit} of the log's header is flipped",
+            "files.db-wal: its header is damaged",
+            said_of_files(folder, files | {"-wal": turned(log, bit)}),
+        )
+    for at in borders[:-1]:
+        for part, inside in (
+            ("page number", 3),
+            ("size", 7),
+            ("salt", 9),
+            ("second salt", 15),
+            ("checksum", 17),
+            ("page", 24),
+            ("page", 24 + 1500),
+            ("page", 24 + page - 1),
+        ):
+            wanted = f"files.db-wal: it is damaged, in the frame from byte {at}: no entry in it is read, nor in the {len(borders) - 2 - borders.index(at)} frames behind it"
+            tells(
+                f"a bit of the {part} of the frame from byte {at} is flipped",
+                wanted,
+                said_of_files(folder, files | {"-wal": turned(log, 8 * (at + inside) + 5)}),
+            )
+    stale = with_log(f"{folder}/restarted.db", 6, is_restarted=True)
+    same_salts = {
+        stale["-wal"][at + 8 : at + 16] == stale["-wal"][16:24]
+        for at in range(32, len(stale["-wal"]), 24 + page)
+    }
+    tells(
+        "the log has frames of its own and of an older one",
+        "",
+        "" if same_salts == {True, False} else "it has not",
+    )
+    tells("frames that an older log left are no damage", "", said_of_files(folder, stale))
+    emptied = files | {"": bytes(len(files[""]))}
+    tells(
+        "a damaged log without whose entries the file is no journal",
+        "REFUSED files.db-wal: its header is damaged",
+        said_of_files(folder, emptied | {"-wal": turned(log, 8 * 9)}),
+    )
+    first = turned(stale["-wal"], 8 * (32 + 24 + 700))
+    tells(
+        "but a flipped bit before them is",
+        "files.db-wal: it is damaged, in the frame from byte 32",
+        said_of_files(folder, stale | {"-wal": first}),
+    )
+    other = with_log(f"{folder}/other.db", 9)
+    tells(
+        "the log of another journal",
+        "number 6 differs from the entry that files.db-newest recorded",
+        said_of_files(folder, files | {"-wal": other["-wal"]}),
+    )
+    tells(
+        "a journal that was cut to nothing, with its log",
+        "REFUSED",
+        said_of_files(folder, files | {"": b""}).replace(
+            "files.db-wal: the journal next to it is empty", "REFUSED"
+        ),
+    )
+
+
+def show_pages(folder: str) -> None:
+    """Show that a journal has the pages that its header and its log name, as the program wants it."""
+    make_journal(f"{folder}/paged.db", 6)
+    with open(f"{folder}/paged.db", "rb") as file:
+        data = file.read()
+    logged = with_log(f"{folder}/paged_log.db", 6)
+    whole, log = logged[""], logged["-wal"]
+    page = int.from_bytes(data[16:18], "big")
+    count, there = len(data) // page, len(whole) // page
+    # the version of a program is a number in the first page
+    database = sqlite3.connect(f"{folder}/paged.db", isolation_level=None)
+    for it in ("journal_mode = WAL", "wal_autocheckpoint = 0", "user_version = 7"):
+        database.execute(f"PRAGMA {it}")
+    with open(f"{folder}/paged.db-wal", "rb") as file:
+        first_page = file.read()
+    with open(f"{folder}/paged.db", "rb") as file:
+        beside = file.read()
+    database.close()
+    refused = "files.db: its header names {} pages, and it has {}, so the program refuses it"
+    changed = (
+        "files.db: bytes 92 to 95 of its header aren't bytes 24 to 27, so the program refuses it"
+    )
+    for what, main_file, wal, wanted in (
+        ("a page more", data + bytes(page), None, refused.format(count, count + 1)),
+        ("bytes behind the last page", data + b"x", None, ""),
+        ("a byte less", data[:-1], None, refused.format(count, count - 1)),
+        ("no number of pages", data[:28] + bytes(4) + data[32:], None, refused.format(0, count)),
+        ("another last change", data[:92] + b"abcd" + data[96:], None, changed),
+        ("its log", whole, log, ""),
+        ("a page more, and its log", whole + bytes(page), log, ""),
+        (
+            "a byte less, and its log",
+            whole[:-1],
+            log,
+            f"files.db: its page {there} isn't whole, so the program refuses it",
+        ),
+        (
+            "another last change, and a log that has the first page",
+            beside[:92] + b"abcd" + beside[96:],
+            first_page,
+            "",
+        ),
+        ("another last change, and its log", whole[:92] + b"abcd" + whole[96:], log, changed),
+        (
+            "a page more, and a log that was shut",
+            data + bytes(page),
+            bytes(60),
+            refused.format(count, count + 1),
+        ),
+    ):
+        found = said_of_files(folder, {"": main_file, "-wal": wal})
+        told = "".join(f"{it}\n" for it in found.splitlines() if "so the program refuses it" in it)
+        if told != (wanted and f"{wanted}\n"):
+            differs(f"a journal with {what}", wanted, found)
+        ok(f"a journal with {what}")
+
+
+PAGE, FILE, SALTS = 512, 1024, bytes([7, 1, 2, 3, 4, 5, 6, 9])
+FRAMES = [32 + it * (24 + PAGE) for it in range(6)]
+
+
+def service_log(is_spilled: bool = False) -> bytes:
+    """Make a log as the service writes it.
+
+    It has a commit of two syncs, two commits of one sync, each with a frame that counts its zeros, and then zeros. If `is_spilled`, a transaction that
+    didn't fit into memory follows the first commit instead, in three commits, of which only the first has a frame that is opened later.
+    """
+    page = bytes(16) + bytes([5]) * (PAGE - 16)
+    head = struct.pack(">4I", 0x377F0682, 3007000, PAGE, 0) + SALTS
+    total = checksum("<", (0, 0), head)
+    log = head + struct.pack(">2I", *total)
+    counting = (2 * 16 - 8 + (COUNT - 1) + (COUNT - 2)).to_bytes(8, "big") + page[8:]
+    behind = [(COUNT, 0, counting), (1, 2, page)] * 2
+    if is_spilled:
+        behind = [(1, 0, page), (2, 2, page), (1, 2, page), (2, 2, page)]
+    for number, size, content in ((1, 0, page), (2, 2, page), *behind):
+        front = struct.pack(">2I", number, size)
+        total = checksum("<", total, front + content)
+        log += front + SALTS + struct.pack(">2I", *total) + content
+    return log + bytes(2 * (24 + PAGE))
+
+
+def show_what_a_power_cut_leaves() -> None:
+    """Show that a power cut's changes to the last commit are no damage, and that other changes are.
+
+    A power cut takes bytes of the last commit, which are 0 then, because the service wrote it over zeros.
+
+    Each row has a name, the place, the new bytes (None cuts the log there), and the number of the frame that the reader names. -1 stands for the
+    header, and None for no damage.
+    """
+    whole, frame = service_log(), FRAMES
+    rows: list[Row] = [
+        ("nothing", 0, b"", None),
+        ("a byte of the header", 5, b"\x09", -1),
+        ("a salt of the header", 16, b"\x08", -1),
+        ("a header that a checkpoint shut", 0, b"\0", None),
+        ("a header's first byte", 0, b"\x01", -1),
+        ("a page behind which commits stand", frame[0] + 224, b"\x09", 0),
+        ("a checksum behind which commits stand", frame[1] + 20, b"\x09", 1),
+        ("bytes lost of a commit behind which another stands", frame[3] + 224, bytes(9), 3),
+        ("a gate that is shut before a commit that is open", frame[2] + 8, b"\0", 2),
+        ("a gate that is damaged", frame[2] + 8, b"\x06", 2),
+        ("a salt lost before a commit that is open", frame[2] + 8, bytes(8), 2),
+        ("a lost frame of a commit of two syncs", frame[0], bytes(24 + PAGE), 0),
+        ("another lost frame of it", frame[1], bytes(24 + PAGE), 1),
+        ("a lost frame that counts, before another commit", frame[2], bytes(24 + PAGE), 2),
+        ("a lost end of a commit before another", frame[3], bytes(24 + PAGE), 3),
+        ("a lost commit before another", frame[2], bytes(2 * (24 + PAGE)), 2),
+        ("a commit of two syncs, shut before others", frame[0] + 8, b"\0", 0),
+        ("the last frame shut", frame[5] + 8, b"\0", None),
+        ("one salt of the last frame is another", frame[5] + 9, b"\x09\x09\x09", 5),
+        ("the last commit shut", frame[4] + 8, b"\0", None),
+        ("the last commit lost", frame[4], bytes(2 * (24 + PAGE)), None),
+        ("its last frame lost", frame[5], bytes(24 + PAGE), None),
+        ("bytes of its page lost", frame[5] + 224, bytes(9), None),
+        ("a byte of its checksum lost", frame[5] + 16, b"\0", None),
+        ("its count lost", frame[4] + 24, bytes(8), None),
+        ("another byte in its page", frame[5] + 224, b"\x09", 5),
+        ("another byte in its salt", frame[5] + 9, b"\x09", 5),
+        ("another byte in its number", frame[4] + 3, b"\x01", 4),
+        ("another byte in its count", frame[4] + 24, b"\x01", 4),
+        ("the end of the file within a frame", frame[5] + 500, None, None),
+        ("a frame of a log before this one at the end", frame[4] + 8, b"\x07\x01\x02\x02abcd", 4),
+        (
+            "frames of a log before this one at the end",
+            (frame[4] + 8, frame[5] + 8),
+            b"\x07\x01\x02\x02abcd",
+            None,
+        ),
+    ]
+    spilled: list[Row] = [
+        ("nothing", 0, b"", None),
+        ("its shut gate", frame[2] + 8, b"\0", None),
+        ("its lost first frame", frame[2], bytes(24 + PAGE), None),
+        ("a shut frame within its first commit", frame[3] + 8, b"\0", 3),
+        ("a lost frame before it", frame[1], bytes(24 + PAGE), 1),
+        ("salts of a log before this one", frame[2] + 8, b"\x07\x01\x02\x02abcd", 2),
+    ]
+    # frames of a transaction that was never opened, behind the zeros of the last commit or within them
+    behind = service_log(True)[frame[2] : frame[4]] + service_log(True)[frame[2] : frame[4]]
+    unopened = [
+        (whole + bytes(length - len(whole) + frame[4]) + behind, what, at, new, wanted)
+        for length, what, at, new, wanted in (
+            (
+                600 * (24 + PAGE),
+                "a page lost before frames that weren't opened",
+                frame[5] + 224,
+                bytes(9),
+                None,
+            ),
+            (
+                600 * (24 + PAGE),
+                "a last commit lost before them",
+                frame[4],
+                bytes(2 * (24 + PAGE)),
+                None,
+            ),
+            (600 * (24 + PAGE), "another byte before them", frame[5] + 224, b"\x09", 5),
+            (
+                60 * (24 + PAGE),
+                "a page lost within its zeros before them",
+                frame[5] + 224,
+                bytes(9),
+                5,
+            ),
+        )
+    ]
+    for log, what, at, new, wanted in [
+        *unopened,
+        *((whole, *it) for it in rows),
+        *(
+            (service_log(True), f"a transaction that didn't fit, {it[0]},", *it[1:])
+            for it in spilled
+        ),
+    ]:
+        data = bytearray(log)
+        for place in at if isinstance(at, tuple) else (at,):
+            data[place : None if new is None else place + len(new)] = new or b""
+        found = Log(bytes(data)).damage(FILE)
+        is_so = (
+            found is None
+            if wanted is None
+            else "header is damaged" in (found or "")
+            if wanted < 0
+            else f"from byte {frame[wanted]}:" in (found or "")
+        )
+        if not is_so:
+            differs(f"{what} in a log of the service", wanted, found)
+        # next to a file that is no database, so that both say what they find in the log
+        with tempfile.TemporaryDirectory() as folder:
+            for end, content in (("", bytes(FILE)), ("-wal", bytes(data))):
+                with open(f"{folder}/service.db{end}", "wb") as file:
+                    file.write(content)
+            said_by_both(second(), [f"{folder}/service.db"])
+        ok(f"{what} in a log of the service")
+    for size, length, is_damaged in (
+        (0, len(whole), True),
+        (511, len(whole), True),
+        (0, 56, True),
+        (0, 55, True),
+        (0, 31, False),
+        (FILE, 55, False),
+    ):
+        if (Log(whole[:length]).damage(size) is not None) != is_damaged:
+            differs(f"a log of {length} bytes with a file of {size}", is_damaged, not is_damaged)
+    # a right header counts without a file, whatever length of a page it names
+    odd = struct.pack(">4I", 0x377F0682, 3007000, 100, 0) + SALTS
+    odd += struct.pack(">2I", *checksum("<", (0, 0), odd)) + bytes(9)
+    if Log(odd).damage(0) is None:
+        differs("a right header with an odd length of a page, without a file", True, False)
+    with tempfile.TemporaryDirectory() as folder:
+        for end, content in (("", b""), ("-wal", odd)):
+            with open(f"{folder}/odd.db{end}", "wb") as file:
+                file.write(content)
+        if said_by_both(second(), [f"{folder}/odd.db"]).returncode == 0:
+            differs("both verifiers, of a right header without a file", "refused", "accepted")
+    ok("a log with a file that was cut")
+
+
+def mended(
+    folder: str, files: Mapping[str, bytes | None], program: str | None = None
+) -> tuple[int, str, bytes | None]:
+    """Run inspect/mend_log.py. Return its status, what it prints, and the log that it makes, or None if it makes none."""
+    path, copy = f"{folder}/damaged.db", f"{folder}/repaired"
+    for end in ("", "-wal", "-newest"):
+        if os.path.exists(path + end):
+            os.remove(path + end)
+        if files.get(end) is not None:
+            with open(path + end, "wb") as file:
+                file.write(files[end] or b"")
+    words = [
+        sys.executable,
+        f"{TOP}/inspect/mend_log.py",
+        path,
+        copy,
+        *(["--program", program] if program else []),
+    ]
+    it = subprocess.run(
+        words, capture_output=True, text=True, timeout=300, env={**os.environ, "PATH": "/nowhere"}
+    )
+    for end, data in files.items():
+        if data is not None and open(path + end, "rb").read() != data:
+            differs("the files were changed in place", end, "")
+    log = None
+    if os.path.exists(copy):
+        with open(f"{copy}/damaged.db-wal", "rb") as file:
+            log = file.read()
+        shutil.rmtree(copy)
+    return it.returncode, it.stdout + it.stderr, log
+
+
+def show_mending(folder: str) -> None:
+    """Show which flipped bits inspect/mend_log.py finds, and what it says is still wrong."""
+    files = with_log(f"{folder}/mending.db", 6)
+    log = files["-wal"]
+    page = int.from_bytes(log[8:12], "big")
+    frame = [32 + it * (24 + page) for it in range((len(log) - 32) // (24 + page))]
+    bit_in = {it: 8 * (at + 24 + 1700) + it % 8 for it, at in enumerate(frame)}
+    for what, bits in (
+        ("a flipped bit", [bit_in[2]]),
+        ("one in the header", [8 * 9 + 4]),
+        ("one in the last frame", [bit_in[len(frame) - 1]]),
+        ("one in the salt", [8 * (frame[3] + 9) + 1]),
+        ("one in a checksum", [8 * (frame[3] + 18) + 1]),
+        ("two, in frames far from each other", [bit_in[1], bit_in[6]]),
+        ("two, in frames side by side", [bit_in[4], bit_in[5]]),
+        ("three, and one in the header", [8 * 5, bit_in[0], bit_in[1], bit_in[7]]),
+    ):
+        damaged = log
+        for bit in bits:
+            damaged = turned(damaged, bit)
+        status, said, found = mended(folder, files | {"-wal": damaged})
+        if (status, found) != (0, log) or said.count(" was flipped: ") != len(bits):
+            differs(f"{what} is repaired", 0, (status, said))
+        ok(f"repaired: {what}")
+    damaged = turned(log, bit_in[2])
+    refuses, takes = (played_program(folder, it) for it in ("refuses", "takes"))
+    ahead = newest_line(7, digest_in(f"{folder}/mending.db-made", 6)).encode() * 2
+    not_mended: list[tuple[str, dict[str, bytes], str | None, str, bool]] = [
+        (
+            "a copy that lacks an answered entry",
+            {"-newest": ahead},
+            None,
+            "still wrong: number 7 is the newest that the copy-newest recorded, but the greatest number is 6",
+            True,
+        ),
+        (
+            "a copy that the program refuses",
+            {},
+            refuses,
+            f"still wrong: {refuses} check --file {folder}/repaired/damaged.db: store 2 disk",
+            True,
+        ),
+        (
+            "a copy for which there is no such program",
+            {},
+            "/nowhere/weighbridge",
+            "still wrong: /nowhere/weighbridge can't be run",
+            True,
+        ),
+        (
+            "two bits in one frame",
+            {"-wal": turned(damaged, bit_in[2] + 800)},
+            None,
+            "nothing was written: in the frame from byte",
+            False,
+        ),
+        (
+            "two in one frame behind one that is repaired",
+            {"-wal": turned(turned(damaged, bit_in[5]), bit_in[5] + 800)},
+            None,
+            "nothing was written: in the frame from byte",
+            False,
+        ),
+        (
+            "a log that isn't damaged",
+            {"-wal": log},
+            None,
+            "nothing was written: no frame of the log is damaged",
+            False,
+        ),
+        (
+            "a log that was cut at the end of a frame",
+            {"-wal": log[: frame[4]]},
+            None,
+            "nothing was written: no frame of the log is damaged",
+            False,
+        ),
+        (
+            "a log that was cut within a frame",
+            {"-wal": log[: frame[4] + 99]},
+            None,
+            "nothing was written: no frame of the log is damaged",
+            False,
+        ),
+        (
+            "a file that was cut below a page",
+            {"": files[""][:99]},
+            None,
+            "nothing was written: 1 flipped bits are found, and the program still refuses the log: the journal next to it is empty or was cut",
+            False,
+        ),
+        (
+            "a file that was cut to nothing",
+            {"": b""},
+            None,
+            "nothing was written: the journal's file is missing or empty",
+            False,
+        ),
+    ]
+    for what, given, program, wanted, is_made in not_mended:
+        status, said, found = mended(folder, files | {"-wal": damaged} | given, program)
+        if status != 1 or wanted not in said or (found is not None) != is_made:
+            differs(
+                f"{what} isn't a repaired one",
+                (1, wanted, is_made),
+                (status, said, found is not None),
+            )
+        ok(f"not repaired: {what}")
+    status, said, found = mended(folder, files | {"-wal": damaged}, takes)
+    if (status, found) != (0, log):
+        differs("a copy that the program takes", 0, (status, said))
+    status, said, found = mended(folder, files | {"-wal": None})
+    if (status, found) != (2, None) or "damaged.db-wal: No such file" not in said:
+        differs("a log that is gone", 2, (status, said))
+    ok("a copy that the program takes, and a log that is gone")
+
+
+def played_program(folder: str, what: str) -> str:
+    """Write a program that accepts each journal if `what` is `takes`, and refuses each if it is `refuses`."""
+    path = f"{folder}/{what}"
+    with open(path, "w", encoding="ascii") as file:
+        file.write(f"#!/bin/sh\n[ {what} = takes ] && exit 0\necho store 2 disk >&2\nexit 1\n")
+    os.chmod(path, 0o700)
+    return path
+
+
+def turned(data: bytes, bit: int) -> bytes:
+    """Return the data with one bit turned over."""
+    found = bytearray(data)
+    found[bit // 8] ^= 1 << bit % 8
+    return bytes(found)
+
+
+def show_papers(folder: str, kept: str, digests: Digests) -> None:
+    """Printouts of purged entries, and two digests of one number: an export, a second printout or neither must not hide the false one."""
+    purged, export = f"{folder}/purged.db", f"{folder}/export.csv"
+    copy_journal(kept, purged)
+    run(purged, PURGE)
+    for what, path, words, wanted in (
+        ("a paper of a purged entry, and an export that has it", purged, ("2", digests[2]), ""),
+        (
+            "a false paper of a purged entry, and an export that has it",
+            purged,
+            ("2", ZEROS),
+            f"number 2 has different digests in --known and {export}: one of them is false",
+        ),
+        (
+            "a false paper of a stored entry, and an export that has it",
+            kept,
+            ("7", ZEROS),
+            f"number 7 has different digests in --known and {export}: one of them is false",
+        ),
+    ):
+        tells(what, wanted, said_of(path, "--known", *words, "--against", export))
+    for both in ((digests[7], ZEROS), (ZEROS, digests[7])):
+        known = [word for digest in both for word in ("--known", "7", digest)]
+        tells(
+            "two papers of one number",
+            "number 7 has different digests in --known and --known: one of them is false",
+            said_of(kept, *known),
+        )
+    tells(
+        "a false paper, and no export",
+        "number 7 doesn't have the known digest",
+        said_of(kept, "--known", "7", ZEROS),
+    )
+
+
+FALSE = "the given digest was mistyped or isn't of this journal"
+AGAIN, PRINTED = "digests were computed again", "was printed or exported"
+# A script that changes a journal of eight entries, the numbers that are known with the right digest and with another one, and all that the reader prints.
+KNOWN: list[tuple[str, list[int], list[int], str]] = [
+    ("", [7], [], "number 7 has the known digest\nentries: 8, faults: 0"),
+    (
+        "",
+        [3, 8],
+        [7],
+        f"number 7 doesn't have the known digest: {AGAIN} after number 3, at the latest from number 7 on, and before number 8 {PRINTED}, or {FALSE}\n"
+        "number 3 has the known digest\nnumber 8 has the known digest\nentries: 8, faults: 1",
+    ),
+    (
+        "",
+        [8],
+        [5, 6],
+        f"number 5 doesn't have the known digest (and 1 more): {AGAIN}, perhaps from the oldest entry on, at the latest from number 5 on, and before number 8 {PRINTED}, or {FALSE}\n"
+        "number 8 has the known digest\nentries: 8, faults: 1",
+    ),
+    (
+        "",
+        [],
+        [7],
+        f"number 7 doesn't have the known digest: {AGAIN}, perhaps from the oldest entry on, at the latest from number 7 on, or {FALSE}\n"
+        "entries: 8, faults: 1",
+    ),
+    (
+        "",
+        [2, 3],
+        [6, 7],
+        f"number 6 doesn't have the known digest (and 1 more): {AGAIN} after number 3, at the latest from number 6 on, or {FALSE}\n"
+        "number 2 has the known digest\nnumber 3 has the known digest\nentries: 8, faults: 1",
+    ),
+    (
+        "",
+        [6],
+        [4, 7],
+        f"number 4 doesn't have the known digest: {AGAIN}, perhaps from the oldest entry on, at the latest from number 4 on, and before number 6 {PRINTED}, or {FALSE}\n"
+        f"number 7 doesn't have the known digest: {AGAIN} after number 6, at the latest from number 7 on, or {FALSE}\n"
+        "number 6 has the known digest\nentries: 8, faults: 2",
+    ),
+    (
+        "UPDATE journal SET gross_kg = 18360 WHERE number = 7",
+        [2, 7, 8],
+        [5],
+        "number 7 doesn't fit its digest\n"
+        f"number 5 doesn't have the known digest: {AGAIN} after number 2 and before number 7, at the latest from number 5 on, or {FALSE}\n"
+        "number 2 has the known digest\nnumber 8 has the known digest\nentries: 8, faults: 2",
+    ),
+    (
+        "UPDATE journal SET gross_kg = 18360 WHERE number = 8",
+        [8],
+        [7],
+        "number 8 doesn't fit its digest\n"
+        f"number 7 doesn't have the known digest: {AGAIN} before number 8, perhaps from the oldest entry on, at the latest from number 7 on, or {FALSE}\n"
+        "entries: 8, faults: 2",
+    ),
+    (
+        "UPDATE journal SET gross_kg = 18360 WHERE number = 2",
+        [8],
+        [5],
+        "number 2 doesn't fit its digest\n"
+        f"number 5 doesn't have the known digest: {AGAIN}, perhaps from the oldest entry on, at the latest from number 5 on, and before number 8 {PRINTED}, or {FALSE}\n"
+        "number 8 has the known digest\nentries: 8, faults: 2",
+    ),
+    (
+        "DELETE FROM journal WHERE number = 7",
+        [8],
+        [5],
+        "number 7 is missing\n"
+        f"number 5 doesn't have the known digest: {AGAIN} before number 8, perhaps from the oldest entry on, at the latest from number 5 on, or {FALSE}\n"
+        "number 8 has the known digest\nentries: 7, faults: 2",
+    ),
+    (
+        "DELETE FROM journal WHERE number = 3",
+        [3],
+        [],
+        "number 3 is missing\nthe known number 3 is missing: it was removed, and not by a purge\nentries: 7, faults: 2",
+    ),
+    (
+        "",
+        [],
+        [9, 12],
+        "the known number 9 is missing (and 1 more): it was removed, or was never in this journal, whose greatest number is 8\nentries: 8, faults: 1",
+    ),
+    (
+        PURGE,
+        [3],
+        [],
+        "number 3 was purged, and number 4 holds its known digest\nentries: 5, faults: 0",
+    ),
+    (
+        PURGE,
+        [],
+        [3],
+        f"number 4 isn't chained to the known number 3: number 4 was changed or replaced, or {FALSE}\nentries: 5, faults: 1",
+    ),
+    (
+        PURGE,
+        [4],
+        [3],
+        f"number 4 isn't chained to the known number 3: {AGAIN} before number 4 {PRINTED}, or {FALSE}\n"
+        "number 4 has the known digest\nentries: 5, faults: 1",
+    ),
+    (
+        f"{PURGE}; UPDATE journal SET gross_kg = 18360 WHERE number = 4",
+        [3, 8],
+        [],
+        "number 4 doesn't fit its digest\nnumber 8 has the known digest\nentries: 5, faults: 1",
+    ),
+]
+
+
+def show_known(folder: str, kept: str, digests: Digests) -> None:
+    """Show all that the readers print about printouts and exports, even if each of them is genuine."""
+    path, export = f"{folder}/known.db", f"{folder}/export.csv"
+
+    def is_said(what: str, wanted: str, *words: str) -> None:
+        it = said_by_both(second(), [path, *words])
+        found = (it.stdout or it.stderr).decode().replace(folder, "")
+        if found != f"{wanted}\n":
+            differs(what, wanted, found)
+        ok(what)
+
+    def words_of(right: list[int], other: list[int]) -> list[str]:
+        known = [(number, digests.get(number, ZEROS)) for number in right]
+        known += [(number, ZEROS) for number in other]
+        return [word for number, digest in known for word in ("--known", str(number), digest)]
+
+    for script, right, other, wanted in KNOWN:
+        copy_journal(kept, path)
+        run(path, script)
+        is_said(f"known: {right} right, {other} not; {script}f", wanted, *words_of(right, other))
+    # digests were computed again after 7 was printed and before 8 was: the printout of 7 is genuine, and must not be called false
+    copy_journal(kept, path)
+    chained_anew(path, 5)
+    write_newest(path, 8, digest_in(path, 8))
+    is_said(
+        "a printout from before a change, and one that the service made after it",
+        f"number 7 doesn't have the known digest: {AGAIN} after number 4, at the latest from number 7 on, and before number 8 {PRINTED}, or {FALSE}\n"
+        "number 4 has the known digest\nnumber 8 has the known digest\nentries: 8, faults: 1",
+        *("--known", "4", digests[4], "--known", "7", digests[7]),
+        *("--known", "8", digest_in(path, 8)),
+    )
+    copy_journal(kept, path)
+    is_said(
+        "an export that fits, named twice",
+        "/export.csv: 8 of 8 digests are those of stored entries\nentries: 8, faults: 0",
+        *("--against", export) * 2,
+    )
+    run(path, PURGE)
+    is_said(
+        "a printout of a purged entry, and an export that has it",
+        "number 2 was purged, and /export.csv has its known digest\n"
+        "/export.csv: 5 of 8 digests are those of stored entries\nentries: 5, faults: 0",
+        *("--known", "2", digests[2], "--against", export),
+    )
+    run(path, "UPDATE journal SET gross_kg = 18360 WHERE number = 5")
+    is_said(
+        "an export of an entry that was changed, and kept its digest",
+        "number 5 doesn't fit its digest\n/export.csv: 4 of 8 digests are those of stored entries\nentries: 5, faults: 1",
+        *("--against", export),
+    )
+    os.remove(path)
+    make_journal(path, 8, version=1)
+    write_newest(path, 8, ZEROS)
+    is_said(
+        "a journal of version 1, whose entries aren't chained",
+        f"number 7 doesn't have the known digest: {AGAIN} before number 8, perhaps from the oldest entry on, at the latest from number 7 on, or {FALSE}\n"
+        "number 8 has the known digest\nentries: 8, faults: 1",
+        *("--known", "8", digest_in(path, 8), "--known", "7", ZEROS),
+    )
+    wanted = "type all 64 of 0 to 9 and a to f, in small letters and without blanks"
+    for digest, what in (
+        (digests[3].upper(), "a character that no digest has"),
+        (digests[3][:4] + " " + digests[3][4:], "65 characters"),
+        (digests[3][:62] + "é", "63 characters"),
+        (digests[3][:63] + "é", "a character that no digest has"),
+    ):
+        is_said(
+            f"a digest with {what}",
+            f"verify.py: /known.db: --known: the digest of number 3 has {what}: {wanted}",
+            *("--known", "3", digest),
+        )
+
+
+class Verify(Check):
+    """What both readers say of journals that were changed in each way."""
+
+    needs = ("cc",)
+    seconds = 60
+
+    def setUp(self) -> None:
+        self.box = self.folder()
+        self.kept = f"{self.box}/kept.db"
+        make_journal(self.kept, 8)
+        database = sqlite3.connect(self.kept)
+        rows = database.execute("SELECT * FROM journal ORDER BY number").fetchall()
+        database.close()
+        self.digests: Digests = {row[0]: row[10] for row in rows}
+        write_newest(self.kept, 8, self.digests[8])
+        with open(f"{self.box}/export.csv", "w", newline="", encoding="utf-8") as file:
+            csv.writer(file).writerows([COLUMNS, *rows])
+
+    def test_scripts(self) -> None:
+        folder, kept = self.box, self.kept
+        for at, (script, wanted) in enumerate(FALSIFIED):
+            path = f"{folder}/{at}/journal.db"
+            os.mkdir(f"{folder}/{at}")
+            copy_journal(kept, path)
+            run(path, script)
+            before = bytes_below(f"{folder}/{at}")
+            tells(script, wanted, said_of(path))
+            if before != bytes_below(f"{folder}/{at}"):
+                differs(
+                    f"{script}: the reader changed the files", before, bytes_below(f"{folder}/{at}")
+                )
+
+    def test_version_1_and_no_file(self) -> None:
+        folder = self.box
+        old = f"{folder}/old.db"
+        make_journal(old, 8, version=1)
+        write_newest(old, 8, ZEROS)
+        tells("a journal of version 1", "", said_of(old))
+        tells("no file", "REFUSED it isn't there", said_of(f"{folder}/none.db"))
+
+    def test_change_in_the_log(self) -> None:
+        folder, kept = self.box, self.kept
+        os.mkdir(f"{folder}/log")
+        path = f"{folder}/log/journal.db"
+        copy_journal(kept, path)
+        database = sqlite3.connect(path)
+        database.execute("PRAGMA journal_mode = WAL")
+        database.execute("UPDATE journal SET gross_kg = 18360 WHERE number = 8")
+        database.commit()
+        before = bytes_below(f"{folder}/log")
+        tells("a change that is only in the log", "number 8 doesn't fit its digest", said_of(path))
+        if before != bytes_below(f"{folder}/log"):
+            differs("a log: the reader changed the files", before, bytes_below(f"{folder}/log"))
+        database.close()
+
+    def test_chain_that_was_made_again(self) -> None:
+        folder, kept, digests = self.box, self.kept, self.digests
+        anew = f"{folder}/anew.db"
+        copy_journal(kept, anew)
+        chained_anew(anew, 4)
+        tells(
+            "a chain that was made again, with its witness from before",
+            f"number 8 differs from the entry that {anew}-newest recorded",
+            said_of(anew),
+        )
+        write_newest(anew, 8, digest_in(anew, 8))
+        tells("a new chain, with a new witness and without a printout", "", said_of(anew))
+        tells("with a paper from before it", "", said_of(anew, "--known", "3", digests[3]))
+        for what, number, digest, wanted in (
+            ("a digest that was shortened", "3", digests[3][:8], "the digest of number 3 has 8 "),
+            ("a digest with points", "3", f"{digests[3][:4]}..", "the digest of number 3 has "),
+            ("a digest with a capital", "3", "A" + digests[3][1:], "the digest of number 3 has "),
+            ("a number that is none", "x", digests[3], "x is no number of an entry"),
+            ("a number past the last", "4294967296", digests[3], "4294967296 is no number"),
+        ):
+            tells(what, f"REFUSED --known: {wanted}", said_of(anew, "--known", number, digest))
+        known = ["--known", "2", digests[2], "--known", "7", digests[7]]
+        tells(
+            "with papers of both sides",
+            "number 7 doesn't have the known digest: digests were computed again after number 2, at the latest from number 7 on",
+            said_of(anew, *known),
+        )
+        tells(
+            "with an older export",
+            "number 4 doesn't have the known digest (and 4 more): digests were computed again after number 3,",
+            said_of(anew, "--against", f"{folder}/export.csv"),
+        )
+        run(anew, PURGE)
+        tells("the oldest moved among the spent, without a printout", "", said_of(anew))
+        unknown = "not examined: whether the printout of number 2 is genuine, because its entry was purged"
+        tells("with a paper of one of them", unknown, said_of(anew, "--known", "2", digests[2]))
+        tells("with a false paper of one of them", unknown, said_of(anew, "--known", "2", ZEROS))
+        chained_anew(anew, 5)
+        write_newest(anew, 8, digest_in(anew, 8))
+        tells(
+            "with the last of them, to which what stands isn't chained",
+            "number 4 isn't chained to the known number 3",
+            said_of(anew, "--known", "3", digests[3]),
+        )
+
+    def test_newest_entries_removed(self) -> None:
+        folder, kept, digests = self.box, self.kept, self.digests
+        newest = f"{folder}/newest.db"
+        copy_journal(kept, newest)
+        run(newest, "DELETE FROM journal WHERE number > 6")
+        tells(
+            "the newest entries removed, with their witness",
+            f"number 8 is the newest that {newest}-newest recorded, but the greatest number is 6",
+            said_of(newest),
+        )
+        write_newest(newest, 6, digests[6])
+        tells("the newest entries removed, with a new witness", "", said_of(newest))
+        tells(
+            "with an older export that has them",
+            "the known number 7 is missing (and 1 more): it was removed",
+            said_of(newest, "--against", f"{folder}/export.csv"),
+        )
+        tells(
+            "no export",
+            "REFUSED",
+            said_of(kept, "--against", kept).replace(f"verify.py: {kept}: ", "REFUSED "),
+        )
+
+    def test_printouts(self) -> None:
+        show_papers(self.box, self.kept, self.digests)
+        show_known(self.box, self.kept, self.digests)
+
+    def test_witnesses(self) -> None:
+        show_witnesses(self.box, self.kept, self.digests)
+
+    def test_logs(self) -> None:
+        show_logs(self.box)
+
+    def test_pages(self) -> None:
+        show_pages(self.box)
+
+    def test_what_a_power_cut_leaves(self) -> None:
+        show_what_a_power_cut_leaves()
+
+    def test_mending(self) -> None:
+        show_mending(self.box)
+
+    def test_odd_exports_numbers_and_fields(self) -> None:
+        show_odd_exports(second(), self.box, self.kept, self.digests[3])
+        show_odd_numbers(second(), self.kept, self.digests[3])
+        show_odd_fields(second(), self.box)
+
+    def test_damage_by_chance(self) -> None:
+        show_damage_by_chance(second(), self.box, with_log)
