@@ -17,6 +17,7 @@ import shutil
 import subprocess
 import sys
 import tempfile
+from collections.abc import Callable, Sequence
 
 sys.path.insert(0, os.path.dirname(os.path.dirname(os.path.dirname(os.path.abspath(__file__)))))
 from checks.lib import bridge  # noqa: E402
@@ -30,8 +31,8 @@ LINES_A_SECOND = 1000.0
 FILES, EXPORTS = (".db", ".db-wal"), (".journal.csv", ".tickets.csv")
 
 
-def unpack(name, path, ends=FILES):
-    """Puts the two files of a journal that is kept at this path."""
+def unpack(name: str, path: str, ends: Sequence[str] = FILES) -> None:
+    """Put the two files of a journal that is kept at this path."""
     for end in ends:
         with gzip.open(os.path.join(KEPT, f"{name}{end}.gz")) as packed, open(
             path.removesuffix(".db") + end, "wb"
@@ -39,8 +40,8 @@ def unpack(name, path, ends=FILES):
             shutil.copyfileobj(packed, file)
 
 
-def export_of(name, what):
-    """What the program 1.0.0 exported of a journal that is kept."""
+def export_of(name: str, what: str) -> str:
+    """Return what the program 1.0.0 exported of a journal that is kept."""
     with gzip.open(os.path.join(KEPT, f"{name}.{what}.csv.gz"), "rt") as packed:
         return packed.read()
 
@@ -48,7 +49,7 @@ def export_of(name, what):
 class Bridge:
     """A bridge of version 1, at which one vehicle after another is weighed."""
 
-    def __init__(self, program, path, clock):
+    def __init__(self, program: str, path: str, clock: str) -> None:
         os.environ |= {
             "LD_PRELOAD": glob.glob(LIBRARY)[0],
             "FAKETIME": clock,
@@ -60,60 +61,58 @@ class Bridge:
         for name in ("LD_PRELOAD", "FAKETIME", "DONT_FAKE_MONOTONIC"):
             del os.environ[name]
 
-    def ask(self, command, wanted):
-        terminal = bridge.Terminal(self.service)
-        found = terminal.ask(command)
-        terminal.close()
+    def ask(self, command: str, wanted: str) -> None:
+        with bridge.Terminal(self.service) as terminal:
+            found = terminal.ask(command)
         if found != wanted:
             raise SystemExit(f"{command}: {found}")
 
-    def enter(self, key, kind, plate, load):
-        """Weighs a vehicle, or voids an open weighing."""
+    def enter(self, key: str, kind: str, plate: str, load: int = 0) -> None:
+        """Weigh a vehicle, or void an open weighing."""
         if kind == "void":
             target, body = "/voids", f"key={key}&plate={plate}"
         else:
             target, body = "/weighings", f"key={key}&kind={kind}&plate={plate}"
             self.service.put(0)
             self.service.put(load)
-        status, text = bridge.post(self.service, target, body)
-        if status != 201:
-            raise SystemExit(f"{key}: {status} {text}")
+        answer = bridge.post(self.service, target, body)
+        if answer is None or answer[0] != 201:
+            raise SystemExit(f"{key}: {answer}")
 
-    def pairs(self, first, last):
+    def pairs(self, first: int, last: int) -> None:
         for number in range(first, last + 1):
             self.enter(f"F{number}", "first", f"P-{number}", 9000 + number)
             self.enter(f"S{number}", "second", f"P-{number}", 4000 + number)
 
-    def singles(self, first, last):
+    def singles(self, first: int, last: int) -> None:
         self.service.put(0)
         self.ask("TA 5003 kg", "TA A       5000 kg")
         for number in range(first, last + 1):
             self.enter(f"T{number}", "single", f"T-{number % 5000}", 6000 + 20 * (number % 1000))
         self.ask("TAC", "TAC A")
 
-    def voids(self, first, last):
+    def voids(self, first: int, last: int) -> None:
         for number in range(first, last + 1):
             self.enter(f"W{number}", "first", f"V-{number}", 7000 + number)
-            self.enter(f"V{number}", "void", f"V-{number}", None)
+            self.enter(f"V{number}", "void", f"V-{number}")
 
-    def stop(self):
-        self.service.kill()
-        self.converter.close()
+    def stop(self) -> None:
+        self.service.close()
 
 
-def make_none(program, path):
+def make_none(program: str, path: str) -> None:
     Bridge(program, path, SPRING).stop()
 
 
-def make_pair(program, path):
+def make_pair(program: str, path: str) -> None:
     it = Bridge(program, path, SPRING)
     it.enter("K1", "first", "AB-12", 9170)
     it.enter("K2", "second", "AB-12", 4070)
     it.stop()
 
 
-def make_purged(program, path):
-    """300 entries, of which those below 281 were purged."""
+def make_purged(program: str, path: str) -> None:
+    """Make 300 entries, of which those below 281 are purged."""
     it = Bridge(program, path, SPRING)
     it.pairs(1, 100)
     it.singles(1, 60)
@@ -125,20 +124,24 @@ def make_purged(program, path):
     it.voids(11, 12)
     it.enter("O1", "first", "O-1", 8000)
     it.enter("O2", "first", "O-2", 8100)
-    status, text = bridge.post(it.service, "/purge")
+    answer = bridge.post(it.service, "/purge")
     it.stop()
-    if (status, text) != (200, "PURGED 280\n"):
-        raise SystemExit(f"purge: {status} {text}")
+    if answer != (200, "PURGED 280\n"):
+        raise SystemExit(f"purge: {answer}")
 
 
-def make_many(program, path, entries):
+def make_many(program: str, path: str, entries: int) -> None:
     it = Bridge(program, path, SPRING)
     it.singles(1, entries)
     it.stop()
 
 
-def make_all(program, folder, entries=None):
-    makers = {"none": make_none, "pair": make_pair, "purged": make_purged}
+def make_all(program: str, folder: str, entries: str = "") -> None:
+    makers: dict[str, Callable[[str, str], None]] = {
+        "none": make_none,
+        "pair": make_pair,
+        "purged": make_purged,
+    }
     if entries:
         makers = {"many": lambda program, path: make_many(program, path, int(entries))}
     os.makedirs(folder, exist_ok=True)
@@ -159,16 +162,17 @@ def make_all(program, folder, entries=None):
                 pack(folder, name + end, os.path.join(here, name + end))
 
 
-def pack(folder, name, path):
+def pack(folder: str, name: str, path: str) -> None:
     with open(path, "rb") as file, open(os.path.join(folder, name + ".gz"), "wb") as packed:
         packed.write(gzip.compress(file.read(), mtime=0))
 
 
-def main(word, *words):
+def main(word: str, *words: str) -> None:
     if word == "make":
         make_all(*words)
     elif word == "unpack":
-        unpack(*words, ends=FILES + EXPORTS)
+        name, path = words
+        unpack(name, path, ends=FILES + EXPORTS)
     else:
         raise SystemExit(__doc__)
 
