@@ -553,16 +553,18 @@ class KilledService(Check):
     """A journal that was weighed into over kills: power cuts, flipped bits, and files that don't belong to each other."""
 
     needs = (PROGRAM, "strace")
-    seconds = 900
+    seconds = 700
 
-    def test_power_cuts_and_damage(self) -> None:
+    def test_power_cuts(self) -> None:
+        name = "weighings, and starts after kills"
+        show_power_cuts(self.folder(), name, weighed(self.folder()), many(5_000))
+
+    def test_damage(self) -> None:
         history = weighed(self.folder())
         entries = len(history.asked)
-        name = "weighings, and starts after kills"
-        disk = show_power_cuts(self.folder(), name, history, many(5_000))
-        file, log = disk.whole("file") or b"", disk.whole("log") or b""
+        file, log, witness = (read(history.path + end) or b"" for end in ENDS)
         box = self.folder()
-        show_flips(box, file, log, disk.whole("witness"), entries, many(2_000))
+        show_flips(box, file, log, witness, entries, many(2_000))
         show_lost_frames(box, file, log)
         show_not_mended(box, file, log)
         show_mended_twice(box, file, log, entries)
