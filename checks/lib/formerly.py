@@ -14,10 +14,7 @@ NO_CHECKS = {"all", "gate"}
 # They run only with --slow.
 SLOW = {
     "agreement",
-    "library_against_model",
-    "office_without_memory",
     "random_requests",
-    "replay_against_model",
     "same_package",
     "head_office",
     "head_office_inputs",
@@ -30,22 +27,17 @@ ALONE = {
     "converters",
     "same_package",
     "serve_bad_clients",
-    "try_replay",
     "wrong_bodies",
 }
 QUICK = {
     "python_form",
-    "verify",
     "conformity",
     "check_and_export",
 }
 # About how many seconds the others take, if it is more than a minute.
 SECONDS = {
-    "lost_entries": 1500,
     "counter": 1500,
     "store_in_sqlite3": 600,
-    "replay_without_memory": 500,
-    "store_without_memory": 450,
     "release": 400,
     "paper": 350,
     "demo": 300,

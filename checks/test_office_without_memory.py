@@ -1,0 +1,36 @@
+"""Shows that an office request whose allocations are refused is answered 15 or as usual, that nothing is lost, and that
+nothing is stored twice. It takes ten minutes.
+
+It builds a small program in a temporary folder, in minutes if the gate has run here.
+"""
+
+from checks import TOP
+from checks.lib.built_over import build_over
+from checks.lib.case import Check
+from checks.lib.refusing import Refusing, last_lines
+
+LIBRARIES = [
+    "wb_instrument",
+    "wb_journal",
+    "wb_office",
+    "wb_scale",
+    "wb_store",
+    "wb_window",
+    "sqlite",
+]
+
+
+class OfficeWithoutMemory(Check):
+    """A small program over the crates, each of whose allocations is refused."""
+
+    needs = ("cc", "the kit")
+    slow = True
+    seconds = 600
+
+    def test_each_allocation(self) -> None:
+        folder = self.folder()
+        source = TOP / "checks" / "lib" / "office_days.text"
+        program = build_over("office_days", folder, source, LIBRARIES)
+        counts = last_lines(Refusing(folder), program)
+        print(counts)
+        self.holds("a request answered 15", counts.get("done after a refusal"), counts)
