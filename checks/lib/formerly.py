@@ -13,8 +13,6 @@ from checks import TOP
 NO_CHECKS = {"all", "gate"}
 # They run only with --slow.
 SLOW = {
-    "agreement",
-    "random_requests",
     "same_package",
     "head_office",
     "head_office_inputs",
