@@ -27,7 +27,7 @@ PLACES = [
     ("docs/library.md", r"\b\d+ for (\d+\.\d+\.\d+)"),
     ("counter/openapi.json", r'^    "version": "(.*)"'),
     ("clients/openapi.json", r'^    "version": "(.*)"'),
-    ("checks/check_and_export", r"^expect 'version' 0 \"weighbridge (\S+)"),
+    ("checks/test_check_and_export.py", r'version = "weighbridge (\S+)"'),
 ]
 # The pages' output of the program, and the names of packages in them; not the reports of another program, and not the upgrade from 1.0.0.
 SHOWN = re.compile(
