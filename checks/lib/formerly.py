@@ -30,12 +30,10 @@ ALONE = {
 QUICK = {
     "python_form",
     "conformity",
-    "check_and_export",
 }
 # About how many seconds the others take, if it is more than a minute.
 SECONDS = {
     "counter": 1500,
-    "store_in_sqlite3": 600,
     "release": 400,
     "paper": 350,
     "demo": 300,

@@ -80,7 +80,7 @@ TARGETS = [
 class Maker:
     """Makes one random trace, step by step, with a drifting clock and load."""
 
-    def __init__(self, source):
+    def __init__(self, source: random.Random) -> None:
         self.random = source
         pick = self.random.choice
         self.interval = pick([1, 2, 5, 10, 20, 20, 50])
@@ -458,7 +458,7 @@ class Maker:
             data += b"z" * 9000
         return data or b"\n"
 
-    def trace(self):
+    def trace(self) -> bytes:
         pick = self.random.choice
         lines = []
         for _ in range(pick([5, 20, 40, 60])):
