@@ -22,7 +22,7 @@ from pathlib import Path
 
 from checks.lib import formerly
 from checks.lib.case import PROGRAM
-from checks.lib.leftovers import end_marked, end_on_signals, new_mark
+from checks.lib.leftovers import Stopped, end_marked, new_mark, stop_on_signals
 from checks.lib.running import (
     COUNTS,
     Counts,
@@ -38,6 +38,7 @@ from checks.lib.running import (
 
 from checks import TOP
 
+running: list[subprocess.Popen[bytes]] = []
 # A class that takes no longer begins before all others, so that a mistake shows early.
 QUICK = 10
 
@@ -102,14 +103,16 @@ def run(unit: Unit, logs: Path) -> Counts:
     else:
         with open(log, "w", encoding="utf-8") as file:
             try:
-                status = subprocess.run(
+                process = subprocess.Popen(
                     unit.words,
                     stdin=subprocess.DEVNULL,
                     stdout=file,
                     stderr=subprocess.STDOUT,
                     env={**os.environ, COUNTS: str(counted)},
                     start_new_session=True,
-                ).returncode
+                )
+                running.append(process)
+                status = process.wait()
             except OSError as error:
                 status = error
         if counted.exists():
@@ -164,12 +167,29 @@ def main() -> int:
     logs = asked.logs or Path(tempfile.mkdtemp(prefix="checks-"))
     logs.mkdir(parents=True, exist_ok=True)
     use(asked)
-    end_on_signals()
+    stop_on_signals()
     mark = new_mark()
     try:
         return run_all(picked, logs, asked.at_once, not asked.checks)
+    except Stopped as why:
+        print(f"stopped by {why}", flush=True)
+        return why.status
     finally:
-        end_marked(mark)
+        end_running(mark)
+
+
+def end_running(mark: str) -> None:
+    """Let each unit that runs clean up, for ten seconds at most, and kill what is left of all."""
+    begun = [it for it in running if it.poll() is None]
+    for it in begun:
+        it.terminate()
+    until = time.monotonic() + 10
+    for it in begun:
+        try:
+            it.wait(max(0, until - time.monotonic()))
+        except subprocess.TimeoutExpired:
+            pass
+    end_marked(mark)
 
 
 def run_all(picked: list[Unit], logs: Path, at_once: int, is_whole: bool) -> int:
@@ -184,8 +204,11 @@ def run_all(picked: list[Unit], logs: Path, at_once: int, is_whole: bool) -> int
         all_counts.append(Counts(failed=1))
     for is_slow in (False, True):
         ranked = [it for it in picked if it.slow == is_slow]
-        with ThreadPoolExecutor(at_once) as pool:
+        pool = ThreadPoolExecutor(at_once)
+        try:
             all_counts += pool.map(lambda it: run(it, logs), [it for it in ranked if not it.alone])
+        finally:
+            pool.shutdown(wait=False, cancel_futures=True)
         all_counts += [run(it, logs) for it in ranked if it.alone]
     total = Counts(
         *(sum(getattr(it, name) for it in all_counts) for name in ("passed", "failed", "skipped"))

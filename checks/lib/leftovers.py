@@ -5,7 +5,6 @@ A check that another check runs adds its own mark to the other's, and ends only 
 
 import os
 import signal
-import sys
 import time
 import uuid
 from types import FrameType
@@ -57,11 +56,19 @@ def end_marked(mark: str) -> int:
     return len(killed)
 
 
-def end_on_signals() -> None:
-    """Let SIGTERM and SIGHUP end this process as Ctrl-C does, so that everything is cleaned up."""
+class Stopped(KeyboardInterrupt):
+    """This process was told to end. unittest passes it on, as it does with Ctrl-C, and each test cleans up."""
+
+    def __init__(self, number: int) -> None:
+        super().__init__(f"signal {number}")
+        self.status = 128 + number
+
+
+def stop_on_signals() -> None:
+    """Raise Stopped in the main thread at SIGTERM, SIGHUP and SIGINT."""
 
     def stop(number: int, _: FrameType | None) -> None:
-        sys.exit(128 + number)
+        raise Stopped(number)
 
-    for it in (signal.SIGTERM, signal.SIGHUP):
+    for it in (signal.SIGTERM, signal.SIGHUP, signal.SIGINT):
         signal.signal(it, stop)

@@ -14,7 +14,7 @@ from types import ModuleType, TracebackType
 
 from checks.lib import showing
 from checks.lib.case import KEEP, TIMES, Check
-from checks.lib.leftovers import end_marked, end_on_signals, new_mark
+from checks.lib.leftovers import Stopped, end_marked, new_mark, stop_on_signals
 
 HERE = Path(__file__).resolve().parent.parent
 # Debian's own Python, for which the packages of the distribution are.
@@ -203,10 +203,13 @@ def alone(name: str) -> int:
         print("\n".join(name_of(it) for each in classes for it in chosen(each, asked.k)))
         return 0
     use(asked)
-    end_on_signals()
+    stop_on_signals()
     mark = new_mark()
     try:
         counts = run(classes, asked.k, asked.failfast)
+    except Stopped as why:
+        print(f"{name}: stopped by {why}", flush=True)
+        return why.status
     finally:
         if left := end_marked(mark):
             print(f"{name}: {left} processes were left, and killed", flush=True)
