@@ -11,6 +11,7 @@
 - The second verifier, inspect/verify.c, prints the same and ends with the same status. So it does with odd fields and exports, and with some hundred
   files that were changed by chance. It never reads memory that isn't its own. If the program is built, its check agrees with both about
   each journal without a log.
+- It finds no entry and no table in a journal that a power cut left while it was made.
 - inspect/mend_log.py repairs one bit in each damaged frame and in the header, and says what is still wrong with the copy. It returns status 1 then,
   and if the program refuses the copy.
 """
@@ -500,6 +501,42 @@ def show_pages(folder: str) -> None:
         if told != (wanted and f"{wanted}\n"):
             differs(f"a journal with {what}", wanted, found)
         ok(f"a journal with {what}")
+
+
+def show_unmade(folder: str) -> None:
+    """Show what both readers say of a journal that a power cut left while the program made it, and of files that are nearly such."""
+    head = struct.pack(">4I", 0x377F0682, 3007000, 4096, 2**32 - 1) + bytes(range(1, 9))
+    begun = head + struct.pack(">2I", *checksum("<", (0, 0), head))
+    counted = begun[:12] + bytes(4) + begun[16:24]
+    counted += struct.pack(">2I", *checksum("<", (0, 0), counted))
+    whole = with_log(f"{folder}/made.db", 3)
+    for what, file, log, is_unmade in (
+        ("a page of zeros next to a log that was begun", bytes(4096), begun, True),
+        ("its log has zeros, too", bytes(4096), begun + bytes(9), True),
+        ("its log has room for a frame", bytes(4096), begun + bytes(9_000), True),
+        ("a part of the page", bytes(100), begun + bytes(9), True),
+        ("a byte of the page", b"\0", begun, True),
+        ("a byte, and no log", b"S", None, True),
+        ("all but the first byte", b"\0QLite format 3" + bytes(4081), begun, True),
+        ("zeros, and no log", bytes(4096), None, False),
+        ("zeros, and a log of zeros", bytes(4096), bytes(41), False),
+        ("zeros, and a cut header", bytes(4096), begun[:31], False),
+        ("zeros, and a header after a checkpoint", bytes(4096), counted, False),
+        ("more than a page of zeros", bytes(4097), begun, False),
+        ("a page with another first byte", b"x" + bytes(4095), begun, False),
+        (
+            "a part of the page, and a log with room for a frame",
+            bytes(100),
+            begun + bytes(9_000),
+            False,
+        ),
+        ("zeros, and a log with entries", bytes(4096), whole["-wal"], False),
+    ):
+        found = said_of_files(folder, {"": file, "-wal": log})
+        none = "not examined: whether this is a journal, because it has none of the tables"
+        if found.startswith(none) != is_unmade:
+            differs(f"a journal that was being made: {what}", is_unmade, found)
+        ok(f"a journal that was being made: {what}")
 
 
 PAGE, FILE, SALTS = 512, 1024, bytes([7, 1, 2, 3, 4, 5, 6, 9])
@@ -1182,6 +1219,9 @@ class Verify(Check):
 
     def test_logs(self) -> None:
         show_logs(self.box)
+
+    def test_journal_that_was_being_made(self) -> None:
+        show_unmade(self.box)
 
     def test_pages(self) -> None:
         show_pages(self.box)
