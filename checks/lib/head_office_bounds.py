@@ -485,7 +485,7 @@ def show_reasons(office: Office, folder: str) -> None:
 
     with session(office, "opens", "BEGIN;", "SELECT * FROM head_office.take_in('OPENS');"):
         for name, words, holder in (
-            ("an upgrade", [f"{PARTS}/upgrade"], f"an upgrade by login {OWNER}"),
+            ("an upgrade", [f"{PARTS}/upgrade", "--again"], f"an upgrade by login {OWNER}"),
             (
                 "a seal",
                 ["psql", "-X", "-c", "SELECT head_office.seal('SEALED', 2001)"],
@@ -543,7 +543,7 @@ def show_reasons(office: Office, folder: str) -> None:
             "or one that has the row of its bridge",
             f"stopped by login {OWNER}, whose transaction is open since {moment} and idles",
         )
-    cluster.run([f"{PARTS}/upgrade"])
+    cluster.run([f"{PARTS}/upgrade", "--again"])
     office.shows(
         "once they are gone the load is taken in",
         0,

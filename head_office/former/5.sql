@@ -1,10 +1,6 @@
 -- Tables for sums that are kept, findings that are acknowledged, loads that were refused, changes of what is registered, hauliers, and years whose
--- plates were dropped. From this version on functions and views stand in functions.sql, and numbered files hold tables alone.
+-- plates were dropped.
 
-set local role head_office;
-set local search_path = head_office;
-
--- Each file of schema/ that was run, by its SHA-256.
 create table applied_file (
     name   text primary key,
     sha256 text not null,
@@ -15,9 +11,9 @@ create table applied_file (
 -- B2 before B10
 create collation natural_order (provider = icu, locale = 'en-u-kn-true');
 
--- What functions.sql makes anew with other columns or parameters.
-drop function take_in(text, boolean);
-drop view day_total, on_site, ticket_line, finding_beside_stored;
+-- What functions/ makes again with other columns or parameters.
+drop function if exists take_in(text), take_in(text, boolean);
+drop view if exists day_total, on_site, ticket_line, finding_beside_stored;
 
 -- Registered -----------------------------------------------------------------------------------------------------------------------------
 
@@ -140,8 +136,6 @@ create type taking as (
 
 -- Findings -------------------------------------------------------------------------------------------------------------------------------
 
--- A text of any length has no place in an index. Immutable in a database of UTF-8.
-create function sha256_of(it text) returns bytea immutable strict parallel safe return sha256(convert_to(it, 'UTF8'));
 alter table finding drop constraint finding_journal_what_first_last_record_key;
 create unique index finding_once on finding (journal, what, first, last, sha256_of(record));
 

@@ -1,9 +1,6 @@
 -- Entries stand in a table for each year, so that a year that is over is a table by itself, which is copied once. What was stored before stays in the
 -- table where it stands, `entry_before`, which becomes one of them without being written anew: what comes from now on goes into the others.
 
-set local role head_office;
-set local search_path = head_office;
-
 alter table entry rename to entry_before;
 alter table entry_before rename constraint entry_pkey to entry_before_pkey;
 alter index entry_by_plate rename to entry_before_by_plate;
@@ -47,8 +44,7 @@ select journal, 0, min(number), max(number), count(*), max(received_at), min(num
 -- The years in which the entries of an export's numbers stand, and the last one below it.
 alter type taking add attribute since integer, add attribute until integer;
 
--- functions.sql makes it with another parameter
-set local client_min_messages = warning;
+-- functions/ makes it with another parameter
 drop function if exists pair(taking);
 
 insert into version values (8);
