@@ -26,9 +26,7 @@ def make(cluster: clusters.Cluster, folder: str, version: int, database: str) ->
     """Make a head office of this version in an empty database."""
     packages = unpack(folder)
     if version in PACKAGES:
-        status, said = cluster.run(
-            [f"{packages}/{PACKAGES[version]}/upgrade"], database=database
-        )
+        status, said = cluster.run([f"{packages}/{PACKAGES[version]}/upgrade"], database=database)
         if status:
             raise SystemExit(f"former_office: {version}: {said}")
         return
@@ -38,3 +36,19 @@ def make(cluster: clusters.Cluster, folder: str, version: int, database: str) ->
         status, said = cluster.run([*words, file], database=database)
         if status:
             raise SystemExit(f"former_office: {version}: {said}")
+
+
+def load(
+    cluster: clusters.Cluster, bridge: str, export: str, user: str, database: str
+) -> tuple[int, str]:
+    """Load an export as the bridges of versions 2 to 4 did. Return the status, and what was printed."""
+    columns = "number, key, kind, plate, moment, gross_kg, preset_kg, interval_kg, max_kg, serial, digest, previous"
+    texts = "key, kind, plate, serial, digest, previous"
+    words = [
+        *["psql", "-X", "-q", "-A", "-t", "-v", "ON_ERROR_STOP=1", "-c", "BEGIN"],
+        "-c",
+        f"\\copy head_office.handed ({columns}) from pstdin with (format csv, header match, force_not_null ({texts}), encoding 'UTF8')",
+        *["-c", f"SELECT head_office.take_in('{bridge}')", "-c", "COMMIT"],
+    ]
+    with open(export, "rb") as it:
+        return cluster.run(words, user, database, it.read())

@@ -1455,7 +1455,7 @@ def show_upgrade(office, folder, loaded_by_1):
     status, said = cluster.run([f"{copy}/upgrade"], database="four")
     case(
         "a change that isn't the one that was run is refused",
-        status == 3 and "version_9" in said and "other files than those that were run" in said,
+        status == 3 and "another file than the one that was run here: version_9" in said,
         said,
     )
     holder = subprocess.Popen(

@@ -13,7 +13,7 @@ select :was = 0 as is_new, :was < 9 as is_older, case when :was between 1 and 7 
 \ir ../upgrading/begin.sql
 \if :is_new
 
--- Rights in the database and the schema. `head_office` owns everything, and nobody logs in as it. The others: who registers bridges, who loads, who reads.
+-- Rights in the database and the schema. `head_office` owns everything, and nobody logs in as it. The others register bridges, load exports, and read.
 create schema head_office authorization head_office;
 select format('revoke all on database %I from public', current_database()) \gexec
 select format('grant connect on database %I to head_office_registrar, head_office_loader, head_office_reader', current_database()) \gexec
@@ -48,14 +48,14 @@ create table bridge (
     zone           text not null default 'UTC' check (timestamptz 'epoch' at time zone zone is not null),
     -- the service's --retention
     retention_days integer not null check (retention_days between 1 and 3650),
-    -- after so long without a load, and without a new entry, the bridge has fallen silent
+    -- after this time without a load, or without a new entry, the bridge has fallen silent
     load_within    interval not null default '3 hours' check (load_within > interval '0'),
     entry_within   interval check (entry_within > interval '0'),
     -- the service's --capacity
     places         integer,
-    -- how old the last whole export may be before a load of only the newest entries is asked for a whole one
+    -- how old the last whole export may be before the next load must be a whole one
     whole_within   interval not null default '7 days',
-    -- after so many whole years plates are dropped; never where it is NULL
+    -- after this number of whole years plates are dropped; NULL for never
     plate_years    integer,
     constraint places_of_a_journal check (places between 2 and 100000),
     constraint whole_within_is_positive check (whole_within > interval '0'),
@@ -90,7 +90,7 @@ create table follower (
 );
 create trigger never_changed before update or truncate on follower for each statement execute function never_changed();
 
--- Who may load which bridge's export: a login, and a bridge, or every bridge where none is named.
+-- A login may load the bridge's export, or every bridge's if none is named.
 create table loader (
     login  name not null,
     bridge text collate "C" references bridge,
@@ -104,7 +104,7 @@ create table haulier (
     constraint form_of_haulier check (haulier ~ '^\S(.{0,62}\S)?$' and plate ~ '^[A-Z0-9-]{1,12}$')
 );
 
--- Who changed what is registered, and when.
+-- Changes of registrations: when, by whom, and of what.
 create table change (
     change   bigint generated always as identity primary key,
     at       timestamptz not null default now(),
@@ -116,10 +116,10 @@ create table change (
 
 -- Entries --------------------------------------------------------------------------------------------------------------------------------
 
--- Entries are stored in a table for each year, so that a year that is over is a table by itself, which is copied once. No entry can be stored that doesn't
--- fit its digest, whoever writes it, and whatever it is restored from. The year is that of the moment in UTC; 0 in `entry_before`, and 9999 for a moment
--- that is of no year: before 2000, or of a year that hadn't begun when the entry came. Each table keeps a number from being stored twice within its year, and
--- `compare` and `insert_new` do so over all of them. `take_in` alone stores entries, and the row of `load` next to them keeps their journal.
+-- Each year has a table of its own, which is copied once when the year is over. No entry can be stored that doesn't fit its digest, whoever writes it, and
+-- whatever it is restored from. The year is that of the moment in UTC. It is 0 in `entry_before`, and 9999 for a moment that is of no year: before 2000, or of a
+-- year that hadn't begun when the entry came. Each table keeps a number from being stored twice within its year, and `compare` and `insert_new` do so over all of
+-- them. Only `take_in` stores entries, and the row of `load` next to them keeps their journal.
 create table entry (
     journal     integer not null,
     number      bigint not null,
@@ -148,7 +148,7 @@ create table entry (
     constraint digest_fits check (digest = digest_of(number, key, kind, plate, moment at time zone 'UTC', gross_kg, preset_kg,
         interval_kg, max_kg, serial, encode(previous, 'hex')))
 ) partition by list (year);
--- Journal and number are one value of 64 bits, so what is asked of a plate within a journal ends where the journal ends.
+-- Journal and number are one value of 64 bits, so a search for a plate within a journal ends where the journal ends.
 create index entry_by_plate on entry (plate, ((journal::bigint << 32) | number));
 -- The keys of a load are next to each other, so it doesn't read a page of the index for each.
 create index entry_by_key on entry (((journal::bigint << 32) | (hashtextextended(key, 0) & 4294967295)));
@@ -164,9 +164,9 @@ create index entry_before_by_moment on entry_before using brin (moment) with (pa
 alter table entry attach partition entry_before for values in (0);
 create trigger never_changed before insert or update or delete or truncate on entry_before for each statement execute function never_changed();
 
--- Of each journal and year: the numbers between which its entries are, how many they are, and when the last one came; and from which year until which one
--- what has these numbers is looked for. These are the year itself, unless the numbers of two years lie among each other; `begins` is the first number of
--- all of them. Its rows lie far apart, or PostgreSQL would read all of them for one.
+-- Of each journal and year: the first and last number of its entries, how many they are, and when the last one came. `since` and `until` are the years in which
+-- these numbers can be. They are the year itself, unless the numbers of two years lie among each other. `begins` is the first number of all of them. The rows lie
+-- far apart, or PostgreSQL would read all of them for one.
 create table journal_year (
     journal     integer not null references journal,
     year        integer not null,
@@ -207,7 +207,7 @@ create table open_entry (
 
 -- Findings -------------------------------------------------------------------------------------------------------------------------------
 
--- What a finding means, and what is to be done. What matters more comes first.
+-- The meaning of each kind of finding, and what to do. The lowest rank comes first.
 create table advice (
     what  text primary key,
     means text not null,
@@ -215,14 +215,14 @@ create table advice (
     rank  integer not null default 50
 );
 
--- What doesn't fit, written once.
+-- Each thing that doesn't fit, written once.
 create table finding (
     finding bigint generated always as identity primary key,
     journal integer not null references journal,
     what    text not null references advice,
     first   bigint not null,
     last    bigint not null,
-    -- the record as it came, or what is to be said
+    -- the record as it came, or a text
     record  text not null,
     at      timestamptz not null default now()
 );
@@ -281,7 +281,7 @@ create table load (
 create index load_by_journal on load (journal, load);
 create trigger never_changed before update or delete or truncate on load for each statement execute function never_changed();
 
--- What the loads of a journal left. Its row is locked while a load of its bridge runs, which only a loader of that bridge can do.
+-- The state that the loads of a journal left. Its row is locked while a load of its bridge runs, which only a loader of that bridge can do.
 create table standing (
     journal    integer primary key references journal on delete cascade,
     -- when the newest export that was taken in had been fetched, and the newest whole one
@@ -305,9 +305,9 @@ create table refusal (
 create index refusal_by_login on refusal (by, at);
 create index refusal_by_time on refusal (at);
 
--- What a load is about, passed from one function of it to the next: its bridge, the export, the journal that it is of, the last number stored there,
--- the last entry stored below the export, when the newest export of before had been fetched, whether nothing is stored of the bridge's newest journal yet, and
--- the years in which the entries of the export's numbers are stored, and the last one below it.
+-- The subject of a load, which its functions pass to each other. `stored` is the last number that is stored of its journal, `before` the last one that is stored
+-- below the export. `fetched_before` is when the newest earlier export was fetched. `is_first` says that nothing is stored of the bridge's newest journal yet.
+-- `since` and `until` are the years in which entries of the export's numbers, and the last one below it, are stored.
 create type taking as (
     bridge         text,
     days           integer,
@@ -361,7 +361,7 @@ create table sealed_year (
     primary key (journal, year)
 );
 
--- What is kept of such an entry: no plate, no key, and no digest, from which a plate could be guessed. `partner` is the First of a Second.
+-- The rest of such an entry: no plate, no key, and no digest, from which a plate could be guessed. `partner` is the First of a Second.
 create table sealed_entry (
     journal     integer not null references journal,
     number      bigint not null,

@@ -1,5 +1,5 @@
--- What a database has. `was`: the version of its tables, 0 in a new one. `made`: the sum of the files of functions/ that were run last. `is_of_sqitch`: whether
--- deploy/version_9.sql ran here. It takes no lock that a load needs, and changes nothing but the roles of who upgrades.
+-- Sets `was` to the version of the tables, which is 0 in a new database, and `made` to the sum of the files of functions/ that ran last. `is_of_sqitch` says whether
+-- deploy/version_9.sql ran here. It takes no lock that a load needs. It changes nothing, except the roles of a login that hasn't them yet.
 \set QUIET on
 \set VERBOSITY terse
 set client_min_messages = warning;

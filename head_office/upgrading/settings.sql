@@ -1,12 +1,12 @@
--- What a head office needs of its database, set only where it isn't so yet.
+-- Sets what a head office needs of its database, unless it is so already.
 \set QUIET on
 \set VERBOSITY terse
 do $$
 declare
     its record;
 begin
-    -- JIT and parallel workers cost more than they save here; constraints would be compared with a query once for each year's table, which takes most of its
-    -- planning; and what a load of 100,000 records keeps for itself is read ten times
+    -- JIT and parallel workers cost more than they save here. Constraints would be compared with a query once for each year's table, which takes most of its
+    -- planning. A load of 100,000 records reads its temporary tables ten times.
     if pg_has_role((select datdba from pg_database where datname = current_database()), 'member') then
         for its in
             select name, value from (values ('jit', 'off'), ('constraint_exclusion', 'off'), ('max_parallel_workers_per_gather', '0'), ('temp_buffers', '96MB')) v (name, value)

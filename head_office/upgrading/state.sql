@@ -1,16 +1,23 @@
--- psql -v known='version_9 @2.1.1' -f state.sql prints three lines: what a newer package did here, which is each change and tag that isn't among `known`; the
--- sum of the functions; and the version of the tables.
+-- Prints four lines about a database and the plan. `known` has the names of the plan's changes and tags, `sums` a name=SHA-1 for each file of deploy/. sqitch records
+-- these too. The lines are: changes and tags that only a newer package can have made, changes that ran from another file, the sum of the functions, and whether
+-- sqitch has something to do.
 \ir look.sql
 \set newer ''
+\set others ''
+\set lacks true
 select to_regclass('head_office_sqitch.changes') is not null as has_registry \gset
 \if :has_registry
-select coalesce(string_agg(name, ', ' order by at), '') as newer
-from (
-    select change as name, committed_at as at from head_office_sqitch.changes where project = 'head_office'
+with made as (
+    select change as name, script_hash as sum, committed_at as at from head_office_sqitch.changes where project = 'head_office'
     union all
-    select tag, committed_at from head_office_sqitch.tags where project = 'head_office') r
-where name <> all (string_to_array(:'known', ' ')) \gset
+    select tag, null, committed_at from head_office_sqitch.tags where project = 'head_office'
+)
+select coalesce(string_agg(name, ', ' order by at) filter (where name <> all (string_to_array(:'known', ' '))), '') as newer,
+    coalesce(string_agg(name, ', ' order by at) filter (where name || '=' || sum <> all (string_to_array(:'sums', ' '))), '') as others,
+    not coalesce(array_agg(name) @> string_to_array(:'known', ' '), false) as lacks
+from made \gset
 \endif
 \echo :newer
+\echo :others
 \echo :made
-\echo :was
+\echo :lacks
