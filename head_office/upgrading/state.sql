@@ -1,6 +1,6 @@
 -- Prints four lines about a database and the plan. `known` has the names of the plan's changes and tags, `sums` a name=SHA-1 for each file of deploy/. sqitch records
--- these too. The lines are: changes and tags that only a newer package can have made, changes that ran from another file, the sum of the functions, and whether
--- sqitch has something to do.
+-- these too. The first line has changes and tags that only a newer package can have made. The second one has changes that ran from another file. The third one is
+-- the sum of the functions, and the fourth one says whether sqitch has something to do.
 \ir look.sql
 \set newer ''
 \set others ''
