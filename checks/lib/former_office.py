@@ -1,6 +1,6 @@
 """Head offices as former packages made them: of versions 1 to 7 by their numbered files, of version 8 by the package 2.1.1, of version 9 by the last one before sqitch.
 
-checks/data/head_office_former.tar.xz has the `schema`, `functions.sql`, `upgrade`, `load` and `load.sql` of both packages.
+checks/data/head_office_former.tar.gz has the `schema`, `functions.sql`, `upgrade`, `load` and `load.sql` of both packages.
 """
 
 import os
@@ -9,7 +9,7 @@ import tarfile
 import cluster as clusters
 
 TOP = os.path.dirname(os.path.dirname(os.path.dirname(os.path.abspath(__file__))))
-ARCHIVE = os.path.join(TOP, "checks", "data", "head_office_former.tar.xz")
+ARCHIVE = os.path.join(TOP, "checks", "data", "head_office_former.tar.gz")
 PACKAGES = {8: "2.1.1", 9: "9"}
 
 
