@@ -491,6 +491,7 @@ def show_reasons(office: Office, folder: str) -> None:
         starts.update(it for it in cluster.told(waits).split("\n") if it)
         return len(starts) > 2
 
+    is_upgrade = "pid IN (SELECT pid FROM pg_locks WHERE objid = hashtext('head_office upgrade')::bit(32)::bigint::oid)"
     begun = (
         "SELECT head_office.begin_load('OPENS');",
         "SELECT * FROM head_office.take_in('OPENS');",
