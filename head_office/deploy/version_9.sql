@@ -5,12 +5,18 @@
 
 \set change version_9
 \ir ../upgrading/look.sql
--- what another run that was broken off made stays
+-- a run that was broken off may have made it
 \if :is_of_sqitch
 \else
-select :was = 0 as is_new, :was < 9 as is_older, case when :was between 1 and 7 then 'access exclusive' else 'share row exclusive' end as others_mode,
+select case when :was between 1 and 7 then 'access exclusive' else 'share row exclusive' end as others_mode,
     case when :was < 9 then 'access exclusive' else 'share row exclusive' end as handed_mode \gset
 \ir ../upgrading/begin.sql
+-- or a run that ended meanwhile
+\ir ../upgrading/look.sql
+\if :is_of_sqitch
+rollback;
+\else
+select :was = 0 as is_new, :was < 9 as is_older \gset
 \if :is_new
 
 -- Rights in the database and the schema. `head_office` owns everything, and nobody logs in as it. The others register bridges, load exports, and read.
@@ -389,4 +395,5 @@ set local search_path = head_office;
 insert into applied_file (name, sha256) values ('1.sql', repeat('0', 64)) on conflict (name) do update set sha256 = excluded.sha256, at = now();
 \ir ../upgrading/end.sql
 select format('version %s', its) from generate_series(case :was when 0 then 9 else :was + 1 end, 9) its order by its;
+\endif
 \endif
