@@ -55,7 +55,7 @@ def put_script(copy: Path, folder: Path) -> None:
 class Agreement(Check):
     """Other checks, in a copy of the repository whose program is a script that compares each verdict."""
 
-    needs = (PROGRAM,)
+    needs = (PROGRAM, "cc")
     slow = True
     seconds = 5_000
 

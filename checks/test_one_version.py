@@ -27,6 +27,8 @@ PLACES = [
     ("docs/library.md", r"\b\d+ for (\d+\.\d+\.\d+)"),
     ("counter/openapi.json", r'^    "version": "(.*)"'),
     ("clients/openapi.json", r'^    "version": "(.*)"'),
+    # the last release of the plan, which is behind all others
+    ("head_office/sqitch.plan", r"(?s)\A.*^@(\S+) "),
     ("checks/test_check_and_export.py", r'version = "weighbridge (\S+)"'),
 ]
 # The pages' output of the program, and the names of packages in them; not the reports of another program, and not the upgrade from 1.0.0.

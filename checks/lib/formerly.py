@@ -33,6 +33,7 @@ QUICK = {
 }
 # About how many seconds the others take, if it is more than a minute.
 SECONDS = {
+    "head_office_upgrade": 1200,
     "counter": 1500,
     "release": 400,
     "paper": 350,

@@ -483,9 +483,22 @@ def show_reasons(office: Office, folder: str) -> None:
     def shows(name: str, wanted: str) -> None:
         office.shows(name, 2, f"^WAITS: refused: {wanted}$", "WAITS", export, user="waits")
 
-    with session(office, "opens", "BEGIN;", "SELECT * FROM head_office.take_in('OPENS');"):
+    # an upgrade gives up its place for a while after 5 and 10 seconds, and then waits for 15
+    waits = "SELECT waitstart FROM pg_locks WHERE NOT granted AND relation = 'head_office.handed'::regclass"
+    starts: set[str] = set()
+
+    def has_waited() -> bool:
+        starts.update(it for it in cluster.told(waits).split("\n") if it)
+        return len(starts) > 2
+
+    is_upgrade = "pid IN (SELECT pid FROM pg_locks WHERE objid = hashtext('head_office upgrade')::bit(32)::bigint::oid)"
+    begun = (
+        "SELECT head_office.begin_load('OPENS');",
+        "SELECT * FROM head_office.take_in('OPENS');",
+    )
+    with session(office, "opens", "BEGIN;", *begun):
         for name, words, holder in (
-            ("an upgrade", [f"{PARTS}/upgrade"], f"an upgrade by login {OWNER}"),
+            ("an upgrade", [f"{PARTS}/upgrade", "--again"], f"an upgrade by login {OWNER}"),
             (
                 "a seal",
                 ["psql", "-X", "-c", "SELECT head_office.seal('SEALED', 2001)"],
@@ -505,7 +518,10 @@ def show_reasons(office: Office, folder: str) -> None:
                 stderr=subprocess.DEVNULL,
             ) as stopped:
                 asked = f"SELECT count(*) FROM pg_stat_activity WHERE usename = '{user}' AND wait_event_type = 'Lock'"
-                case(f"{name} waits for it", until(lambda: cluster.told(asked) == "1"))
+                is_there = (
+                    has_waited if name == "an upgrade" else lambda: cluster.told(asked) == "1"
+                )
+                case(f"{name} waits for it", until(is_there, 90))
                 shows(
                     f"a load behind {name} says so",
                     f"stopped by {holder} since {moment}, which waits for {open_one}",
@@ -518,7 +534,7 @@ def show_reasons(office: Office, folder: str) -> None:
                     ),
                 )
                 cluster.told(
-                    f"SELECT pg_terminate_backend(pid) FROM pg_stat_activity WHERE usename = '{user}' AND wait_event_type = 'Lock'"
+                    f"SELECT pg_terminate_backend(pid) FROM pg_stat_activity WHERE usename = '{user}' AND (wait_event_type = 'Lock' OR {is_upgrade})"
                 )
                 stopped.wait(60)
     with session(office, OWNER, "BEGIN;", "LOCK TABLE head_office.entry IN SHARE MODE;"):
@@ -543,7 +559,7 @@ def show_reasons(office: Office, folder: str) -> None:
             "or one that has the row of its bridge",
             f"stopped by login {OWNER}, whose transaction is open since {moment} and idles",
         )
-    cluster.run([f"{PARTS}/upgrade"])
+    cluster.run([f"{PARTS}/upgrade", "--again"])
     office.shows(
         "once they are gone the load is taken in",
         0,

@@ -14,6 +14,7 @@ import sys
 import time
 
 from checks.lib import cluster as clusters
+from checks.lib import former_office
 from checks.lib.books import Book
 from checks.lib.browser import Browser
 from checks.lib.counted import case, same
@@ -207,7 +208,7 @@ def show_stopped(office, folder, held):
     same("  and is an open finding", ["open"], passing(office, "STOP"))
     open(f"{folder}/goes_on", "w").close()
     process.wait(60)
-    office.cluster.run([f"{PARTS}/upgrade"])
+    office.cluster.run([f"{PARTS}/upgrade", "--again"])
     limit = "SELECT array_to_string(proconfig, ' ') ~ 'lock_timeout=60s' FROM pg_proc WHERE proname = 'take_in'"
     same("which is a minute", "t", office.cluster.told(limit))
     office.shows(
@@ -1285,24 +1286,16 @@ def show_changes(office, folder):
         case(f"{user} takes none of it away", status and words in said, said)
 
 
+def sum_of(path, what="sha256"):
+    with open(path, "rb") as it:
+        return hashlib.file_digest(it, what).hexdigest()
+
+
 def show_upgrade(office, folder, loaded_by_1):
     """A head office of version 4 with data in it, brought to the newest version by two at once; files that were changed; who is no superuser."""
     cluster = office.cluster
     cluster.told("CREATE DATABASE four", database="postgres")
-    for number in range(1, 5):
-        cluster.run(
-            [
-                "psql",
-                "-X",
-                "-q",
-                "-v",
-                "ON_ERROR_STOP=1",
-                "--single-transaction",
-                "-f",
-                f"{PARTS}/schema/{number}.sql",
-            ],
-            database="four",
-        )
+    former_office.make(cluster, folder, 4, "four")
     books = {}
     for name in ("ONE", "TWO", "TARE", "GAP"):
         cluster.told(
@@ -1435,37 +1428,34 @@ def show_upgrade(office, folder, loaded_by_1):
     )
     show_copy_of_before(cluster, folder)
     same(
-        "  each file is recorded by its checksum",
-        sorted(os.path.basename(it) for it in glob.glob(f"{PARTS}/schema/*.sql"))
-        + ["functions.sql"],
-        cluster.told(
-            'SELECT name FROM head_office.applied_file ORDER BY name COLLATE "C"', database="four"
-        ).split("\n"),
+        "  the change is recorded with the checksum of its file",
+        f"version_9|{sum_of(f'{PARTS}/deploy/version_9.sql', 'sha1')}",
+        cluster.told("SELECT change, script_hash FROM head_office_sqitch.changes", database="four"),
     )
     copy = f"{folder}/changed"
     shutil.copytree(PARTS, copy)
-    with open(f"{copy}/functions.sql", "a") as it:
+    with open(f"{copy}/functions/texts.sql", "a") as it:
         it.write("-- one more line\n")
     same(
         "functions that changed are run again, and recorded",
         (0, "the schema is of version 9\n"),
         cluster.run([f"{copy}/upgrade"], database="four"),
     )
-    with open(f"{copy}/functions.sql", "rb") as it:
-        same(
-            "  by their checksum",
-            hashlib.sha256(it.read()).hexdigest(),
-            cluster.told(
-                "SELECT sha256 FROM head_office.applied_file WHERE name = 'functions.sql'",
-                database="four",
-            ),
-        )
-    with open(f"{copy}/schema/3.sql", "a") as it:
+    files = sorted(os.listdir(f"{copy}/functions"))
+    sums = "".join(f"{sum_of(f'{copy}/functions/{it}')}  {it}\n" for it in files)
+    same(
+        "  by their checksum",
+        hashlib.sha256(sums.encode()).hexdigest(),
+        cluster.told(
+            "SELECT sha256 FROM head_office.applied_file WHERE name = 'functions'", database="four"
+        ),
+    )
+    with open(f"{copy}/deploy/version_9.sql", "a") as it:
         it.write("-- one more line\n")
     status, said = cluster.run([f"{copy}/upgrade"], database="four")
     case(
-        "a numbered file that isn't the one that was run is refused",
-        status and "3.sql is not the file that was run here" in said,
+        "a change that isn't the one that was run is refused",
+        status == 3 and "another file than the one that was run here: version_9" in said,
         said,
     )
     holder = subprocess.Popen(

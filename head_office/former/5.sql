@@ -1,10 +1,6 @@
 -- Tables for sums that are kept, findings that are acknowledged, loads that were refused, changes of what is registered, hauliers, and years whose
--- plates were dropped. From this version on functions and views stand in functions.sql, and numbered files hold tables alone.
+-- plates were dropped.
 
-set local role head_office;
-set local search_path = head_office;
-
--- Each file of schema/ that was run, by its SHA-256.
 create table applied_file (
     name   text primary key,
     sha256 text not null,
@@ -12,21 +8,17 @@ create table applied_file (
     constraint form_of_sha256 check (sha256 ~ '^[0-9a-f]{64}$')
 );
 
--- B2 before B10
 create collation natural_order (provider = icu, locale = 'en-u-kn-true');
 
--- What functions.sql makes anew with other columns or parameters.
-drop function take_in(text, boolean);
-drop view day_total, on_site, ticket_line, finding_beside_stored;
+-- functions/ makes these again with other columns or parameters
+drop function if exists take_in(text), take_in(text, boolean);
+drop view if exists day_total, on_site, ticket_line, finding_beside_stored;
 
 -- Registered -----------------------------------------------------------------------------------------------------------------------------
 
 alter table bridge
-    -- the service's --capacity
     add column places integer,
-    -- how old the last whole export may be before a load of the newest entries alone is told to be one
     add column whole_within interval not null default '7 days',
-    -- after so many whole years plates are dropped; never where it is NULL
     add column plate_years integer,
     add constraint places_of_a_journal check (places between 2 and 100000),
     add constraint whole_within_is_positive check (whole_within > interval '0'),
@@ -39,7 +31,6 @@ create table haulier (
     constraint form_of_haulier check (haulier ~ '^\S(.{0,62}\S)?$' and plate ~ '^[A-Z0-9-]{1,12}$')
 );
 
--- Who changed what is registered, and when.
 create table change (
     change   bigint generated always as identity primary key,
     at       timestamptz not null default now(),
@@ -51,8 +42,7 @@ create table change (
 
 -- Entries --------------------------------------------------------------------------------------------------------------------------------
 
--- What a load spends its time with: the same patterns without bounded repetitions, and no look-up of its own journal for each entry. `take_in` alone
--- stores entries, and the row of `load` that stands beside them keeps their journal. A digest is made of whole seconds. 6.sql holds what stands against it.
+-- No look-up of its own journal for each entry, and patterns without bounded repetitions, because a load spends most of its time there.
 alter table entry
     drop constraint entry_journal_fkey,
     drop constraint form,
@@ -62,10 +52,8 @@ alter table entry
         and max_kg between 1 and 500000 and length(serial) between 1 and 16 and serial !~ '[^A-Z0-9]') not valid,
     add constraint whole_second check (moment = date_trunc('second', moment)) not valid;
 
--- A key again, found without the journal's own order: a journal that the statistics don't know yet looks as if it had one entry.
 create index entry_by_key on entry (hashtextextended(key, journal));
 
--- A bridge's own days, kept by each load: what `computed_day_total` says.
 create table day_sum (
     day        date not null,
     bridge     text collate "C" not null references bridge,
@@ -78,7 +66,6 @@ create table day_sum (
     primary key (day, bridge)
 );
 
--- Firsts without a Second or Void, kept by each load: what `computed_open_entry` says.
 create table open_entry (
     journal  integer not null references journal,
     plate    text collate "C" not null,
@@ -90,13 +77,10 @@ create table open_entry (
 
 -- Loads ----------------------------------------------------------------------------------------------------------------------------------
 
--- What the loads of a journal left. Its row is locked while a load of its bridge runs, which only a loader of that bridge can do.
 create table standing (
     journal    integer primary key references journal on delete cascade,
-    -- when the newest export that was taken in had been fetched, and the newest whole one
     fetched_at timestamptz,
     whole_at   timestamptz,
-    -- the last number of the years whose plates were dropped
     sealed     bigint not null default 0
 );
 insert into standing (journal) select journal from journal;
@@ -110,7 +94,6 @@ create table refusal (
     at         timestamptz not null default now(),
     by         name not null default session_user,
     address    inet default inet_client_addr(),
-    -- as it was named, though there may be none
     bridge     text collate "C" not null,
     reason     text not null,
     why        text not null,
@@ -119,8 +102,6 @@ create table refusal (
 create index refusal_by_login on refusal (by, at);
 create index refusal_by_time on refusal (at);
 
--- What a load is about, handed from one function of it to the next: its bridge, the export, the journal that it is of, the last number stored there,
--- the last entry stored below the export, and when the newest export of before had been fetched.
 create type taking as (
     bridge         text,
     days           integer,
@@ -140,8 +121,6 @@ create type taking as (
 
 -- Findings -------------------------------------------------------------------------------------------------------------------------------
 
--- A text of any length has no place in an index. Immutable in a database of UTF-8.
-create function sha256_of(it text) returns bytea immutable strict parallel safe return sha256(convert_to(it, 'UTF8'));
 alter table finding drop constraint finding_journal_what_first_last_record_key;
 create unique index finding_once on finding (journal, what, first, last, sha256_of(record));
 
@@ -153,12 +132,10 @@ create table acknowledgement (
     constraint note_says_something check (note ~ '\S' and length(note) <= 1000)
 );
 
--- What matters more comes first.
 alter table advice add column rank integer not null default 50;
 
 -- Years ----------------------------------------------------------------------------------------------------------------------------------
 
--- A year of a journal whose plates were dropped. `digest` is of the digests of all its entries in the order of their numbers, `kept_digest` of what is kept.
 create table sealed_year (
     journal     integer not null references journal,
     year        integer not null,
@@ -172,7 +149,6 @@ create table sealed_year (
     primary key (journal, year)
 );
 
--- What is kept of such an entry: no plate, no key, and no digest, from which a plate could be guessed. `partner` is the First of a Second.
 create table sealed_entry (
     journal     integer not null references journal,
     number      bigint not null,

@@ -1,8 +1,4 @@
--- Entries stand in a table for each year, so that a year that is over is a table by itself, which is copied once. What was stored before stays in the
--- table where it stands, `entry_before`, which becomes one of them without being written anew: what comes from now on goes into the others.
-
-set local role head_office;
-set local search_path = head_office;
+-- Each year has a table of its own. Earlier entries stay in their table, which becomes `entry_before`, one of them, without being written again.
 
 alter table entry rename to entry_before;
 alter table entry_before rename constraint entry_pkey to entry_before_pkey;
@@ -11,8 +7,6 @@ alter index entry_by_key rename to entry_before_by_key;
 alter index entry_by_moment rename to entry_before_by_moment;
 drop trigger never_changed on entry_before;
 
--- The year of an entry's moment in UTC; 0 where it stands in `entry_before`, and 9999 a moment that is of no year: before 2000, or of a year that hadn't begun
--- when the entry came. A number is kept from standing twice by each table within its year, and by `compare` and `insert_new` over all of them.
 alter table entry_before add column year integer not null default 0;
 create table entry (like entry_before including defaults including constraints) partition by list (year);
 alter table entry alter column year drop default;
@@ -24,9 +18,6 @@ alter table entry attach partition entry_before for values in (0);
 create trigger never_changed before update or delete or truncate on entry for each statement execute function never_changed();
 create trigger never_changed before insert or update or delete or truncate on entry_before for each statement execute function never_changed();
 
--- Of each journal and year: the numbers between which its entries are, how many they are, and when the last one came; and from which year until which one
--- what has these numbers is looked for. These are the year itself, but where the numbers of two years lie among each other; `begins` is the first number of
--- all of them. Its rows lie far apart, or PostgreSQL would read all of them for one.
 create table journal_year (
     journal     integer not null references journal,
     year        integer not null,
@@ -39,16 +30,13 @@ create table journal_year (
     until       integer not null,
     primary key (journal, year)
 ) with (fillfactor = 10);
--- a journal's years are gone through by their numbers
 create index journal_year_by_first on journal_year (journal, first);
 insert into journal_year (journal, year, first, last, entries, received_at, begins, since, until)
 select journal, 0, min(number), max(number), count(*), max(received_at), min(number), 0, 0 from entry_before group by journal;
 
--- The years in which the entries of an export's numbers stand, and the last one below it.
 alter type taking add attribute since integer, add attribute until integer;
 
--- functions.sql makes it with another parameter
-set local client_min_messages = warning;
+-- functions/ makes it with another parameter
 drop function if exists pair(taking);
 
 insert into version values (8);
