@@ -17,6 +17,8 @@ from checks import TOP
 
 # Set it to keep the folders of a test, also by `--keep`.
 KEEP = "CHECKS_KEEP"
+# The built program that the checks try, unless the variable names another one.
+BUILT = os.environ.get("WEIGHBRIDGE_PROGRAM", str(TOP / "weighbridge"))
 # What a class needs that tries the built program. `python3 -m checks` builds it first.
 PROGRAM = "the program"
 # Names that stand for more than a command or a module of Python.
