@@ -1,4 +1,4 @@
-"""How old a weight may be on the page, and how soon the page tells: over what is killed, held, slow, gone or suspended."""
+"""How old a weight may be on the page, and how soon the page says what is wrong: over what is killed, held, slow, gone or suspended."""
 
 import os
 import signal
@@ -23,7 +23,7 @@ Fault = Callable[[], AbstractContextManager[None]]
 
 
 class Ages(AtThePage):
-    """A clerk over a network that can be slow or gone. It measures time, so nothing runs beside it."""
+    """A clerk over a network that can be slow or gone. It measures time, so nothing else runs then."""
 
     needs = (PROGRAM, "aiohttp", "prometheus_client", "chromium", "chromedriver")
     alone = True
@@ -58,7 +58,7 @@ class Ages(AtThePage):
                 8,
             )
             words = self.clerk.words()
-        self.comes("it comes back by itself", lambda: self.clerk.kg() is not None, 12)
+        self.comes("it comes back automatically", lambda: self.clerk.kg() is not None, 12)
         return took, words
 
     def test_weight_within_a_second(self) -> None:
@@ -89,7 +89,7 @@ class Ages(AtThePage):
         self.press_to_ticket()
 
     def test_a_change_at_the_page(self) -> None:
-        """From the converter's line to the page, as the page itself sees it."""
+        """Measure from the converter's line to the page."""
         bridge, clerk, network = self.bridge, self.clerk, self.network
         delays = self.never_old("on a good network")
         self.holds(

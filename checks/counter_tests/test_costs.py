@@ -1,4 +1,4 @@
-"""What the counter costs, and how soon it tells. The bounds are wide where time is the clock's, because the machine does other things too."""
+"""The counter's costs, and how soon a weight and an answer come. The bounds are wide where time is the clock's, because the machine does other things too."""
 
 import json
 import os
@@ -25,7 +25,7 @@ def stream_of(port: int, stream: socket.socket) -> None:
 
 
 class Streams(Closing, threading.Thread):
-    """So many event streams, read as they come. Of the first of them each weight is kept with the moment at which it came."""
+    """Reads `count` event streams as they come, and keeps each weight of the first with the moment at which it came."""
 
     def __init__(self, port: int, count: int) -> None:
         super().__init__(daemon=True)
@@ -94,7 +94,7 @@ class Stubborn(Closing, threading.Thread):
 
 
 class Attack(CounterCheck):
-    """A client with a clerk's password, and pages that don't read. It measures memory and time, so nothing runs beside it."""
+    """A client with a clerk's password, and pages that don't read. It measures memory and time, so nothing else runs then."""
 
     needs = (PROGRAM, "aiohttp", "prometheus_client")
     alone = True
@@ -139,7 +139,7 @@ class Attack(CounterCheck):
 
 
 class Costs(AtTheCounter):
-    """Twenty pages at ten readings a second, each another. It measures time, so nothing runs beside it."""
+    """Twenty pages at ten readings a second, each another. It measures time, so nothing else runs then."""
 
     needs = (PROGRAM, "aiohttp", "prometheus_client")
     alone = True
@@ -208,19 +208,19 @@ class Costs(AtTheCounter):
 
 
 class CostsAt50(Costs):
-    """The same at 50 readings a second."""
+    """Twenty pages at 50 readings a second."""
 
     pace = 50
 
 
 class CostsOf200(CostsAt50):
-    """The same with 200 pages."""
+    """200 pages at 50 readings a second."""
 
     pages = 200
 
 
 class Requests(AtTheCounter):
-    """How soon a weighing is answered. It measures time, so nothing runs beside it."""
+    """How soon a weighing is answered. It measures time, so nothing else runs then."""
 
     needs = (PROGRAM, "aiohttp", "prometheus_client")
     alone = True
@@ -247,6 +247,6 @@ class Requests(AtTheCounter):
 
 
 class RequestsAt50(Requests):
-    """The same at 50 readings a second."""
+    """Requests at 50 readings a second."""
 
     pace = 50

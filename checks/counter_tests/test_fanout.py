@@ -15,7 +15,7 @@ from checks.lib.counter_case import AtTheCounter
 
 from checks import TOP
 
-# What a till may ask, with a pattern of the right reply.
+# Commands of a till, with a pattern of the right reply.
 REPLIES = {
     "SI": r"S [SD] +-?\d+ kg|S I",
     "S": r"S S +-?\d+ kg|S I",
@@ -35,7 +35,7 @@ REPLIES = {
 def ask_at_random(
     port: int, seed: int, count: int
 ) -> tuple[list[tuple[str, str | None]], list[float]]:
-    """Ask so many questions one after the other. Return those with a wrong reply, and the seconds that each took."""
+    """Ask `count` questions one after the other. Return those with a wrong reply, and the seconds that each took."""
     rng = random.Random(seed)
     wrong, times = [], []
     with Till(port) as till:
@@ -51,7 +51,7 @@ def ask_at_random(
 
 
 def watch_display(port: int, seconds: float) -> list[str]:
-    """Return the lines of a display in so many seconds."""
+    """Return the lines of a display in `seconds`."""
     lines = []
     with Till(port) as display:
         display.send(b"SIR\r\n")
@@ -83,7 +83,7 @@ def without_reset(folder: str) -> str:
 def refused_while_held(
     bridge: Bridge, line: str, seconds: float
 ) -> tuple[bool, list[str | None], int]:
-    """Let two tills send a line while the service stands still for so long.
+    """Let two tills send a line while the service stands still for `seconds`.
 
     Return whether both were refused or got no reply, the weight and the tare afterwards, and how many tares acted late.
     """
@@ -141,7 +141,9 @@ class Fanout(AtTheCounter):
             ["ES"] * 4,
             bridge.replies("display", "Z", "T", "TA 5000 kg", "TAC"),
         )
-        self.same("and answers the rest", NO_TARE, bridge.terminal_says("display", "TA"))
+        weight = bridge.terminal_says("display", "SI")
+        self.same("and answers the rest", "S S      18340 kg", weight)
+        self.same("no tare is set", NO_TARE, bridge.tare())
         with Till(bridge.ports["till"]) as till:
             till.send(b"TA 3000 kg\r\nTAC\r\n")
             till.stream.shutdown(socket.SHUT_WR)
@@ -161,7 +163,7 @@ class Fanout(AtTheCounter):
                 )
 
     def test_a_copy_without_the_reset(self) -> None:
-        """The test above has to see it: a command acts after its sender was refused."""
+        """Show that the test above sees it if a command acts after its sender was refused."""
         copy = self.new_bridge(self.pace)
         copy.executable = without_reset(copy.folder)
         copy.start_counter()
@@ -173,7 +175,7 @@ class Fanout(AtTheCounter):
         self.holds("a copy without the reset fails that test", found > 0, f"{found} of 4 times")
 
     def test_nothing_late_when_the_counter_stands_still(self) -> None:
-        """The counter is held, a till sends and gives up, and the counter continues."""
+        """Hold the counter while a till sends and gives up."""
         bridge = self.bridge
         bridge.put(0)
         for seconds in (1.5, 4.0):
@@ -247,7 +249,7 @@ class Fanout(AtTheCounter):
         self.same("and none is left", NO_TARE, bridge.tare())
 
     def test_zero_since_the_start(self) -> None:
-        """Whether zero was set is known over a start of the counter, and not over one of the service."""
+        """Show that the counter knows over its own start whether zero was set, and not over one of the service."""
         bridge = self.bridge
 
         def is_known() -> object:
@@ -289,7 +291,7 @@ class Fanout(AtTheCounter):
 
 
 class FanoutAt50(Fanout):
-    """The same at 50 readings a second."""
+    """Tills, a display and a page at 50 readings a second."""
 
     pace = 50
 
@@ -301,11 +303,11 @@ class AnotherAtTheTerminal(AtTheCounter):
     seconds = 30
 
     def links(self, seconds: float) -> set[str]:
-        """Return what the events of so many seconds say of the link to the terminal."""
+        """Return what the events of `seconds` say of the link to the terminal."""
         return {it["link"] for name, it in self.bridge.events(seconds) if name == "state"}
 
     def test_it_is_named(self) -> None:
-        """Who goes past the counter is named, even over the seconds in which the counter tries again. A service that stands still isn't taken for that."""
+        """Show that the counter names a client that goes past it, even while it tries again, and that a service that stands still is none."""
         bridge = self.bridge
         bridge.kill_counter()
         with Till(bridge.terminal) as other:
@@ -399,7 +401,7 @@ class Kills(AtTheCounter):
 
 
 class KillsAt50(Kills):
-    """The same at 50 readings a second."""
+    """Kills at 50 readings a second."""
 
     pace = 50
 
@@ -413,6 +415,6 @@ class ManyKills(Kills):
 
 
 class ManyKillsAt50(ManyKills):
-    """The same at 50 readings a second."""
+    """Five times as many, at 50 readings a second."""
 
     pace = 50

@@ -163,7 +163,7 @@ class Disk(CounterCheck):
 
 
 class Synced(AtTheCounter):
-    """What reaches the disk in which order, and what happens if it is slow. The second measures time, so nothing runs beside it."""
+    """The order in which changes reach the disk, and a slow disk. It measures time, so nothing else runs then."""
 
     needs = (PROGRAM, "aiohttp", "prometheus_client", "strace")
     alone = True
@@ -225,7 +225,7 @@ class Synced(AtTheCounter):
 
     @contextmanager
     def within(self, what: str, seconds: float) -> Iterator[None]:
-        """Show that the block takes less than so many seconds."""
+        """Show that the block takes less than `seconds`."""
         began = time.monotonic()
         yield
         took = time.monotonic() - began
@@ -243,25 +243,29 @@ class Synced(AtTheCounter):
             bridge.next_vehicle(9170)
             status = bridge.weigh("cut-1", "single", "CUT-1", 5000)[0]
             self.same("a Single with its tare", 201, status)
-            time.sleep(1)
-        with open(log, encoding="utf-8") as file:
-            calls = [call for it in file if (call := call_of(it, f"{bridge.folder}/state"))]
-        self.same(
-            "each change of tares.json is the file, its name, its folder",
-            ["fsync tares.json.new", "rename tares.json", "fsync ."] * 2,
-            following(calls, "tares.json"),
-        )
-        self.same(
-            "and the note of a tare, including its removal",
-            ["fsync act.json.new", "rename act.json", "fsync .", "unlink act.json", "fsync ."],
-            following(calls, "act.json"),
-        )
+
+            def calls_on(name: str) -> list[str]:
+                with open(log, encoding="utf-8") as file:
+                    calls = [call_of(it, f"{bridge.folder}/state") for it in file]
+                return following([it for it in calls if it], name)
+
+            noted = ["fsync act.json.new", "rename act.json", "fsync ."]
+            self.becomes(
+                "and the note of a tare, including its removal",
+                [*noted, "unlink act.json", "fsync ."],
+                lambda: calls_on("act.json"),
+            )
+            self.same(
+                "each change of tares.json is the file, its name, its folder",
+                ["fsync tares.json.new", "rename tares.json", "fsync ."] * 2,
+                calls_on("tares.json"),
+            )
 
 
 def call_of(line: str, folder: str) -> str | None:
-    """Return a call on the folder or one of its files as its name and that file. Return None for any other call."""
+    """Return a call on the folder or one of its files as its name and that file. Return None for any other call, and for the end of one that another interrupted."""
     found = re.search(
-        r"(fsync)\(\d+<([^>]*)>\)|(rename|unlink)\w*\((?:AT_FDCWD[^,]*, )?\"([^\"]*)\"(?:, (?:AT_FDCWD[^,]*, )?\"([^\"]*)\")?",
+        r"(fsync)\(\d+<([^>]*)>|(rename|unlink)\w*\((?:AT_FDCWD[^,]*, )?\"([^\"]*)\"(?:, (?:AT_FDCWD[^,]*, )?\"([^\"]*)\")?",
         line,
     )
     if not found:

@@ -14,7 +14,7 @@ ON_PAPER = "On the printout: Kies 0/32"
 
 
 class Given(AtThePage):
-    """What the clerk or a till gives for the printout."""
+    """Lines that the clerk or a till gives for the printout."""
 
     needs = (PROGRAM, "aiohttp", "prometheus_client", "chromium", "chromedriver")
     seconds = 60

@@ -14,7 +14,7 @@ from checks.lib.counter_case import AtThePage
 KNOWN, NEW, ON_SITE = "RA-KM-1238", "RA-KM-1237", "RA-KM-1236"
 WAITS, ARMED = "Wait until it stands still.", "is weighed as soon as it stands still."
 GONE = "The vehicle has left the bridge."
-# What the page fetches through, in place of the real thing.
+# The page fetches by these functions in place of its own.
 NOTED = "(target, how) => { (window.asked ??= []).push(new URL(target, location.origin).pathname); return realFetch(target, how); }"
 ASKED = "return window.asked.filter(it => it.startsWith(arguments[0])).length"
 CUT = "async (target, how) => { if (target.endsWith('/weighings')) throw new TypeError('cut'); return realFetch(target, how); }"
@@ -29,7 +29,7 @@ LATE = """async (target, how, milliseconds, saysWhen = true) => {
 
 
 class InAHurry(AtThePage):
-    """What the classes share."""
+    """The base of the classes of this file."""
 
     def hammer(self) -> None:
         """Press Enter ten times in a second."""
@@ -517,7 +517,7 @@ class EarlyEnter(InAHurry):
         self.nothing_comes("after 20 s", "LB-FF-66")
 
     def test_it_sways_before_the_press_arrives(self) -> None:
-        """The load begins to sway between the press and its arrival at the office."""
+        """Let the load begin to sway between the press and its arrival at the office."""
         self.bridge.keep_tare("WO-SI-88", 5000)
         for plate, kind in (("WO-GG-88", "first"), ("WO-SI-88", "single")):
             self.bridge.next_vehicle(7000)
@@ -536,7 +536,7 @@ class EarlyEnter(InAHurry):
             self.same("under a new key", (2, 2), (len(keys), len(set(keys))))
 
     def test_another_vehicle_sways_there(self) -> None:
-        """The vehicle leaves before the press arrives, and another one drives on. A page that doesn't say when it pressed asks the office."""
+        """Let another vehicle drive on before the press arrives. A page that doesn't say when it pressed asks the office."""
         for says_when, words in (
             (True, "Not sent: it came too late."),
             (False, "It is still moving."),

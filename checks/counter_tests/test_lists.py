@@ -16,7 +16,7 @@ from checks import TOP
 
 
 class Lists(AtTheCounter):
-    """What passes through the counter, and what its lists have."""
+    """Requests that pass through the counter, and its lists."""
 
     needs = (PROGRAM, "aiohttp", "prometheus_client")
     pace = 20
@@ -28,7 +28,7 @@ class Lists(AtTheCounter):
         return [it for it in hits if it["plate"] == plate]
 
     def test_one_text(self) -> None:
-        """A 201 passes byte for byte, and one key has one entry over all resendings."""
+        """Show that a 201 passes byte for byte, and that one key has one entry over all resendings."""
         bridge = self.bridge
         bridge.next_vehicle(9170)
         form = ("text-1", "first", "HERE")
@@ -86,7 +86,7 @@ class Lists(AtTheCounter):
             self.same(f"{name} through the counter", (0, text), (it.returncode, it.stdout))
 
     def test_what_did_not_pass(self) -> None:
-        """An entry that another one made at the office itself is missed, found, and its slip made again."""
+        """Show that the counter misses and finds an entry that another client made at the office itself, and makes its slip again."""
         bridge = self.bridge
         bridge.next_vehicle(9170)
         slip = bridge.weigh("past-1", "first", "PAST", port=bridge.office)[1]
@@ -119,7 +119,7 @@ class Lists(AtTheCounter):
             bridge.weigh("past-4", "second", "PAST"),
         )
         bridge.put(0)
-        self.becomes("and the lists are read anew", 2, lambda: len(self.hits("PAST")))
+        self.becomes("and the lists are read again", 2, lambda: len(self.hits("PAST")))
         newest = self.hits("PAST")[0]
         self.same(
             "a ticket again is the office's",
@@ -131,7 +131,7 @@ class Lists(AtTheCounter):
         self.same("there is none of a number that nobody has", 404, status)
 
     def test_a_changed_row(self) -> None:
-        """A slip of a row that another hand changed isn't shown."""
+        """Show that the counter gives no slip of a row that another hand changed."""
         bridge = self.bridge
         bridge.next_vehicle(9170)
         bridge.weigh("change-1", "first", "CHANGED")

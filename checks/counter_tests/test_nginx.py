@@ -1,4 +1,4 @@
-"""What nginx and the counter refuse a browser and a guesser, by the setup that the package has."""
+"""Requests that nginx and the counter refuse a browser and a guesser, by the setup that the package has."""
 
 import socket
 import ssl
@@ -68,7 +68,7 @@ class Refused(BehindNginx):
     def test_other_sites(self) -> None:
         weighs = ["-d", "key=x"]
         for name, field in (
-            ("a foreign Origin alone", "Origin: https://elsewhere.example"),
+            ("only a foreign Origin", "Origin: https://elsewhere.example"),
             ("an Origin of a file", "Origin: null"),
             ("Sec-Fetch-Site alone", "Sec-Fetch-Site: cross-site"),
             ("another name below ours", "Sec-Fetch-Site: same-site"),
@@ -123,14 +123,14 @@ class Refused(BehindNginx):
 
 
 class Guessed(BehindNginx):
-    """Many requests and guesses at once. It measures how many come through in a time, so nothing runs beside it."""
+    """Many requests and guesses at once. It measures how many come through in a time, so nothing else runs then."""
 
     needs = (PROGRAM, "aiohttp", "prometheus_client", "nginx", "openssl", "curl")
     alone = True
     seconds = 60
 
     def test_many_open(self) -> None:
-        """One address holds so many event streams, and no more."""
+        """Show that one address holds a hundred event streams, and no more."""
         context = ssl.create_default_context()
         context.check_hostname, context.verify_mode = False, ssl.CERT_NONE
         ask = (STREAM % self.cookie().split(";")[0]).encode()
@@ -147,7 +147,7 @@ class Guessed(BehindNginx):
         )
 
     def test_guesses(self) -> None:
-        """Most of many guesses at once aren't looked at, even if the guesser leaves before he is refused. Whoever logged in before is served meanwhile."""
+        """Show that nginx looks at few of many guesses at once, even if the guesser leaves before he is refused, and serves a clerk who logged in before."""
         cookie = ["-H", f"Cookie: {self.cookie().split(';')[0]}"]
         began = time.monotonic()
         self.same("a refusal is held back", "401", self.status_of("/", *WRONG))

@@ -119,7 +119,7 @@ class Page(AtThePage):
         bridge.terminal_says("till", "TA 3000 kg")
         clerk.sees("A tare of 3,000 kg is set.")
         self.same(
-            "NET stands beside the weight",
+            "NET is next to the weight",
             ("NET", 15340, "Tare 3,000 kg, gross 18,340 kg"),
             (clerk.text("#kind"), clerk.kg(), clerk.text("#parts")),
         )
@@ -171,7 +171,7 @@ class Page(AtThePage):
         clerk.keys(ESCAPE)
 
     def test_which_program_weighs(self) -> None:
-        """The serial opens what an inspector asks for: program, kit, sources, setup, and the newest entry with its digest."""
+        """Show that the serial opens what an inspector asks for: program, kit, sources, setup, and the newest entry with its digest."""
         self.bridge.next_vehicle(9170)
         self.clerk.weigh("NEW-1", "Slip 1")
         newest = self.bridge.entries()[-1]
@@ -195,7 +195,7 @@ class Page(AtThePage):
         self.becomes("and the focus returns", "plate", self.clerk.focus)
 
     def test_another_language(self) -> None:
-        """A language is a file: one that is put beside the others is offered, and what the clerk chose stays."""
+        """Show that the page offers each language that has a file, and that the clerk's choice stays."""
         names = "return [...document.getElementById('language').options].map(it => it.text)"
         self.same(
             "the languages are offered by their names",
@@ -226,7 +226,7 @@ class Page(AtThePage):
         )
 
     def test_no_request_twice(self) -> None:
-        """Whatever is cut between the press and the answer, the request is sent again under its key, and stored once."""
+        """Show that the page sends a request again under its key, whatever is cut between the press and the answer, and that it is stored once."""
         bridge, clerk = self.bridge, self.clerk
         for letter, plan in zip("ABCDEF", PLANS):
             bridge.next_vehicle(9170)

@@ -46,7 +46,7 @@ class PageBehindNginx(AtThePage):
         )
         self.same("with it", "200 2", ask("/", *KNOWN))
         metrics = ask("/metrics", *KNOWN)
-        self.same("what monitoring asks is not handed on", "404 2", metrics)
+        self.same("nginx forwards nothing that monitoring asks", "404 2", metrics)
         other = ["-d", "key=x", "-H", "Origin: https://elsewhere.example"]
         refused = ask("/weighings", *KNOWN, *other)
         self.same("a page of another site is refused", "403 2", refused)
@@ -80,7 +80,7 @@ class PageBehindNginx(AtThePage):
         self.same("eight tabs at once each show the weight", [18340] * 8, shown)
 
     def test_a_page_of_another_site(self) -> None:
-        """It shows the counter in no frame, takes no answer of it, and weighs by no form, even in the browser of a clerk who logged in."""
+        """Show that it shows the counter in no frame, takes no answer of it, and weighs by no form, even in the browser of a clerk who logged in."""
         counter, browser = at_of(self.bridge.http), self.clerk.browser
         text = OTHER_SITE % (counter, f"https://{HOST}:{self.nginx.port}")
 

@@ -1,4 +1,4 @@
-"""Clients and moments at random, with kills and holds: what each was told is compared with the journal and the readings."""
+"""Clients and moments at random, with kills and holds: the check compares what each got with the journal and the readings."""
 
 import itertools
 import json
@@ -134,7 +134,7 @@ class Random(AtTheCounter):
         recent = self.bridge.converter.sent_since(time.monotonic() - OLD)
         fresh = {kg_of(load) for load in recent}
         if it["net"] + it["tare"] not in fresh:
-            self.fails(f"a page was told {it}, and the last second had {sorted(fresh)[:6]}")
+            self.fails(f"a page got {it}, and the last second had {sorted(fresh)[:6]}")
 
     def display(self) -> None:
         """Read a display under SIR: nothing but values."""
@@ -146,7 +146,7 @@ class Random(AtTheCounter):
                         line = client.line()
                         self.counts["display"] += 1
                         if not re.fullmatch(r"S (?:[SD] +-?\d+ kg|[I+-])", line):
-                            self.fails(f"a display was told {line}")
+                            self.fails(f"a display got {line}")
             except (OSError, EOFError):
                 time.sleep(0.05)
 
@@ -238,7 +238,9 @@ class Random(AtTheCounter):
             kind, plate, tare = self.asked[key]
             if (row[2], row[3], row[6]) != (kind, plate, str(tare or "")):
                 wrong.append((row, self.asked[key]))
-        self.same("each entry is what was asked for, each Single with its own tare", [], wrong[:3])
+        self.same(
+            "each entry is what a client asked for, each Single with its own tare", [], wrong[:3]
+        )
         self.same(
             "what was refused isn't stored",
             [],
@@ -258,7 +260,7 @@ class Random(AtTheCounter):
             elif row[2] in ("second", "void"):
                 on_site.discard(row[3])
         self.becomes(
-            "the lists have every entry, and who is on site",
+            "the lists have every entry, and each vehicle on site",
             (len(rows), len(on_site), True),
             lambda: (
                 bridge.metric("entries"),
@@ -270,13 +272,13 @@ class Random(AtTheCounter):
 
 
 class RandomAt50(Random):
-    """The same at 50 readings a second."""
+    """Clients and moments at 50 readings a second."""
 
     pace = 50
 
 
 class LongRandom(Random):
-    """The same for ten minutes."""
+    """Clients and moments for ten minutes."""
 
     slow = True
     seconds = 640
@@ -284,6 +286,6 @@ class LongRandom(Random):
 
 
 class LongRandomAt50(LongRandom):
-    """The same for ten minutes, at 50 readings a second."""
+    """Clients and moments for ten minutes, at 50 readings a second."""
 
     pace = 50

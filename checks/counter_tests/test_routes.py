@@ -44,7 +44,7 @@ def routes_of_the_program() -> set[str]:
 
 
 class Routes(AtTheCounter):
-    """Each answer of the office and of the counter, and each event, beside its description."""
+    """Each answer of the office and of the counter, and each event, next to its description."""
 
     needs = (PROGRAM, "aiohttp", "prometheus_client", "jsonschema")
     pace = 20

@@ -43,7 +43,7 @@ FILL = (
 
 
 class Rows(AtThePage):
-    """What a clerk does with the rows, by mouse and keyboard."""
+    """A clerk who uses the rows, by mouse and keyboard."""
 
     needs = (PROGRAM, "aiohttp", "prometheus_client", "chromium", "chromedriver")
     seconds = 70
@@ -227,7 +227,7 @@ class Rows(AtThePage):
 
 
 class Costs(AtThePage):
-    """What many vehicles on site cost the page. It measures time, so nothing runs beside it."""
+    """The cost of many vehicles on site for the page. It measures time, so nothing else runs then."""
 
     needs = (PROGRAM, "aiohttp", "prometheus_client", "chromium", "chromedriver")
     alone = True

@@ -11,7 +11,7 @@ PACKAGES = ("weighbridge_counter", "weighbridge_paper", "weighbridge_demo")
 
 
 class Unit(Check):
-    """What needs no program."""
+    """Tests that need no built program."""
 
     needs = ("aiohttp", "prometheus_client")
     seconds = 60

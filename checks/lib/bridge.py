@@ -71,7 +71,7 @@ def wait_until_listening(port: int, process: subprocess.Popen[Any], seconds: flo
 
 
 class Closing:
-    """What is closed at the end of a `with` block, or of a test that entered it by `enterContext`."""
+    """A thing that is closed at the end of a `with` block, or of a test that entered it by `enterContext`."""
 
     def close(self) -> None:
         raise NotImplementedError
@@ -115,7 +115,7 @@ class Converter(Closing, threading.Thread):
             pass
 
     def feed(self, stream: socket.socket) -> None:
-        """Send lines until the client leaves or the converter ends. What wasn't sent in a silence isn't sent later."""
+        """Send lines until the client leaves or the converter ends. It sends nothing later of a silence."""
         with stream:
             stream.setsockopt(socket.IPPROTO_TCP, socket.TCP_NODELAY, 1)
             due = time.monotonic()

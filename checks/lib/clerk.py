@@ -67,7 +67,7 @@ class Clerk(Closing):
     # ---- what is on the page
 
     def content(self, selector: str) -> str:
-        """Return the text of the first part, also of what isn't shown."""
+        """Return the text of the first part, even if it isn't shown."""
         found: str = self.run("return document.querySelector(arguments[0]).textContent", selector)
         return found
 
@@ -92,7 +92,7 @@ class Clerk(Closing):
         return found
 
     def words(self) -> str:
-        """Return what the page says is to be done now."""
+        """Return what the page asks the clerk to do now."""
         return self.content("#words")
 
     def more(self) -> str:

@@ -79,7 +79,7 @@ class Bridge(Closing):
 
     @property
     def process(self) -> subprocess.Popen[bytes]:
-        """The counter's process, once it was started."""
+        """Returns the counter's process, once it was started."""
         assert self.counter is not None
         return self.counter
 
@@ -149,7 +149,7 @@ class Bridge(Closing):
         return json.loads(self.ask(method, target, **how)[1])
 
     def events(self, seconds: float) -> list[tuple[str, Any]]:
-        """Return the events of a stream in so many seconds, each with its name."""
+        """Return the events of a stream in `seconds`, each with its name."""
         found, until = b"", time.monotonic() + seconds
         with socket.create_connection((HOST, self.http), 5) as stream:
             stream.sendall(f"GET /events HTTP/1.1\r\nHost: {HOST}:{self.http}\r\n\r\n".encode())

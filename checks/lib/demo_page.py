@@ -7,9 +7,9 @@ import time
 
 from checks.lib.bridge import free_port
 from checks.lib.browser import Browser
-from checks.lib.counter_clerk import ENTER, F6, F9
-from checks.lib.counter_looks import FAINT
+from checks.lib.clerk import ENTER, F6, F9
 from checks.lib.countering import becomes, holds, same
+from checks.lib.looks import FAINT
 from checks.lib.demoing import WEIGHS_AFTER, Running, asked
 
 ARROW_LEFT, ARROW_RIGHT = "\ue012", "\ue014"

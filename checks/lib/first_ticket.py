@@ -9,7 +9,7 @@ import sys
 import time
 from urllib.error import HTTPError
 
-from checks.lib.counter_clerk import ENTER, Clerk
+from checks.lib.clerk import ENTER, Clerk
 from checks.lib.countering import becomes, failures, holds, same
 from checks.lib.demoing import Running
 

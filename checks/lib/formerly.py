@@ -52,7 +52,6 @@ QUICK = {
 # About how many seconds the others take, if it is more than a minute.
 SECONDS = {
     "lost_entries": 1500,
-    "counter_former": 1500,
     "store_in_sqlite3": 600,
     "replay_without_memory": 500,
     "store_without_memory": 450,

@@ -1,4 +1,4 @@
-"""A network between a browser and a program of this machine, that can be slow, or gone. It needs python3 alone."""
+"""A network between a browser and a program of this machine, that can be slow, or gone. It needs only python3."""
 
 import queue
 import socket
@@ -11,7 +11,7 @@ Way = queue.Queue[tuple[float, bytes]]  # when to pass the bytes, and the bytes
 
 
 class Network(Closing, threading.Thread):
-    """Hands on what comes to its port, `delay` seconds later in each direction, and no faster than `speed` bytes a second. While it isn't there,
+    """Forwards what comes to its port, `delay` seconds later in each direction, and no faster than `speed` bytes a second. While it isn't there,
     each connection stands still as on a pulled cable, and a new one gets no byte."""
 
     def __init__(self, to: int) -> None:

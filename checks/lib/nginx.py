@@ -92,6 +92,6 @@ class Nginx(Closing):
 
 
 def curl(address: str, shown: str, *words: str, within: float = 5) -> str:
-    """Ask by curl without a look at the certificate, and return what of the answer is to be shown."""
+    """Ask by curl without a look at the certificate, and return the fields of the answer that `shown` names."""
     command = ["curl", "-sk", "-m", str(within), "-o", "/dev/null", "-w", shown, *words, address]
     return subprocess.run(command, capture_output=True, text=True).stdout

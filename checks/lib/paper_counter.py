@@ -7,12 +7,15 @@ import subprocess
 import sys
 import time
 
-from checks.lib.counter_clerk import ENTER, F8, F9, Clerk, at_of
-from checks.lib.counter_looks import FAINT, WIDE
-from checks.lib.countering import HOST, TOP, Bridge, becomes, holds, same
+from checks.lib.bridge import HOST
+from checks.lib.clerk import ENTER, F8, F9, Clerk, at_of
+from checks.lib.counter import Bridge
+from checks.lib.countering import becomes, case, holds, same
+from checks.lib.looks import FAINT, WIDE
 from checks.lib.paper_forms import beside, large_of
 from checks.lib.paper_roll import Printed, code_of, legal_of
 from PIL import Image
+from checks import TOP
 from checks.lib.papering import Desk, about, code_in_pdf, legal_in_pdf, lines_of_width, picture_of
 
 from tests.papers import LONGEST, USUAL
@@ -30,7 +33,7 @@ def marks(data):
 def bridge_with(program, played, **more):
     """A bridge whose counter has a printer."""
     bridge = Bridge(
-        program, 10, settings="".join(f"{name} = {value}\n" for name, value in more.items())
+        program=program, settings="".join(f"{name} = {value}\n" for name, value in more.items())
     )
     with open(f"{bridge.folder}/paper.toml", "w") as file:
         file.write(
@@ -276,9 +279,9 @@ def printed_by(browser, size, path):
 
 def by_the_browser(program, pictures, looked_at):
     bridge = Bridge(
-        program, 10, settings='address = ["Hafenstraße 12", "28217 Bremen"]\nlanguage = "de"\n'
+        program=program, settings='address = ["Hafenstraße 12", "28217 Bremen"]\nlanguage = "de"\n'
     ).start_counter()
-    clerk = Clerk(at_of(bridge.http))
+    clerk = Clerk(at_of(bridge.http), case=case)
     try:
         bridge.put(0)
         clerk.sees("The bridge is empty")
@@ -367,7 +370,7 @@ def letter_height(pdf, word):
 def with_a_printer(program, pictures):
     played = PlayedPrinter()
     bridge = bridge_with(program, played)
-    clerk = Clerk(at_of(bridge.http), None, 1000, 640)
+    clerk = Clerk(at_of(bridge.http), 1000, 640, case=case)
     try:
         bridge.put(0)
         clerk.sees("The bridge is empty")
@@ -440,7 +443,7 @@ def looks(bridge, clerk):
     """The bar, the list and the dialog for free lines on a telephone and in the dark: nothing sideways, nothing faint."""
     found = []
     for width, is_dark, lang in ((360, False, "de"), (360, True, "fr"), (1280, True, "es")):
-        other = Clerk(at_of(bridge.http), None, width, 740, is_dark, lang)
+        other = Clerk(at_of(bridge.http), width, 740, is_dark, lang, case=case)
         try:
             becomes(
                 f"{width} px, {lang}: the bar is there",

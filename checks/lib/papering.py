@@ -8,8 +8,10 @@ import subprocess
 import sys
 import tempfile
 
-from checks.lib.countering import TOP, failures
+from checks.lib.countering import failures
 from checks.lib.paper_roll import Printed, code_in, legal_of
+
+from checks import TOP
 
 sys.path.insert(0, os.path.dirname(os.path.dirname(os.path.dirname(os.path.abspath(__file__)))))
 COMMAND = os.path.join(TOP, "counter", "weighbridge-paper")
