@@ -12,47 +12,14 @@ from collections.abc import Callable, Iterator
 from contextlib import contextmanager
 from typing import Any
 
-from checks.lib.bridge import Closing
 from checks.lib.case import PROGRAM
 from checks.lib.counter import NO_TARE
 from checks.lib.counter_case import AtTheCounter, CounterCheck
+from checks.lib.small_disk import SmallDisk
 
-SIZE = 512  # KiB
 SLOW = 3  # seconds that each fsync takes
 NOT_NOTED = (503, "counter no_file\n")
 NOT_WRITTEN, WRITTEN_AGAIN = "it can't be written", "is written again"
-
-
-class SmallDisk(Closing):
-    """A separate disk for a folder. The check fills it, or makes it read-only."""
-
-    def __init__(self, folder: str) -> None:
-        self.folder = folder
-        os.mkdir(folder, 0o700)
-        self.mount("-t", "tmpfs", "-o", f"size={SIZE}k,mode=700", "tmpfs", folder)
-
-    def mount(self, *words: str) -> None:
-        subprocess.run(["mount", *words], check=True, capture_output=True)
-
-    def fill(self) -> None:
-        with open(f"{self.folder}/fill", "wb", buffering=0) as file:
-            try:
-                while file.write(b"x" * 4096):
-                    pass
-            except OSError:
-                pass
-
-    def empty(self) -> None:
-        os.unlink(f"{self.folder}/fill")
-
-    def make_read_only(self) -> None:
-        self.mount("-o", "remount,ro", self.folder)
-
-    def make_writable(self) -> None:
-        self.mount("-o", "remount,rw", self.folder)
-
-    def close(self) -> None:
-        subprocess.run(["umount", "--lazy", self.folder], check=False)
 
 
 class Disk(CounterCheck):
@@ -64,7 +31,7 @@ class Disk(CounterCheck):
     def setUp(self) -> None:
         self.bridge = self.new_bridge(20)
         try:
-            self.disk = self.enterContext(SmallDisk(f"{self.bridge.folder}/state"))
+            self.disk = self.enterContext(SmallDisk(f"{self.bridge.folder}/state", "512k"))
         except subprocess.CalledProcessError:
             self.skipTest("this user can't mount a disk")
         self.bridge.start_counter()

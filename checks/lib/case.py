@@ -17,8 +17,11 @@ from checks import TOP
 
 # Set it to keep the folders of a test, also by `--keep`.
 KEEP = "CHECKS_KEEP"
-# The built program that the checks try, unless the variable names another one.
-BUILT = os.environ.get("WEIGHBRIDGE_PROGRAM", str(TOP / "weighbridge"))
+# Built programs that the checks try in place of those that the launchers have built.
+NAMED, NAMED_CONVERTER = (
+    os.environ.get(it) for it in ("WEIGHBRIDGE_PROGRAM", "WEIGHBRIDGE_CONVERTER")
+)
+BUILT = NAMED or str(TOP / "weighbridge")
 # What a class needs that tries the built program. `python3 -m checks` builds it first.
 PROGRAM = "the program"
 # Names that stand for more than a command or a module of Python.
@@ -88,6 +91,13 @@ class Check(unittest.TestCase):
         """Look until the wanted value is found, as a case of its own."""
         with self.subTest(what):
             wait_until(what, look, lambda found: found == wanted, seconds)
+
+    def comes(self, what: str, look: Callable[[], Any], seconds: float = 20) -> Any:
+        """Look until something is there, and return it, as a case of its own."""
+        found = None
+        with self.subTest(what):
+            found = wait_until(what, look, seconds=seconds)
+        return found
 
     def passes_unittest(self, part: str) -> None:
         """Show that the tests pass that a part of this repository has in its own folder."""

@@ -9,7 +9,6 @@ from checks.lib.bridge import kg_of
 from checks.lib.case import Check
 from checks.lib.clerk import ENTER, ESCAPE, Clerk, at_of
 from checks.lib.counter import Bridge
-from checks.lib.waiting import wait_until
 
 # Measures from the Enter key to the answer on the page.
 WATCH = """window.took = 0; window.pressed = 0;
@@ -28,13 +27,6 @@ class CounterCheck(Check):
     def new_clerk(self, at: str, **more: Any) -> Clerk:
         """Open a page of a counter in a browser that ends with the test."""
         return self.enterContext(Clerk(at, case=self.subTest, **more))
-
-    def comes(self, what: str, look: Callable[[], Any], seconds: float = 15) -> Any:
-        """Look until something is there, and return it, as a case of its own."""
-        found = None
-        with self.subTest(what):
-            found = wait_until(what, look, seconds=seconds)
-        return found
 
 
 class AtTheCounter(CounterCheck):

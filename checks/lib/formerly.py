@@ -56,8 +56,6 @@ SECONDS = {
     "replay_without_memory": 500,
     "store_without_memory": 450,
     "release": 400,
-    "paper": 350,
-    "demo": 300,
     "units": 250,
     "broken_files": 200,
 }
