@@ -71,11 +71,8 @@ class Access(AtThePage):
         headings = [name for role, name in found if role == "heading"]
         self.same("its headings", ["Kieswerk Wellum", "On site 1"], headings[:2])
         roles = [role for role, _ in found]
-        self.same(
-            "two lists, with a row for each vehicle on site and each entry of today",
-            (2, 1 + 3),
-            (roles.count("list"), roles.count("listitem")),
-        )
+        what = "two lists, with a row for each vehicle on site and each entry of today"
+        self.same(what, (2, 1 + 3), (roles.count("list"), roles.count("listitem")))
         menus = [name for role, name in found if role == "button" and name.endswith(MENU)]
         self.same(
             "each row's menu names its plate and its slip",
@@ -123,8 +120,5 @@ class Access(AtThePage):
             for plate, state in (("DD-44", "ready"), ("D D!", "no plate")):
                 self.clerk.keys(ESCAPE + plate)
                 time.sleep(0.3)
-                self.same(
-                    f"{theme}, {state}: borders of controls are 3 to 1 at least",
-                    [],
-                    self.clerk.run(FAINT_BORDERS),
-                )
+                what = f"{theme}, {state}: borders of controls are 3 to 1 at least"
+                self.same(what, [], self.clerk.run(FAINT_BORDERS))

@@ -52,11 +52,8 @@ class Ages(AtThePage):
             while self.clerk.kg() is not None and time.monotonic() - began < 5:
                 time.sleep(0.02)
             took = time.monotonic() - began
-            self.comes(
-                "and a sentence says what is wrong",
-                lambda: self.clerk.words().startswith(FAULTS),
-                8,
-            )
+            what = "and a sentence says what is wrong"
+            self.comes(what, lambda: self.clerk.words().startswith(FAULTS), 8)
             words = self.clerk.words()
         self.comes("it comes back automatically", lambda: self.clerk.kg() is not None, 12)
         return took, words

@@ -125,16 +125,10 @@ class Attack(CounterCheck):
             most = int(next(it for it in status if it.startswith("VmHWM")).split()[1]) / 1024
         said = f"{most:.0f} MB after {asked} changes"
         print(said, flush=True)
-        self.holds(
-            f"2,000 kept tares, changes of them, 20 pages that read next to nothing: at most {MOST_ATTACKED:.0f} MB",
-            most <= MOST_ATTACKED and asked > 0,
-            said,
-        )
-        self.holds(
-            "and the weight continues at a page that reads",
-            max(gaps) < 1.5 and streams.ended == 0,
-            f"longest gap {max(gaps):.1f} s",
-        )
+        what = f"2,000 kept tares, changes of them, 20 pages that read next to nothing: at most {MOST_ATTACKED:.0f} MB"
+        self.holds(what, most <= MOST_ATTACKED and asked > 0, said)
+        what = "and the weight continues at a page that reads"
+        self.holds(what, max(gaps) < 1.5 and streams.ended == 0, f"longest gap {max(gaps):.1f} s")
         self.holds("the other pages began", all(it.begun for it in pages))
 
 
@@ -191,10 +185,8 @@ class Costs(AtTheCounter):
             f"{what} readings a second, each another: counter {counter:.1f} % of a core, {memory:.0f} MB, service {service:.1f} %; {rate:.2f} kB/s a page",
             flush=True,
         )
-        self.holds(
-            f"{what}: each has a stream that stays",
-            len(streams.heard) == self.pages and streams.ended == 0,
-        )
+        what = f"{what}: each has a stream that stays"
+        self.holds(what, len(streams.heard) == self.pages and streams.ended == 0)
         if self.pages == 20:
             self.holds(
                 f"{what}: at most {MOST_CPU:.0f} % of a core and {MOST_MEMORY:.0f} MB",

@@ -117,11 +117,8 @@ class Fanout(AtTheCounter):
         zeros = Meanwhile(lambda: [bridge.ask("POST", "/zero")[1] for _ in range(15)])
         results = [it.get() for it in tills]
         times = sorted(it for _, took in results for it in took)
-        self.same(
-            "two tills and a page at once: each reply is of its own question",
-            [],
-            [it for wrong, _ in results for it in wrong],
-        )
+        what = "two tills and a page at once: each reply is of its own question"
+        self.same(what, [], [it for wrong, _ in results for it in wrong])
         lines = display.get()
         said = f"{len(lines) / 6:.1f} a second; a till's answer: median {1000 * times[len(times) // 2]:.0f} ms, worst {1000 * times[-1]:.0f} ms"
         print(said, flush=True)
@@ -131,16 +128,11 @@ class Fanout(AtTheCounter):
             and all(it.startswith("S ") for it in lines),
             said,
         )
-        self.holds(
-            "a page's zero is refused in the scale's words",
-            all('"Z +"' in it or "not_sent" in it for it in zeros.get()),
-        )
+        what = "a page's zero is refused in the scale's words"
+        self.holds(what, all('"Z +"' in it or "not_sent" in it for it in zeros.get()))
         bridge.terminal_says("till", "TAC")
-        self.same(
-            "a port that only reads refuses what would change the scale",
-            ["ES"] * 4,
-            bridge.replies("display", "Z", "T", "TA 5000 kg", "TAC"),
-        )
+        what = "a port that only reads refuses what would change the scale"
+        self.same(what, ["ES"] * 4, bridge.replies("display", "Z", "T", "TA 5000 kg", "TAC"))
         weight = bridge.terminal_says("display", "SI")
         self.same("and answers the rest", "S S      18340 kg", weight)
         self.same("no tare is set", NO_TARE, bridge.tare())
@@ -188,11 +180,8 @@ class Fanout(AtTheCounter):
             told = page.get()
             bridge.wait_until_up()
             time.sleep(0.5)
-            self.same(
-                f"what came while the counter stood still for {seconds} s is not carried out",
-                (NO_TARE, (503, "counter late\n")),
-                (bridge.tare(), told[:2]),
-            )
+            what = f"what came while the counter stood still for {seconds} s is not carried out"
+            self.same(what, (NO_TARE, (503, "counter late\n")), (bridge.tare(), told[:2]))
 
     def test_a_tare_of_one_weighing(self) -> None:
         bridge, number = self.bridge, iter(range(1, 1000))

@@ -161,16 +161,11 @@ class Synced(AtTheCounter):
         with self.traced("-e", "trace=fsync,fdatasync", "-e", delay):
             bridge.put(0)
             with self.within("at once", 1):
-                self.same(
-                    "a slow disk: zero is answered as the scale answers it",
-                    '{"said": "Z A"}',
-                    bridge.ask("POST", "/zero")[1],
-                )
+                what = "a slow disk: zero is answered as the scale answers it"
+                self.same(what, '{"said": "Z A"}', bridge.ask("POST", "/zero")[1])
             bridge.next_vehicle(9170)
-            self.comes(
-                "a slow disk: the fault stands in /health",
-                lambda: "takes longer than" in str(bridge.health()["files"]),
-            )
+            what = "a slow disk: the fault stands in /health"
+            self.comes(what, lambda: "takes longer than" in str(bridge.health()["files"]))
             with self.within("in time", 2):
                 told = bridge.weigh("slow-tare", "single", "T-1", 5000)
                 self.same("a slow disk: a weighing with a tare is refused", NOT_NOTED, told)
@@ -179,16 +174,10 @@ class Synced(AtTheCounter):
                 self.same("a slow disk: a First is stored", 201, status)
             moments = [it["at"] for name, it in bridge.events(4) if name == "weight"]
             gaps = [after - before for before, after in zip(moments, moments[1:])]
-            self.holds(
-                "a slow disk: no weight waits for it",
-                bool(gaps) and max(gaps) < 700,
-                f"{max(gaps, default=0)} ms at most",
-            )
-        self.becomes(
-            "a slow disk: the fault ends automatically",
-            False,
-            lambda: "files" in bridge.health()["faults"],
-        )
+            what = "a slow disk: no weight waits for it"
+            self.holds(what, bool(gaps) and max(gaps) < 700, f"{max(gaps, default=0)} ms at most")
+        what = "a slow disk: the fault ends automatically"
+        self.becomes(what, False, lambda: "files" in bridge.health()["faults"])
 
     @contextmanager
     def within(self, what: str, seconds: float) -> Iterator[None]:
@@ -217,11 +206,8 @@ class Synced(AtTheCounter):
                 return following([it for it in calls if it], name)
 
             noted = ["fsync act.json.new", "rename act.json", "fsync ."]
-            self.becomes(
-                "and the note of a tare, including its removal",
-                [*noted, "unlink act.json", "fsync ."],
-                lambda: calls_on("act.json"),
-            )
+            what = "and the note of a tare, including its removal"
+            self.becomes(what, [*noted, "unlink act.json", "fsync ."], lambda: calls_on("act.json"))
             self.same(
                 "each change of tares.json is the file, its name, its folder",
                 ["fsync tares.json.new", "rename tares.json", "fsync ."] * 2,
@@ -298,30 +284,19 @@ class Journal(AtTheCounter):
         self.becomes("they are on the lists", 6, lambda: len(self.plates("today")))
         exports = bridge.metric("exports_total")
         self.exchange(purged(2))
-        self.comes(
-            "after a purge of a part the lists are read again",
-            lambda: bridge.metric("exports_total") > exports,
-        )
-        self.same(
-            "they have what stays, and the counter reports nothing",
-            (["P-3", "P-3", "P-2", "P-2"], None),
-            (self.plates("today"), self.told()),
-        )
+        what = "after a purge of a part the lists are read again"
+        self.comes(what, lambda: bridge.metric("exports_total") > exports)
+        what = "they have what stays, and the counter reports nothing"
+        self.same(what, (["P-3", "P-3", "P-2", "P-2"], None), (self.plates("today"), self.told()))
         self.exchange(purged(6))
-        self.same(
-            "after a purge of everything a vehicle is weighed in",
-            201,
-            self.weigh_in("after-purge", "Q-7"),
-        )
+        what = "after a purge of everything a vehicle is weighed in"
+        self.same(what, 201, self.weigh_in("after-purge", "Q-7"))
         refused = bridge.json("GET", "/papers")["refused"]
         self.same("its paper isn't taken for a changed text", None, refused)
         bridge.put(0)
         self.becomes("the lists have it, and nothing else", ["Q-7"], lambda: self.plates("today"))
-        self.holds(
-            "and the counter reports at most that no entry is left",
-            self.told() in (None, ("empty", 6, 0)),
-            self.told(),
-        )
+        what = "and the counter reports at most that no entry is left"
+        self.holds(what, self.told() in (None, ("empty", 6, 0)), self.told())
         bridge.ask("POST", "/lists/seen")
 
     def after_an_older_copy(self) -> None:
@@ -331,11 +306,8 @@ class Journal(AtTheCounter):
         self.weigh_in("after-copy-2", "Q-9")
         self.same("two more are on site", ["Q-9", "Q-8", "Q-7"], self.plates("on_site"))
         self.exchange(lambda path: restored(copy, path))
-        self.becomes(
-            "after an older copy was restored only its vehicles are on site",
-            ["Q-7"],
-            lambda: self.plates("on_site"),
-        )
+        what = "after an older copy was restored only its vehicles are on site"
+        self.becomes(what, ["Q-7"], lambda: self.plates("on_site"))
         changed = ("shorter", 9, 7)
         self.same("the counter reports it, with the numbers", changed, self.told())
         faults = bridge.health()["faults"]
@@ -350,11 +322,8 @@ class Journal(AtTheCounter):
         bridge = self.bridge
         self.exchange(removed)
         self.weigh_in("new-1", "NEW-1")
-        self.becomes(
-            "after a new file Today has its papers and no older ones",
-            ["NEW-1"],
-            lambda: self.plates("today"),
-        )
+        what = "after a new file Today has its papers and no older ones"
+        self.becomes(what, ["NEW-1"], lambda: self.plates("today"))
         self.same("On site too", ["NEW-1"], self.plates("on_site"))
         told = self.told()
         is_told = told in (("empty", 7, 0), ("shorter", 7, 1))

@@ -74,10 +74,8 @@ class Given(AtThePage):
         clerk = self.clerk
         self.bridge.next_vehicle(9170)
         clerk.is_ready_for("GI-VE-1")
-        self.comes(
-            "the last goods of a plate are offered",
-            lambda: "As last time: Kies 0/32" in clerk.others(),
-        )
+        what = "the last goods of a plate are offered"
+        self.comes(what, lambda: "As last time: Kies 0/32" in clerk.others())
         self.same("and not taken", "Goods, order, driver…", clerk.others()[-1])
         clerk.press("#others button", "As last time")
         self.same("one press takes them", ON_PAPER, clerk.others()[-1])
@@ -101,17 +99,11 @@ class Given(AtThePage):
             "a line is added on each page", ["Kies 0/32, 4711"], lambda: self.rows("#site")
         )
         status, text, _ = self.bridge.ask("PUT", "/entries/2/given", body='{"goods": "Erde"}')
-        self.same(
-            "a printed ticket's lines are refused",
-            (409, {"why": "printed"}),
-            (status, json.loads(text)),
-        )
+        what = "a printed ticket's lines are refused"
+        self.same(what, (409, {"why": "printed"}), (status, json.loads(text)))
         self.same("and stay", [("Goods", "Kies 0/32")], self.paper_of(2))
-        self.same(
-            "without an entry there is nothing to change",
-            404,
-            self.bridge.ask("PUT", "/entries/99/given", body="{}")[0],
-        )
+        what = "without an entry there is nothing to change"
+        self.same(what, 404, self.bridge.ask("PUT", "/entries/99/given", body="{}")[0])
 
     def test_one_that_is_removed(self) -> None:
         bridge, clerk = self.bridge, self.clerk
@@ -127,9 +119,7 @@ class Given(AtThePage):
         self.same("as they were given", "Sand", clerk.value("#goods"))
         clerk.run(REMOVE_GOODS)
         self.done()
-        self.comes(
-            "a line that the clerk removes is gone",
-            lambda: "On the printout: Ada" in clerk.others(),
-        )
+        what = "a line that the clerk removes is gone"
+        self.comes(what, lambda: "On the printout: Ada" in clerk.others())
         self.weigh("Ticket 2")
         self.same("from the ticket too", [("Driver", "Ada")], self.paper_of(2))

@@ -104,11 +104,8 @@ class Questions(InAHurry):
         self.same("Tab goes to the first answer", f"{ON_SITE} F1", self.clerk.focus())
         self.nothing_comes_of("Enter ten times in a second on an answer", self.hammer, NEW)
         for key in (F7, F10):
-            self.nothing_comes_of(
-                f"the key F{ord(key) - 0xE030} of another question",
-                lambda: self.clerk.keys(key),
-                NEW,
-            )
+            what = f"the key F{ord(key) - 0xE030} of another question"
+            self.nothing_comes_of(what, lambda: self.clerk.keys(key), NEW)
 
         def after_a_blank() -> str:
             self.clerk.run("document.querySelector('#hint .answer')?.focus()")
@@ -210,11 +207,8 @@ class Questions(InAHurry):
         self.hold_enter()
         self.clerk.sees("Ticket 3")
         self.hammer()
-        self.same(
-            "then Enter weighs what was taken, once, held and hammered",
-            [("second", ON_SITE)],
-            self.added(),
-        )
+        what = "then Enter weighs what was taken, once, held and hammered"
+        self.same(what, [("second", ON_SITE)], self.added())
 
 
 class Held(InAHurry):
@@ -246,28 +240,19 @@ class Held(InAHurry):
         self.open_by_search("HELD-1")
         self.clerk.tab_to("Withdraw this weighing", 6)
         self.hold_enter()
-        self.same(
-            "Enter held on Withdraw asks once more, and withdraws nothing",
-            "Press again: withdraw HELD-1",
-            self.clerk.focus(),
-        )
+        what = "Enter held on Withdraw asks once more, and withdraws nothing"
+        self.same(what, "Press again: withdraw HELD-1", self.clerk.focus())
         self.clerk.keys(ESCAPE)
         self.open_by_search("HELD-1")
         x, y = self.clerk.browser.middle_of("#entry .danger")
         self.clerk.browser.click_at(x, y, count=2)
-        self.same(
-            "a double click on Withdraw asks once more",
-            "Press again: withdraw HELD-1",
-            self.clerk.text("#entry .danger"),
-        )
+        what = "a double click on Withdraw asks once more"
+        self.same(what, "Press again: withdraw HELD-1", self.clerk.text("#entry .danger"))
         self.clerk.keys(ESCAPE)
         self.same("nothing was withdrawn", False, ("void", "HELD-1") in self.bridge.weighings())
         self.clerk.keys(ESCAPE + "AB")
-        self.same(
-            "letters go into the plate once a text that the search found is closed",
-            "AB",
-            self.clerk.plate(),
-        )
+        what = "letters go into the plate once a text that the search found is closed"
+        self.same(what, "AB", self.clerk.plate())
         self.clerk.intercept_nothing()
 
     def test_a_small_net(self) -> None:
@@ -275,24 +260,15 @@ class Held(InAHurry):
             self.bridge.next_vehicle(load)
             self.clerk.keys(ESCAPE + "HELD-1")
             self.clerk.sees(f"The net would be only {net} kg.")
-            self.same(
-                f"a net of {net} kg: its answer has a key of its own",
-                ["It is the right one F7"],
-                self.clerk.answers(),
-            )
+            what = f"a net of {net} kg: its answer has a key of its own"
+            self.same(what, ["It is the right one F7"], self.clerk.answers())
             self.nothing_comes_of(f"a net of {net} kg: Enter hammered", self.hammer, "HELD-1")
             self.nothing_comes_of(f"a net of {net} kg: Enter held", self.hold_enter, "HELD-1")
-            self.nothing_comes_of(
-                f"a net of {net} kg: the keys of another question",
-                lambda: self.clerk.keys(F1 + F6 + F10),
-                "HELD-1",
-            )
+            what = f"a net of {net} kg: the keys of another question"
+            self.nothing_comes_of(what, lambda: self.clerk.keys(F1 + F6 + F10), "HELD-1")
         self.note_entries()
-        self.nothing_comes_of(
-            "a net of 0 kg: its key, and Enter at once",
-            lambda: self.clerk.keys(F7 + ENTER),
-            "HELD-1",
-        )
+        what = "a net of 0 kg: its key, and Enter at once"
+        self.nothing_comes_of(what, lambda: self.clerk.keys(F7 + ENTER), "HELD-1")
         self.clerk.sees("Ready.", what="a net of 0 kg: its key answers")
         self.clerk.keys(ENTER)
         self.becomes("a net of 0 kg: and then Enter weighs", [("second", "HELD-1")], self.added)
@@ -344,11 +320,8 @@ class OffZero(InAHurry):
             9,
             "160 kg on the empty bridge: the sentence asks for zero",
         )
-        self.holds(
-            "160 kg on the empty bridge: after some five seconds",
-            2 < time.monotonic() - began < 8,
-            f"{time.monotonic() - began:.1f} s",
-        )
+        what = "160 kg on the empty bridge: after some five seconds"
+        self.holds(what, 2 < time.monotonic() - began < 8, f"{time.monotonic() - began:.1f} s")
         self.same("and offers its key", "Set zero F9", self.clerk.text("#choices button"))
         self.clerk.keys(F9)
         self.clerk.sees("The bridge is empty", 8, "F9 sets it, and the bridge is empty")
@@ -397,20 +370,15 @@ class OffZero(InAHurry):
         self.bridge.put(80)
         self.bridge.put(9170)
         self.clerk.keys(ESCAPE + "SINGLE-1")
-        self.clerk.sees(
-            "The bridge showed 160 kg before this vehicle.",
-            what="160 kg before the vehicle: a Single asks first",
-        )
+        what = "160 kg before the vehicle: a Single asks first"
+        self.clerk.sees("The bridge showed 160 kg before this vehicle.", what=what)
         self.same(
             "its answer has a key of its own", ["Weigh it all the same F10"], self.clerk.answers()
         )
         self.nothing_comes_of("a Single off zero: Enter hammered", self.hammer, "SINGLE-1")
         self.nothing_comes_of("a Single off zero: Enter held", self.hold_enter, "SINGLE-1")
-        self.nothing_comes_of(
-            "a Single off zero: the keys of other questions",
-            lambda: self.clerk.keys(F1 + F6 + F7),
-            "SINGLE-1",
-        )
+        what = "a Single off zero: the keys of other questions"
+        self.nothing_comes_of(what, lambda: self.clerk.keys(F1 + F6 + F7), "SINGLE-1")
         self.clerk.is_ready_for(
             "FIRST-1", "a First asks nothing: its second weighing shows the same"
         )
@@ -421,16 +389,12 @@ class OffZero(InAHurry):
         self.bridge.put(80)
         self.bridge.put(9170)
         self.clerk.keys(ESCAPE + "SINGLE-1")
-        self.clerk.sees(
-            "The bridge showed 160 kg before this vehicle.",
-            what="an answer is for one vehicle: the page asks again at the next one",
-        )
+        what = "an answer is for one vehicle: the page asks again at the next one"
+        self.clerk.sees("The bridge showed 160 kg before this vehicle.", what=what)
         self.bridge.kill_counter()
         self.bridge.start_counter()
-        self.clerk.sees(
-            "It isn't known what the bridge showed before this vehicle.",
-            what="a counter that was started under a vehicle knows nothing of before",
-        )
+        what = "a counter that was started under a vehicle knows nothing of before"
+        self.clerk.sees("It isn't known what the bridge showed before this vehicle.", what=what)
         self.note_entries()
         self.clerk.keys(F10)
         self.clerk.sees("Ready.")
@@ -464,11 +428,8 @@ class EarlyEnter(InAHurry):
         self.same("it says so", words, self.clerk.more())
         self.hammer()
         self.clerk.sees(f"SW-AA-11 {ARMED}")
-        self.same(
-            "while it sways, Enter hammered stores nothing",
-            ([], "SW-AA-11"),
-            (self.added(), self.clerk.plate()),
-        )
+        what = "while it sways, Enter hammered stores nothing"
+        self.same(what, ([], "SW-AA-11"), (self.added(), self.clerk.plate()))
         self.bridge.converter.sway = 0
         self.becomes("once it stands, it is weighed", weighed, self.added)
         self.hammer()
@@ -553,11 +514,8 @@ class EarlyEnter(InAHurry):
             self.clerk.sees(words, what=what)
             self.stands(8000)
             time.sleep(2.5)
-            self.same(
-                "it isn't weighed by that press, and the plate isn't in the form",
-                ([], ""),
-                (self.added(), self.clerk.plate()),
-            )
+            what = "it isn't weighed by that press, and the plate isn't in the form"
+            self.same(what, ([], ""), (self.added(), self.clerk.plate()))
             self.clerk.intercept_nothing()
             self.clerk.keys(ESCAPE + ESCAPE)
 
@@ -574,33 +532,21 @@ class NextVehicle(InAHurry):
             self.note_entries()
             self.clerk.is_ready_for(own)
             self.clerk.browser.hammer(ENTER + typed, pause)
-            self.becomes(
-                f"a key each {pause} s before the answer: this vehicle is weighed",
-                [("first", own)],
-                self.added,
-            )
+            what = f"a key each {pause} s before the answer: this vehicle is weighed"
+            self.becomes(what, [("first", own)], self.added)
             time.sleep(0.5)
-            self.same(
-                f"a key each {pause} s before the answer: the next plate is whole",
-                typed,
-                self.clerk.plate(),
-            )
+            what = f"a key each {pause} s before the answer: the next plate is whole"
+            self.same(what, typed, self.clerk.plate())
         self.bridge.next_vehicle(6000)
         self.clerk.is_ready_for("HELD-1")
         self.note_entries()
         with held(self.bridge.service.process):
             self.clerk.keys(ENTER)
             self.clerk.keys("HB-KW-77")
-            self.same(
-                "while there is no answer, the next plate can be typed",
-                "HB-KW-77",
-                self.clerk.plate(),
-            )
-        self.becomes(
-            "once the service continues, the held weighing is stored",
-            [("first", "HELD-1")],
-            self.added,
-        )
+            what = "while there is no answer, the next plate can be typed"
+            self.same(what, "HB-KW-77", self.clerk.plate())
+        what = "once the service continues, the held weighing is stored"
+        self.becomes(what, [("first", "HELD-1")], self.added)
         time.sleep(0.5)
         self.same("and the next plate is still whole", "HB-KW-77", self.clerk.plate())
 
@@ -621,11 +567,8 @@ class NextVehicle(InAHurry):
         self.bridge.put(0)
         self.clerk.sees(f"{GONE} MOVED-1 was removed")
         self.clerk.choose()
-        self.same(
-            "one press puts the plate back, for a vehicle that only moved",
-            "MOVED-1",
-            self.clerk.plate(),
-        )
+        what = "one press puts the plate back, for a vehicle that only moved"
+        self.same(what, "MOVED-1", self.clerk.plate())
         time.sleep(1)
         self.same("it stays on the empty bridge", "MOVED-1", self.clerk.plate())
         self.bridge.put(7000)
@@ -650,11 +593,8 @@ class NextVehicle(InAHurry):
         )
         self.nothing_comes_of("the vehicle that is there then: Enter hammered", self.hammer, "")
         self.clerk.choose()
-        self.same(
-            "one press puts back what was typed, for the vehicle that is still there",
-            ("UNSEEN-1", "Gravel"),
-            (self.clerk.plate(), self.clerk.value("#goods")),
-        )
+        what = "one press puts back what was typed, for the vehicle that is still there"
+        self.same(what, ("UNSEEN-1", "Gravel"), (self.clerk.plate(), self.clerk.value("#goods")))
         self.clerk.sees("Ready.", what="and it is ready again")
         self.clerk.run("document.querySelector('#site button').click()")
         self.same(
@@ -675,11 +615,8 @@ class NextVehicle(InAHurry):
                 new MutationObserver(() => window.seen.push(words.textContent)).observe(words, { childList: true, characterData: true, subtree: true });"""
             )
             self.bridge.next_vehicle(8000)
-            self.nothing_comes_of(
-                f"{words}: what is typed once another vehicle is there",
-                lambda: self.clerk.browser.hammer("3000" + TEN, 0.1),
-                "",
-            )
+            what = f"{words}: what is typed once another vehicle is there"
+            self.nothing_comes_of(what, lambda: self.clerk.browser.hammer("3000" + TEN, 0.1), "")
             why = f"{GONE} WI-ND-1 was removed from the form."
             self.same("and it says why", True, why in self.clerk.run("return window.seen"))
             self.same("nothing of it stays for the next paper", "", self.clerk.value("#goods"))
@@ -695,10 +632,8 @@ class NextVehicle(InAHurry):
         self.clerk.sees("No answer yet.")
         self.bridge.next_vehicle(8000)
         self.clerk.intercept_nothing()
-        self.clerk.sees(
-            "No answer came to: First weighing, GO-NE-1",
-            what="a press without an answer isn't sent again once another vehicle is there",
-        )
+        what = "a press without an answer isn't sent again once another vehicle is there"
+        self.clerk.sees("No answer came to: First weighing, GO-NE-1", what=what)
         self.same("and nothing is stored", [], self.added())
         self.clerk.browser.click("#choices button:last-child")
         self.clerk.sees("It was not stored.")
@@ -713,16 +648,11 @@ class NextVehicle(InAHurry):
         self.note_entries()
         self.clerk.intercept(LATE, 1500)
         self.clerk.keys(ENTER)
-        self.same(
-            "a colleague is faster than this press",
-            201,
-            self.bridge.weigh("colleague-1", "first", "AA-BB-101")[0],
-        )
+        what = "a colleague is faster than this press"
+        self.same(what, 201, self.bridge.weigh("colleague-1", "first", "AA-BB-101")[0])
         number = self.bridge.entries()[-1][0]
-        self.clerk.sees(
-            f"Already weighed: AA-BB-101, Slip {number}.",
-            what="a colleague's press was before this one: the page names what is weighed",
-        )
+        what = "a colleague's press was before this one: the page names what is weighed"
+        self.clerk.sees(f"Already weighed: AA-BB-101, Slip {number}.", what=what)
         self.same("only the colleague's is stored", [("first", "AA-BB-101")], self.added())
         self.same("the clerk's plate is back", "MINE-1", self.clerk.plate())
         self.clerk.intercept_nothing()
@@ -735,11 +665,8 @@ class NextVehicle(InAHurry):
         self.clerk.keys(ESCAPE + "NEXT-1")
         self.bridge.put(0)
         time.sleep(1)
-        self.same(
-            "a plate that was typed while a weighed vehicle drives off stays",
-            "NEXT-1",
-            self.clerk.plate(),
-        )
+        what = "a plate that was typed while a weighed vehicle drives off stays"
+        self.same(what, "NEXT-1", self.clerk.plate())
         self.bridge.put(8000)
         self.clerk.sees("Ready.", what="for the next vehicle")
         self.clerk.keys(ENTER)

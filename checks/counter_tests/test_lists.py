@@ -34,11 +34,8 @@ class Lists(AtTheCounter):
         form = ("text-1", "first", "HERE")
         status, text = bridge.weigh(*form)
         self.same("a First passes", 201, status)
-        self.same(
-            "sent again it is the office's text, byte for byte",
-            (201, text),
-            bridge.weigh(*form, port=bridge.office),
-        )
+        what = "sent again it is the office's text, byte for byte"
+        self.same(what, (201, text), bridge.weigh(*form, port=bridge.office))
         self.same("and once more through the counter", (201, text), bridge.weigh(*form))
         self.same("and it is stored once", ["text-1"], [it[1] for it in bridge.entries()])
         body = "kind=first&more=%41+b&plate=%48ERE&key=text-1"
@@ -99,11 +96,8 @@ class Lists(AtTheCounter):
             lambda: self.hits("PAST"),
         )
         number = found[0]["number"]
-        self.same(
-            "its slip again is made of the export, letter for letter",
-            {"text": slip, "from": "export"},
-            bridge.json("GET", f"/entries/{number}"),
-        )
+        what = "its slip again is made of the export, letter for letter"
+        self.same(what, {"text": slip, "from": "export"}, bridge.json("GET", f"/entries/{number}"))
         self.same(
             "that of the next is the one that passed",
             {"text": text, "from": "passed"},
@@ -113,11 +107,8 @@ class Lists(AtTheCounter):
         ticket = bridge.weigh("past-3", "second", "PAST", port=bridge.office)[1]
         self.same("its Second, made at the office, isn't known yet", 1, len(self.hits("PAST")))
         bridge.next_vehicle(4070)
-        self.same(
-            "weighed out again it is refused by the office",
-            (409, "refused 13 no_open\n"),
-            bridge.weigh("past-4", "second", "PAST"),
-        )
+        what = "weighed out again it is refused by the office"
+        self.same(what, (409, "refused 13 no_open\n"), bridge.weigh("past-4", "second", "PAST"))
         bridge.put(0)
         self.becomes("and the lists are read again", 2, lambda: len(self.hits("PAST")))
         newest = self.hits("PAST")[0]
@@ -211,11 +202,8 @@ class Lists(AtTheCounter):
         bridge.start_counter()
         shown = {"kg": 5000, "by": "anna", "is_over": False, "used": None, "empty": None}
         found = self.kept()["AB-12"]
-        self.same(
-            "it is there after a start, with the clerk who kept it",
-            shown,
-            {name: found[name] for name in shown},
-        )
+        what = "it is there after a start, with the clerk who kept it"
+        self.same(what, shown, {name: found[name] for name in shown})
         bridge.next_vehicle(9170)
         status = bridge.weigh("tare-used", "single", "AB-12", 5000)[0]
         self.same("it is weighed with", 201, status)
@@ -228,11 +216,8 @@ class Lists(AtTheCounter):
         time.sleep(0.5)
         bridge.weigh("tare-second", "second", "AB-12")
         tares = [it for name, it in told.get() if name == "tare"]
-        self.same(
-            "a pair changes its last empty weight, and the pages get only this tare",
-            [("AB-12", 5040)],
-            [(it["plate"], it["tare"]["empty"]) for it in tares],
-        )
+        what = "a pair changes its last empty weight, and the pages get only this tare"
+        self.same(what, [("AB-12", 5040)], [(it["plate"], it["tare"]["empty"]) for it in tares])
         self.same(
             "whoever asks for the plate gets it too",
             (
@@ -244,11 +229,8 @@ class Lists(AtTheCounter):
         bridge.kill_counter()
         bridge.start_counter()
         found = self.kept()["AB-12"]
-        self.same(
-            "the day is there after a start too, and the weight",
-            (today, 5040),
-            (found["used"], found["empty"]),
-        )
+        what = "the day is there after a start too, and the weight"
+        self.same(what, (today, 5040), (found["used"], found["empty"]))
         dropped = bridge.ask("DELETE", "/tares/AB-12")[:2]
         self.same("and gone once it is dropped", (200, "{}"), dropped)
         self.same("for each page", {}, self.kept())
@@ -287,17 +269,11 @@ class FullJournal(CounterCheck):
         full = {"places": 0, "days": 0, "is_low": True, "is_full": True}
         self.becomes("the fourth takes the last ones", full, room)
         health = bridge.health()
-        self.same(
-            "a full journal can't weigh",
-            (True, False),
-            ("full" in health["faults"], health["can_weigh"]),
-        )
+        what = "a full journal can't weigh"
+        self.same(what, (True, False), ("full" in health["faults"], health["can_weigh"]))
         bridge.next_vehicle(9170)
-        self.same(
-            "as the office says",
-            (409, "refused 14 journal_full\n"),
-            bridge.weigh("room-4", "first", "IN-4"),
-        )
+        what = "as the office says"
+        self.same(what, (409, "refused 14 journal_full\n"), bridge.weigh("room-4", "first", "IN-4"))
         for name in ("journal_free_places", "journal_room_days"):
             self.same(f"{name} is 0", 0, bridge.metric(name))
         status = bridge.weigh("room-5", "second", "IN-0")[0]

@@ -42,11 +42,8 @@ class Looks(AtTheCounter):
             with Clerk(at, width, height, is_dark, lang, case=self.subTest) as clerk:
                 time.sleep(max(0, since + 5.5 - time.monotonic()))
                 found = self.found_in_each_state(clerk, width)
-            self.same(
-                f"{width} px, {lang}, {'dark' if is_dark else 'light'}: in fifteen states nothing sideways, nothing below a contrast of 4.5, nothing without a word",
-                [],
-                found[:6],
-            )
+            what = f"{width} px, {lang}, {'dark' if is_dark else 'light'}: in fifteen states nothing sideways, nothing below a contrast of 4.5, nothing without a word"
+            self.same(what, [], found[:6])
 
     def found_in_each_state(self, clerk: Clerk, width: int) -> list[str]:
         """Bring the page, which is off zero, into each of its states, and return what is wrong in one of them."""

@@ -100,16 +100,10 @@ class Refused(BehindNginx):
             found = self.head_of(target, *KNOWN)[1]
             policy = found.get("content-security-policy", "")
             self.holds(f"{target}: in no frame", "frame-ancestors 'none'" in policy, policy)
-            self.holds(
-                f"{target}: nothing from elsewhere, and no script within the page",
-                "default-src 'none'" in policy and "unsafe" not in policy,
-                policy,
-            )
-            self.same(
-                f"{target}: its type, its site, and https",
-                wanted,
-                {name: found.get(name) for name in wanted},
-            )
+            what = f"{target}: nothing from elsewhere, and no script within the page"
+            self.holds(what, "default-src 'none'" in policy and "unsafe" not in policy, policy)
+            what = f"{target}: its type, its site, and https"
+            self.same(what, wanted, {name: found.get(name) for name in wanted})
         refused = self.head_of("/", *WRONG)[1]
         self.same("a refusal has no cookie", None, refused.get("set-cookie"))
         cookie = self.cookie()
@@ -140,11 +134,8 @@ class Guessed(BehindNginx):
             stream = self.enterContext(context.wrap_socket(plain))
             stream.sendall(ask)
             answers.append(stream.recv(64).split()[1].decode())
-        self.same(
-            "one address has 100 requests open, and no more",
-            (MOST_OPEN, 10),
-            (answers.count("200"), answers.count("429")),
-        )
+        what = "one address has 100 requests open, and no more"
+        self.same(what, (MOST_OPEN, 10), (answers.count("200"), answers.count("429")))
 
     def test_guesses(self) -> None:
         """Show that nginx looks at few of many guesses at once, even if the guesser leaves before he is refused, and serves a clerk who logged in before."""
@@ -161,21 +152,12 @@ class Guessed(BehindNginx):
         took = time.monotonic() - began
         looked_at = sum(it != "429" for it in found)
         # nginx reads its clock once a round, and on a busy machine lets some more through
-        self.holds(
-            "of 150 guesses without waiting nginx examines few",
-            looked_at <= TRIES + took + 10,
-            f"{looked_at} in {took:.1f} s",
-        )
+        what = "of 150 guesses without waiting nginx examines few"
+        self.holds(what, looked_at <= TRIES + took + 10, f"{looked_at} in {took:.1f} s")
         self.same("the right password is slowed with them", "429", self.status_of("/", *KNOWN))
         other = ["-H", "Cookie: weighbridge=1"]
         self.same("another cookie doesn't help", "429", self.status_of("/", *KNOWN, *other))
-        self.same(
-            "who logged in before is not, at whatever he guesses",
-            ["401"] * 3,
-            [self.status_of("/", *WRONG, *cookie) for _ in range(3)],
-        )
-        self.same(
-            "nor where he has the password",
-            ["200"] * 40,
-            [self.status_of("/time", *KNOWN, *cookie) for _ in range(40)],
-        )
+        what = "who logged in before is not, at whatever he guesses"
+        self.same(what, ["401"] * 3, [self.status_of("/", *WRONG, *cookie) for _ in range(3)])
+        what = "nor where he has the password"
+        self.same(what, ["200"] * 40, [self.status_of("/time", *KNOWN, *cookie) for _ in range(40)])

@@ -85,12 +85,8 @@ class Once(AtThePage):
             json.dump(notes, file)
         bridge.start_counter()
         withdrawn = [("first", "ZW-EI-7"), ("void", "ZW-EI-7")]
-        self.becomes(
-            "after midnight the counter withdraws it, even after a new start",
-            withdrawn,
-            bridge.weighings,
-            40,
-        )
+        what = "after midnight the counter withdraws it, even after a new start"
+        self.becomes(what, withdrawn, bridge.weighings, 40)
         time.sleep(6)
         self.same("and only once", withdrawn, bridge.weighings())
 

@@ -66,15 +66,10 @@ class Page(AtThePage):
         key = bridge.entries()[0][1]
         text = bridge.weigh(key, "first", "HB-KW-77", port=bridge.office)[1]
         self.becomes("it prints twice", 2, lambda: len(clerk.papers()))
-        self.same(
-            "on paper stands the text letter for letter, once as the original and then as a copy",
-            [["", text], ["COPY", text]],
-            clerk.papers(),
-        )
-        self.comes(
-            "then it says to let it drive off",
-            lambda: "Slip 1" in clerk.words() or "drive off" in clerk.words(),
-        )
+        what = "on paper stands the text letter for letter, once as the original and then as a copy"
+        self.same(what, [["", text], ["COPY", text]], clerk.papers())
+        what = "then it says to let it drive off"
+        self.comes(what, lambda: "Slip 1" in clerk.words() or "drive off" in clerk.words())
         bridge.next_vehicle(4070)
         clerk.sees("Type the plate.")
         clerk.keys("HBKW87")
@@ -161,10 +156,8 @@ class Page(AtThePage):
         self.same("and from a dialog that is closed", "plate", clerk.focus())
         clerk.intercept(NO_SEARCH)
         clerk.keys(F4 + "wrong")
-        self.comes(
-            "a search without an answer says so",
-            lambda: "The search got no answer." in clerk.content("#hits"),
-        )
+        what = "a search without an answer says so"
+        self.comes(what, lambda: "The search got no answer." in clerk.content("#hits"))
         clerk.intercept_nothing()
         clerk.keys(ESCAPE + F4)
         self.comes("opened again, it searches again", lambda: "WRONG-1" in clerk.content("#hits"))
@@ -197,11 +190,8 @@ class Page(AtThePage):
     def test_another_language(self) -> None:
         """Show that the page offers each language that has a file, and that the clerk's choice stays."""
         names = "return [...document.getElementById('language').options].map(it => it.text)"
-        self.same(
-            "the languages are offered by their names",
-            ["Deutsch", "English", "Español", "Français"],
-            self.clerk.run(names),
-        )
+        what = "the languages are offered by their names"
+        self.same(what, ["Deutsch", "English", "Español", "Français"], self.clerk.run(names))
         self.clerk.speak("fr")
         self.clerk.sees("Le pont est vide.")
         self.clerk.browser.go(self.clerk.at)
@@ -238,20 +228,15 @@ class Page(AtThePage):
             clerk.sees("No answer yet.", 4, f"{plan}: the clerk sees that no answer came")
             clerk.sees("Slip", 12, f"{plan}: and then the slip")
             sent = clerk.run("return window.sent")
-            self.same(
-                f"{plan}: sent as often as was cut and once more, under one key, stored once",
-                (len(plan) + 1, 1, 1),
-                (len(sent), len(set(sent)), len(self.added())),
-            )
+            what = f"{plan}: sent as often as was cut and once more, under one key, stored once"
+            self.same(what, (len(plan) + 1, 1, 1), (len(sent), len(set(sent)), len(self.added())))
         bridge.next_vehicle(9170)
         clerk.run("window.sent = []")
         clerk.intercept(PLANNED, ["not_sent"])
         clerk.is_ready_for("BUSY-1")
         clerk.keys(ENTER)
-        clerk.sees(
-            "Not sent: another weighing is under way.",
-            what="what was never sent, and nothing before it, ends the request",
-        )
+        what = "what was never sent, and nothing before it, ends the request"
+        clerk.sees("Not sent: another weighing is under way.", what=what)
         self.same("and it isn't kept", None, clerk.kept())
 
     def test_kept_over_a_load(self) -> None:
@@ -267,10 +252,8 @@ class Page(AtThePage):
         bridge.next_vehicle(9170)
         clerk.run(OLD_REQUEST)
         clerk.load()
-        clerk.sees(
-            "No answer came to: First weighing, OLD-1",
-            what="one of long ago isn't sent automatically",
-        )
+        what = "one of long ago isn't sent automatically"
+        clerk.sees("No answer came to: First weighing, OLD-1", what=what)
         self.same("nothing was stored of it", False, bridge.has_key("page-old"))
         clerk.browser.click("#choices button:last-child")
         clerk.sees("It was not stored.", what="looked up, it wasn't stored")
@@ -336,11 +319,8 @@ class Page(AtThePage):
         bridge.start_service()
         bridge.wait_until_up()
         words = "The journal has no entry; it ended at number 1."
-        self.comes(
-            "after a new file a bar says so on each page",
-            lambda: words in clerk.alarms() and words in other.alarms(),
-            30,
-        )
+        what = "after a new file a bar says so on each page"
+        self.comes(what, lambda: words in clerk.alarms() and words in other.alarms(), 30)
         self.same(
             "with what to do, and no vehicle on site",
             (True, ""),

@@ -39,11 +39,8 @@ class PageBehindNginx(AtThePage):
 
     def test_who_may_ask(self) -> None:
         ask = self.nginx.ask
-        self.same(
-            "without a password, or with a wrong one",
-            ["401 2", "401 2"],
-            [ask("/"), ask("/", *WRONG)],
-        )
+        what = "without a password, or with a wrong one"
+        self.same(what, ["401 2", "401 2"], [ask("/"), ask("/", *WRONG)])
         self.same("with it", "200 2", ask("/", *KNOWN))
         metrics = ask("/metrics", *KNOWN)
         self.same("nginx forwards nothing that monitoring asks", "404 2", metrics)

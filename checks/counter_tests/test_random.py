@@ -210,11 +210,8 @@ class Random(AtTheCounter):
                 it.join(20)
         self.bridge.converter.now = 0
         self.bridge.wait_until_up()
-        self.same(
-            "each reply and each value is right, and nothing acted after it was refused",
-            [],
-            self.wrong[:5],
-        )
+        what = "each reply and each value is right, and nothing acted after it was refused"
+        self.same(what, [], self.wrong[:5])
         said = f"{dict(sorted(self.counts.items()))}, {len(self.texts)} stored"
         print(said, flush=True)
         self.holds(

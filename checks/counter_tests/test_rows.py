@@ -76,10 +76,8 @@ class Rows(AtThePage):
         self.clerk.keys("BB-RI-2")
         self.clerk.sees("AA-WR-1, Slip 1, is withdrawn.")
         self.same("nobody is on site", "", self.clerk.text("#site-count"))
-        self.comes(
-            "the withdrawal's row names the First",
-            lambda: "Withdrawal 2 · of slip 1" in self.clerk.text("#today"),
-        )
+        what = "the withdrawal's row names the First"
+        self.comes(what, lambda: "Withdrawal 2 · of slip 1" in self.clerk.text("#today"))
         self.clerk.keys(ESCAPE)
         for at, says in ((1, "withdrawn by slip 2"), (0, "of slip 1")):
             self.clerk.run(f"document.querySelectorAll('#today .menu')[{at}].click()")
@@ -178,11 +176,8 @@ class Rows(AtThePage):
         wanted = (
             f"3 tickets · in {nets['in']:,} kg · out {nets['out']:,} kg · with a tare 13,340 kg"
         )
-        self.becomes(
-            "in, out and what was weighed with a tare are summed apart",
-            wanted,
-            lambda: self.clerk.text("#today-sum"),
-        )
+        what = "in, out and what was weighed with a tare are summed apart"
+        self.becomes(what, wanted, lambda: self.clerk.text("#today-sum"))
         status, table, fields = self.bridge.ask("GET", "/today.csv")
         self.same(
             "the day as CSV", (200, True), (status, fields["content-type"].startswith("text/csv"))
@@ -197,11 +192,8 @@ class Rows(AtThePage):
         lines = self.clerk.run(
             "return [...document.querySelectorAll('#paper tbody tr')].map(it => [...it.children].map(cell => cell.textContent))"
         )
-        self.same(
-            "with a line for each entry",
-            [it[0] for it in self.bridge.entries()],
-            [it[0] for it in lines],
-        )
+        what = "with a line for each entry"
+        self.same(what, [it[0] for it in self.bridge.entries()], [it[0] for it in lines])
         self.same("its way too", {"in", "out", ""}, {it[7] for it in lines})
         self.holds(
             "and says what it is", "The slips and tickets count." in self.clerk.content("#paper")
@@ -241,11 +233,8 @@ class Costs(AtThePage):
         clerk = self.clerk
         took = clerk.run_later(COST, ON_SITE)
         print(f"an entry costs the page's thread {took:.1f} ms", flush=True)
-        self.holds(
-            f"with {ON_SITE} on site an entry costs the page's thread less than {MOST_MILLISECONDS} ms",
-            took < MOST_MILLISECONDS,
-            f"{took:.1f} ms",
-        )
+        what = f"with {ON_SITE} on site an entry costs the page's thread less than {MOST_MILLISECONDS} ms"
+        self.holds(what, took < MOST_MILLISECONDS, f"{took:.1f} ms")
         self.same("200 rows are drawn at first", 200, self.drawn())
         self.same(
             "and the list says how many more there are",

@@ -45,11 +45,8 @@ class Tares(AtThePage):
         self.hammered("a doubted tare, and other keys", TEN + F1 + F2 + F6 + F7 + F10, "TY-PO-1")
         self.hammered("the answer, and Enter at once", F3 + ENTER, "TY-PO-1")
         self.clerk.sees("Ready.", what="the answer is taken")
-        self.same(
-            "the button has the rounded tare",
-            "Weigh with tare 1,460 kg · TY-PO-1",
-            self.clerk.button(),
-        )
+        what = "the button has the rounded tare"
+        self.same(what, "Weigh with tare 1,460 kg · TY-PO-1", self.clerk.button())
         self.same("and the net to come", "Net will be 16,880 kg", self.clerk.text("#go-more"))
         self.clerk.keys(ENTER)
         self.clerk.sees("net 16,880 kg", what="which is the net of the ticket")
@@ -62,10 +59,8 @@ class Tares(AtThePage):
         self.bridge.keep_tare("UN-LI-2", 10000, "anna")
         self.bridge.next_vehicle(9170)
         self.clerk.keys(ESCAPE + "UN-LI-2")
-        self.clerk.sees(
-            "The tare is 10,000 kg. Is it right?",
-            what="a tare far from the last empty weight is doubted",
-        )
+        what = "a tare far from the last empty weight is doubted"
+        self.clerk.sees("The tare is 10,000 kg. Is it right?", what=what)
         self.holds("which the page shows", "14,460 kg" in self.clerk.more(), self.clerk.more())
         self.bridge.keep_tare("UN-LI-2", 14400, "anna")
         self.clerk.sees("Ready.", what="one that is near isn't")
@@ -76,10 +71,8 @@ class Tares(AtThePage):
         self.clerk.sees("The tare is only 3,000 kg.", what="a tare that was typed is doubted too")
         self.clerk.is_ready_for("UN-LI-2")
         self.clerk.press("#others button", "Tare from")
-        self.comes(
-            "the dialog has the last empty weight",
-            lambda: "14,460 kg" in self.clerk.text("#tare-empty"),
-        )
+        what = "the dialog has the last empty weight"
+        self.comes(what, lambda: "14,460 kg" in self.clerk.text("#tare-empty"))
         self.clerk.keys("9" + ENTER)
         self.clerk.sees("This isn't a valid tare.", what="a tare that rounds to nothing is refused")
         self.clerk.keys(ESCAPE)
@@ -92,21 +85,16 @@ class Tares(AtThePage):
         self.bridge.keep_tare("SUEW-AB-12E", 5000, "anna")
         self.bridge.next_vehicle(9170)
         self.clerk.keys(ESCAPE + "SUEWAB12E")
-        self.clerk.sees(
-            "SUEW-AB-12E has a kept tare of 5,000 kg. Is it this vehicle?",
-            what="it asks about other hyphens",
-        )
+        what = "it asks about other hyphens"
+        self.clerk.sees("SUEW-AB-12E has a kept tare of 5,000 kg. Is it this vehicle?", what=what)
         self.same(
             "both have a key", ["SUEW-AB-12E F2", "No, another vehicle F6"], self.clerk.answers()
         )
         self.hammered("other hyphens, and Enter", TEN, "SUEWAB12E")
         self.hammered("the kept one, hammered", 5 * F2 + ENTER, "SUEW-AB-12E")
         self.clerk.sees("Ready.")
-        self.same(
-            "it is weighed with its tare",
-            "Weigh with tare 5,000 kg · SUEW-AB-12E",
-            self.clerk.button(),
-        )
+        what = "it is weighed with its tare"
+        self.same(what, "Weigh with tare 5,000 kg · SUEW-AB-12E", self.clerk.button())
         self.clerk.keys(ESCAPE + "SUEWAB12E")
         self.clerk.sees("SUEW-AB-12E has a kept tare")
         self.hammered("another vehicle, hammered", 5 * F6 + ENTER, "SUEWAB12E")
@@ -162,47 +150,33 @@ class Tares(AtThePage):
             ["SUEW-AB-12E · 5,000 kg", "TY-PO-1 · 1,460 kg", "UN-LI-2 · 14,400 kg"],
             [it[0] for it in found],
         )
-        self.holds(
-            "with the clerk and the last day",
-            "by anna" in found[1][1] and "until" in found[1][1],
-            found[1],
-        )
+        what = "with the clerk and the last day"
+        self.holds(what, "by anna" in found[1][1] and "until" in found[1][1], found[1])
         self.same(
             "used, or not yet", [False, True, False], ["last used on" in it[1] for it in found]
         )
         self.clerk.keys("po1")
-        self.becomes(
-            "a part of the plate finds it",
-            ["TY-PO-1 · 1,460 kg"],
-            lambda: [it[0] for it in self.clerk.run(KEPT)],
-        )
+        what = "a part of the plate finds it"
+        self.becomes(what, ["TY-PO-1 · 1,460 kg"], lambda: [it[0] for it in self.clerk.run(KEPT)])
         self.clerk.browser.click("#kept button")
-        self.same(
-            "Delete asks once more",
-            "Press again: delete the tare of TY-PO-1",
-            self.clerk.text("#kept button"),
-        )
+        what = "Delete asks once more"
+        self.same(what, "Press again: delete the tare of TY-PO-1", self.clerk.text("#kept button"))
         self.clerk.keys(ESCAPE)
         time.sleep(0.8)
         self.clerk.browser.click("#tares")
         self.clerk.keys("po1")
         self.becomes("it is found again", 1, lambda: len(self.clerk.run(KEPT)))
         self.clerk.browser.click("#kept button")
-        self.same(
-            "a list that was closed asks once more again",
-            "Press again: delete the tare of TY-PO-1",
-            self.clerk.text("#kept button"),
-        )
+        what = "a list that was closed asks once more again"
+        self.same(what, "Press again: delete the tare of TY-PO-1", self.clerk.text("#kept button"))
         self.clerk.run(DELETE)
         time.sleep(0.3)
         self.same("a double click deletes nothing", 1, len(self.clerk.run(KEPT)))
         time.sleep(0.8)
         self.clerk.intercept(NOT_DELETED)
         self.clerk.run(DELETE)
-        self.comes(
-            "if the tare can't be deleted, the list says so",
-            lambda: "The tare was not deleted." in self.clerk.text("#kept"),
-        )
+        what = "if the tare can't be deleted, the list says so"
+        self.comes(what, lambda: "The tare was not deleted." in self.clerk.text("#kept"))
         self.clerk.intercept_nothing()
         self.clerk.run(DELETE)
         time.sleep(0.8)

@@ -75,11 +75,8 @@ class Day(DemoCheck):
             with Busy(busy), self.readings_of(demos, where):
                 days = [Meanwhile(weighed, it, numbers) for it in demos]
                 answers = [answer for it in days for answer in it.get(600)]
-            self.same(
-                f"{2 * len(numbers)} weighings {where}: refused as unstable",
-                0,
-                sum("7 unstable" in text for _, text in answers),
-            )
+            what = f"{2 * len(numbers)} weighings {where}: refused as unstable"
+            self.same(what, 0, sum("7 unstable" in text for _, text in answers))
             others = [it for it in answers if it[0] != 201]
             self.same("and none for another reason", [], others)
             self.same("each vehicle was weighed", 2 * len(numbers), len(answers))
@@ -93,11 +90,8 @@ class Day(DemoCheck):
         """Weigh the first vehicle, and measure the time from the command."""
         status, text = demo.next_weighing(0)
         seconds = time.monotonic() - demo.begun
-        self.holds(
-            "the first vehicle is weighed within 60 s of the command",
-            status == 201 and seconds < 60,
-            f"{seconds:.1f} s: {text}",
-        )
+        what = "the first vehicle is weighed within 60 s of the command"
+        self.holds(what, status == 201 and seconds < 60, f"{seconds:.1f} s: {text}")
         self.holds("the legal text has the serial DEMO", " SERIAL DEMO\n" in text, text)
 
     def says_demo(self, demo: Running) -> None:

@@ -77,11 +77,8 @@ class Folder(DemoCheck):
         demo = self.started("--no-browser", "--folder", f"{place}/demo")
         demo.folder = f"{place}/demo"
         status, text = demo.wait(40), self.says(demo)
-        self.holds(
-            "a full disk: it says so, with status 1",
-            status == 1 and place in text and "Traceback" not in text,
-            text[:500],
-        )
+        what = "a full disk: it says so, with status 1"
+        self.holds(what, status == 1 and place in text and "Traceback" not in text, text[:500])
         self.leaves_nothing(demo)
 
 
@@ -121,11 +118,8 @@ class Installed(DemoCheck):
         if os.path.exists("/usr/bin/weighbridge"):
             self.skipTest("the package weighbridge is installed")
         it = subprocess.run([self.command], capture_output=True, text=True, timeout=20)
-        self.same(
-            "without the package weighbridge: two lines and status 2",
-            (2, "", 2),
-            (it.returncode, it.stdout, len(it.stderr.splitlines())),
-        )
+        what = "without the package weighbridge: two lines and status 2"
+        self.same(what, (2, "", 2), (it.returncode, it.stdout, len(it.stderr.splitlines())))
 
     def test_without_root(self) -> None:
         temporary = self.top / "tmp"

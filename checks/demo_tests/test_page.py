@@ -114,11 +114,8 @@ class Pages(DemoCheck):
         self.comes("another lorry stands", lambda: has_settled(self.running.state()))
         self.weigh("it is weighed by another plate", "HAND-2", "XX-1")
         plate = self.running.state()["stay"]["plate"]
-        self.reads(
-            "the page says what was typed, and which vehicle it is",
-            "todo",
-            f"Weighed as XX-1, but this is {plate}.",
-        )
+        what = "the page says what was typed, and which vehicle it is"
+        self.reads(what, "todo", f"Weighed as XX-1, but this is {plate}.")
         self.window.press("off")
         self.becomes("it is gone", "empty", self.phase)
 
@@ -127,10 +124,8 @@ class Pages(DemoCheck):
         window.press("play")
         self.becomes("the day begins", 0, lambda: demo.state()["now"])
         self.becomes("its button stops it", "Stop the day", lambda: window.text("play"))
-        self.comes(
-            "the list marks the vehicle that is on the bridge",
-            lambda: window.browser.run(MARKED).startswith("06:40RA-KM 1236"),
-        )
+        what = "the list marks the vehicle that is on the bridge"
+        self.comes(what, lambda: window.browser.run(MARKED).startswith("06:40RA-KM 1236"))
         status = demo.next_weighing(1)[0]
         self.same("the first vehicle of the day is weighed", 201, status)
         self.reads("the list says that it was", "done", "1 of 38 done")
@@ -168,11 +163,8 @@ class Pages(DemoCheck):
         bridge.run("document.getElementById('load').focus()")
         bridge.keys(ARROW_RIGHT * 8)
         self.becomes("the right arrow key pushes 160 kg", 160, lambda: demo.state()["kg"])
-        self.becomes(
-            "after five seconds the clerk's page asks for zero",
-            "The empty bridge shows 160 kg. Set zero.",
-            lambda: clerk.text("words"),
-        )
+        what = "after five seconds the clerk's page asks for zero"
+        self.becomes(what, "The empty bridge shows 160 kg. Set zero.", lambda: clerk.text("words"))
         clerk.browser.keys(F9)
         self.comes("which F9 sets", lambda: re.search(r"^\D*0 kg", clerk.text("weight")))
         bridge.run("document.getElementById('load').focus()")
@@ -214,18 +206,12 @@ class Pages(DemoCheck):
                         path = f"{PICTURES}/demo_{page}_{width}_{light}.png"
                         with open(path, "wb") as file:
                             file.write(window.browser.picture())
-            self.same(
-                f"{width} px, {light}, {lang}: DEMO, nothing sideways, nothing below a contrast of 4.5",
-                [],
-                found[:6],
-            )
+            what = f"{width} px, {light}, {lang}: DEMO, nothing sideways, nothing below a contrast of 4.5"
+            self.same(what, [], found[:6])
         demo.ends()
         is_hidden = "return document.getElementById('gone').hidden"
-        self.becomes(
-            "once the demo has ended, the page says so",
-            False,
-            lambda: self.window.browser.run(is_hidden),
-        )
+        what = "once the demo has ended, the page says so"
+        self.becomes(what, False, lambda: self.window.browser.run(is_hidden))
 
     def faults_of(self, window: Window, page: str, lang: str) -> list[str]:
         """Return what is wrong in a window once the page has loaded."""

@@ -43,11 +43,8 @@ class Start(Check):
             is_refused = status == 2 and 'write serial = "DEMO"' in text
             self.holds(f"{' and '.join(lines)} is refused", is_refused, text)
         status, text = self.said('serial = "DEMO"')
-        self.holds(
-            "the serial DEMO without demo = true is warned of",
-            status == 0 and "warning" in text and "demo = true" in text,
-            text,
-        )
+        what = "the serial DEMO without demo = true is warned of"
+        self.holds(what, status == 0 and "warning" in text and "demo = true" in text, text)
         self.same("a true bridge", (0, ""), self.said('serial = "WB01"'))
 
     def test_unbuilt(self) -> None:

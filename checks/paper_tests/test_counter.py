@@ -96,11 +96,8 @@ class PrintingCounter(CounterWithPrinter):
         for number, digest in codes:
             words = [*verify, "--known", number, digest]
             it = subprocess.run(words, capture_output=True, text=True)
-            self.same(
-                f"verify.py --known takes the code of number {number}",
-                (0, True),
-                (it.returncode, "faults: 0" in it.stdout),
-            )
+            what = f"verify.py --known takes the code of number {number}"
+            self.same(what, (0, True), (it.returncode, "faults: 0" in it.stdout))
             words = [*verify, "--known", number, "0" * 64]
             it = subprocess.run(words, capture_output=True, text=True)
             self.same(
@@ -187,11 +184,8 @@ class PrintingCounter(CounterWithPrinter):
             plate: sum(marks(it) == 0 and b"\x1bE\x01%b\n" % plate.encode() in it for it in papers)
             for plate in plates
         }
-        self.same(
-            f"killed {KILLS} times, none has two originals",
-            [],
-            [plate for plate, count in originals.items() if count > 1],
-        )
+        what = f"killed {KILLS} times, none has two originals"
+        self.same(what, [], [plate for plate, count in originals.items() if count > 1])
 
     def has_printed(self, words: bytes) -> bool:
         return any(words in it for it in self.played.printed)

@@ -46,16 +46,10 @@ class RealCups(PaperCheck):
                 made = self.cups.made + ".pdf"
                 os.replace(self.cups.made, made)
                 pages, width, height = about(made)
-                self.same(
-                    "its size is as it was laid out",
-                    (1, size[0], True),
-                    (pages, width, size[1] in (None, height)),
-                )
-                self.same(
-                    "its legal text, letter for letter, behind CUPS's filters",
-                    sample.text,
-                    legal_in_pdf(made, form),
-                )
+                what = "its size is as it was laid out"
+                self.same(what, (1, size[0], True), (pages, width, size[1] in (None, height)))
+                what = "its legal text, letter for letter, behind CUPS's filters"
+                self.same(what, sample.text, legal_in_pdf(made, form))
                 self.same(
                     "its QR code, and fonts that are all embedded",
                     (f"{sample.number} {sample.digest}", []),

@@ -69,11 +69,8 @@ class Faults(PaperCheck):
         played.is_deaf = False
         played.reset()
         status = self.print_out("void")[0]
-        self.same(
-            "with room it prints both, in their order, as originals",
-            (0, [0, 0, 0]),
-            (status, self.marks()),
-        )
+        what = "with room it prints both, in their order, as originals"
+        self.same(what, (0, [0, 0, 0]), (status, self.marks()))
         self.same("and nothing waits", "", self.yard.listed())
 
     def test_in_words_and_once(self) -> None:
@@ -88,31 +85,22 @@ class Faults(PaperCheck):
             played.state = ""
             status = it.wait(20)
             time.sleep(0.5)
-            self.same(
-                f"after {name} it is printed once, as the original",
-                (0, [0]),
-                (status, marks_of(played.printed)),
-            )
+            what = f"after {name} it is printed once, as the original"
+            self.same(what, (0, [0]), (status, marks_of(played.printed)))
 
     def test_cut_gone_and_back(self) -> None:
         played = self.played
         played.cut_after = 900
         status = self.print_out("second")[0]
-        self.same(
-            "cut in the middle it comes again, as a duplicate",
-            (0, [0], [2]),
-            (status, marks_of(played.begun), self.marks()),
-        )
+        what = "cut in the middle it comes again, as a duplicate"
+        self.same(what, (0, [0], [2]), (status, marks_of(played.begun), self.marks()))
         played.out_after = 900
         it = self.yard.begin(USUAL["single"].text, "--printer", "yard")
         words = "there is no paper in it"
         self.comes("out of paper in the middle is on the list", lambda: words in self.yard.listed())
         played.state = ""
-        self.same(
-            "with paper it continues where it was: one paper, whole",
-            (0, [2, 0], 1),
-            (it.wait(20), self.marks(), len(played.begun)),
-        )
+        what = "with paper it continues where it was: one paper, whole"
+        self.same(what, (0, [2, 0], 1), (it.wait(20), self.marks(), len(played.begun)))
         played.gone()
         self.is_refused("words say that it is gone", "void", "it can't be reached")
         threading.Timer(1, played.there).start()
@@ -149,11 +137,8 @@ class Faults(PaperCheck):
             if plate := plate_on(paper, samples):
                 originals[plate] += marks(paper) == 0 and b"Ticket " in paper
                 wholes[plate] += paper in played.printed
-        self.same(
-            f"killed {ROUNDS} times, no paper has two originals",
-            [],
-            [it for it, count in originals.items() if count > 1],
-        )
+        what = f"killed {ROUNDS} times, no paper has two originals"
+        self.same(what, [], [it for it, count in originals.items() if count > 1])
         missing = [it.plate for it in samples if not wholes[it.plate]]
         self.same("and each was printed", [], missing)
 
@@ -200,11 +185,8 @@ class Devices(PaperCheck):
             to = f"{kind}:{os.ttyname(slave)}{more}"
             desk = self.desk(yard=f'to = "{to}"\nform = "escpos58"\nlanguage = "fr"')
             statuses = [desk.run(text, "--printer", "yard")[0] for _ in range(2)]
-            self.same(
-                f"{kind}: an original and a duplicate",
-                ([0, 0], [0, 2]),
-                (statuses, marks_of(played.printed)),
-            )
+            what = f"{kind}: an original and a duplicate"
+            self.same(what, ([0, 0], [0, 2]), (statuses, marks_of(played.printed)))
             legal = [Printed(it, 384).legal() for it in played.printed]
             self.same("with the legal text", [text] * 2, legal)
             played.state = "cover_open"
@@ -233,11 +215,8 @@ class Falsified(PaperCheck):
                 for number, digest in digests.items():
                     file.write(f"{number},{sample.keys.get(number, 'K0')},,,,,,,,,{digest},\n")
             against = ("--printer", "box", "--against", export)
-            self.same(
-                f"{sample.kind} {sample.number}: the true one is taken, with nothing said",
-                (0, ""),
-                desk.run(sample.text, *against)[::2],
-            )
+            what = f"{sample.kind} {sample.number}: the true one is taken, with nothing said"
+            self.same(what, (0, ""), desk.run(sample.text, *against)[::2])
             for changed in changes_of(sample):
                 count += 1
                 is_refused = desk.run(changed, *against)[0] == 3
@@ -246,11 +225,8 @@ class Falsified(PaperCheck):
                 refused, said = refused + is_refused, said + is_said
                 taken += [] if is_refused and is_said else [changed]
         self.same("falsified texts that were taken", [], taken)
-        self.same(
-            "falsified texts refused against an export, and refused or said without",
-            (count, count),
-            (refused, said),
-        )
+        what = "falsified texts refused against an export, and refused or said without"
+        self.same(what, (count, count), (refused, said))
         self.holds("falsified texts", count > 100, count)
 
 

@@ -128,11 +128,8 @@ class Forms(PaperCheck):
                         pictures.append(f"{path}.png" if form in DOTS else picture_of(path, 75))
             if PICTURES:
                 write_row(pictures, f"{PICTURES}/{form}.png", 0.5 if form in DOTS else 1)
-        self.same(
-            "each form, kind, length and language: letters, large print, marks, QR code, fonts, pages",
-            [],
-            wrong[:5],
-        )
+        what = "each form, kind, length and language: letters, large print, marks, QR code, fonts, pages"
+        self.same(what, [], wrong[:5])
         self.same("papers read back", 80, count)
 
     def test_full_page(self) -> None:

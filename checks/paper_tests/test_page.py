@@ -95,10 +95,8 @@ class ByTheBrowser(CounterCheck, PaperCheck):
                 clerk.press("#others button", "Goods, order, driver")
                 self.same("the dialog asks for the goods", "goods", clerk.focus())
                 clerk.keys("Kies 0/16" + ENTER)
-            self.comes(
-                "what was given stands on the button, at both weighings",
-                lambda: GIVEN in clerk.text("#others"),
-            )
+            what = "what was given stands on the button, at both weighings"
+            self.comes(what, lambda: GIVEN in clerk.text("#others"))
             # Enter doesn't react for 0.7 s after a dialog
             time.sleep(1.2)
             clerk.keys(ENTER)
@@ -131,19 +129,13 @@ class ByTheBrowser(CounterCheck, PaperCheck):
         """Compare a PDF with the text of its ticket."""
         lines, text = lines_of_width(pdf, PAPERS[size][2]), read_text(ticket)
         rest = " ".join(" ".join(lines).split())
-        self.same(
-            f"{size}: one page, the legal text letter for letter, its marks",
-            (1, ticket, marks),
-            (about(pdf)[0], legal_of(lines), rest.count(DUPLICATE)),
-        )
+        what = f"{size}: one page, the legal text letter for letter, its marks"
+        self.same(what, (1, ticket, marks), (about(pdf)[0], legal_of(lines), rest.count(DUPLICATE)))
         self.same(f"{size}: its QR code", f"2 {text.own.digest}", code_in_pdf(pdf))
         wanted = (*large_of(text, "de"), "Kies 0/16")
         bare = rest.replace(" ", "")
-        self.same(
-            f"{size}: what is large, and what the clerk gave",
-            [],
-            [it for it in wanted if it.replace(" ", "") not in bare],
-        )
+        what = f"{size}: what is large, and what the clerk gave"
+        self.same(what, [], [it for it in wanted if it.replace(" ", "") not in bare])
         net, kind = letter_height(pdf, "10.200"), letter_height(pdf, "SECOND")
         self.holds(
             f"{size}: the net's letters are larger than the text's", net > 2 * kind, (net, kind)
@@ -219,11 +211,8 @@ class WithPrinter(CounterWithPrinter):
         if PICTURES:
             self.write_picture(clerk, f"{PICTURES}/paper_waits.png")
         played.state = ""
-        self.becomes(
-            "with paper it is printed, and the bar is gone",
-            (3, ""),
-            lambda: (len(played.printed), clerk.alarms()),
-        )
+        what = "with paper it is printed, and the bar is gone"
+        self.becomes(what, (3, ""), lambda: (len(played.printed), clerk.alarms()))
         nothing = "Nothing is waiting."
         self.becomes("and nothing waits on the list", nothing, lambda: clerk.text("#jobs"))
         for number in range(3):
@@ -236,11 +225,8 @@ class WithPrinter(CounterWithPrinter):
         )
         self.looks()
         clerk.press("#jobs button", "Print again")
-        self.becomes(
-            "and a press prints it",
-            (4, nothing),
-            lambda: (len(played.printed), clerk.text("#jobs")),
-        )
+        what = "and a press prints it"
+        self.becomes(what, (4, nothing), lambda: (len(played.printed), clerk.text("#jobs")))
 
     def write_picture(self, clerk: Clerk, path: str) -> None:
         clerk.browser.tool(
@@ -271,8 +257,5 @@ class WithPrinter(CounterWithPrinter):
                     faults = other.run(WIDE) + other.run(FAINT)
                     found += [f"{width} {lang}: {it}" for it in faults]
                     other.run("document.querySelector('dialog[open]').close()")
-        self.same(
-            "the bar, the list and the dialog: nothing sideways, nothing below a contrast of 4.5",
-            [],
-            found[:5],
-        )
+        what = "the bar, the list and the dialog: nothing sideways, nothing below a contrast of 4.5"
+        self.same(what, [], found[:5])
