@@ -76,7 +76,8 @@ def units(patterns: list[str] | None) -> list[Unit]:
             continue
         for it in classes_of(modules):
             if tests := tuple(name_of(test) for test in chosen(it, patterns)):
-                only = [f"-k={test}" for test in tests] if patterns else [f"-k={it.__name__}."]
+                # with both dots, so that no class runs whose name only ends like this one's
+                only = [f"-k={test}" for test in tests] if patterns else [f"-k=*.{it.__name__}.*"]
                 found.append(
                     Unit(
                         f"{name}.{it.__name__}",

@@ -218,7 +218,7 @@ class Rows(AtThePage):
         self.clerk.keys(ESCAPE)
 
 
-class Costs(AtThePage):
+class ManyOnSite(AtThePage):
     """The cost of many vehicles on site for the page. It measures time, so nothing else runs then."""
 
     needs = (PROGRAM, "aiohttp", "prometheus_client", "chromium", "chromedriver")

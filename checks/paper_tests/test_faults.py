@@ -227,7 +227,7 @@ class Falsified(PaperCheck):
         self.same("falsified texts that were taken", [], taken)
         what = "falsified texts refused against an export, and refused or said without"
         self.same(what, (count, count), (refused, said))
-        self.holds("falsified texts", count > 100, count)
+        self.same("falsified texts", 12 * (len(USUAL) + len(LONGEST)), count)
 
 
 def changes_of(sample: Sample) -> Iterator[str]:
