@@ -21,7 +21,7 @@ from dataclasses import dataclass
 from pathlib import Path
 
 from checks.lib import formerly
-from checks.lib.case import PROGRAM
+from checks.lib.case import BUILT, PROGRAM
 from checks.lib.leftovers import end_marked, end_on_signals, new_mark
 from checks.lib.running import (
     COUNTS,
@@ -174,8 +174,7 @@ def main() -> int:
 def run_all(picked: list[Unit], logs: Path, at_once: int, is_whole: bool) -> int:
     """Run the units, and return the status of all."""
     if any(it.needs_program for it in picked):
-        words = [str(TOP / "weighbridge"), "--version"]
-        subprocess.run(words, check=True, stdout=subprocess.DEVNULL)
+        subprocess.run([BUILT, "--version"], check=True, stdout=subprocess.DEVNULL)
     print("| Check | cases | seconds | | lacked |\n|---|---|---|---|---|")
     all_counts = []
     if is_whole and subprocess.run([str(TOP / "tools" / "list_checks"), "--check"]).returncode:

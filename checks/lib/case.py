@@ -19,7 +19,8 @@ from checks import TOP
 KEEP = "CHECKS_KEEP"
 # Built programs that the checks try in place of those that the launchers have built.
 NAMED, NAMED_CONVERTER = (
-    os.environ.get(it) for it in ("WEIGHBRIDGE_PROGRAM", "WEIGHBRIDGE_CONVERTER")
+    os.path.abspath(path) if (path := os.environ.get(it)) else None
+    for it in ("WEIGHBRIDGE_PROGRAM", "WEIGHBRIDGE_CONVERTER")
 )
 BUILT = NAMED or str(TOP / "weighbridge")
 # What a class needs that tries the built program. `python3 -m checks` builds it first.
