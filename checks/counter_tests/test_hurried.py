@@ -325,7 +325,7 @@ class OffZero(InAHurry):
         self.same("and offers its key", "Set zero F9", self.clerk.text("#choices button"))
         self.clerk.keys(F9)
         self.clerk.sees("The bridge is empty", 8, "F9 sets it, and the bridge is empty")
-        self.same("at zero", 0, self.clerk.kg())
+        self.becomes("at zero", 0, self.clerk.kg)
         put(590)
         self.becomes("1,020 kg are no empty bridge", 1020, self.clerk.kg)
         self.clerk.sees("Type the plate.")
