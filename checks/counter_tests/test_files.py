@@ -44,6 +44,7 @@ class Disk(CounterCheck):
 
     def takes_nothing(self, what: str, begin: Callable[[], None], end: Callable[[], None]) -> None:
         bridge = self.bridge
+        bridge.put(0)  # meanwhile the counter has removed what a start finds
         begin()
         self.weighs_on(what)
         time.sleep(3)
