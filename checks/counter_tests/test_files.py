@@ -85,13 +85,11 @@ class Disk(CounterCheck):
             '{"said": "Z A"}',
             bridge.ask("POST", "/zero")[1],
         )
-        self.same(f"{what}: and by a till", "Z A", bridge.terminal_says("till", "Z"))
-        self.comes(f"{what}: the fault stands in /health", lambda: "files" in self.faults())
-        self.same(
-            f"{what}: which says of which file",
-            [f"{bridge.folder}/state/zero.json"],
-            list(bridge.health()["files"]),
-        )
+        files = self.comes(f"{what}: the fault stands in /health", lambda: bridge.health()["files"])
+        zero = f"{bridge.folder}/state/zero.json"
+        self.same(f"{what}: which says of which file", [zero], list(files))
+        self.same(f"{what}: and it is a fault", True, "files" in self.faults())
+        self.same(f"{what}: zero by a till, too", "Z A", bridge.terminal_says("till", "Z"))
         bridge.next_vehicle(9170)
         told = bridge.weigh(f"{what}-tare", "single", "T-1", 5000)
         self.same(f"{what}: a weighing with a tare is refused", NOT_NOTED, told)
