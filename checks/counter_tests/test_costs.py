@@ -233,9 +233,8 @@ class Requests(AtTheCounter):
             median, worst = 1000 * statistics.median(them), 1000 * max(them)
             said = f"median {median:.0f} ms, worst {worst:.0f} ms of {len(them)}"
             print(f"from the request to the text of a {kind}: {said}", flush=True)
-            self.holds(
-                f"from the request to the text of a {kind}, at {self.pace:.0f}", median <= 200, said
-            )
+            what = f"from the request to the text of a {kind}, at {self.pace:.0f}"
+            self.holds(what, median <= 200, said)
 
 
 class RequestsAt50(Requests):

@@ -286,7 +286,6 @@ class Enemy(AtThePage):
                 break
         weighed = sum("first" in it or "single" in it for it in self.stored.values())
         self.holds("each kind of trouble was there", count >= len(troubles), count)
-        self.holds(
-            "most vehicles are weighed", weighed > VEHICLES // 2, f"{weighed} of {self.number}"
-        )
+        what = "most vehicles are weighed"
+        self.holds(what, weighed > VEHICLES // 2, f"{weighed} of {self.number}")
         self.holds("the journal is sound", self.bridge.is_sound())

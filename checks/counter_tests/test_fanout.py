@@ -262,9 +262,8 @@ class Fanout(AtTheCounter):
         bridge.kill_service()
         bridge.start_service()
         bridge.start_counter()
-        self.becomes(
-            "a start of the service is noticed, though the counter was away", False, is_known
-        )
+        what = "a start of the service is noticed, though the counter was away"
+        self.becomes(what, False, is_known)
         self.same("a till sets zero", "Z A", bridge.terminal_says("till", "Z"))
         self.same("and it is known again", True, is_known())
         bridge.kill_service()
@@ -303,9 +302,8 @@ class AnotherAtTheTerminal(AtTheCounter):
             other.send(b"SIR\r\n")
             other.line()
             bridge.start_counter(is_waited_for=False)
-            self.becomes(
-                "another one at the terminal is named", "waits", lambda: bridge.state()["link"]
-            )
+            what = "another one at the terminal is named"
+            self.becomes(what, "waits", lambda: bridge.state()["link"])
             self.same("and it stays so while the counter tries again", {"waits"}, self.links(5))
             self.same(
                 "a weighing with a tare is not begun",
@@ -317,9 +315,8 @@ class AnotherAtTheTerminal(AtTheCounter):
             till.send(b"TAC\r\n")
             links = self.links(6)
         bridge.wait_until_up()
-        self.same(
-            "a service that stands still shows as one that doesn't answer", {"up", "held"}, links
-        )
+        what = "a service that stands still shows as one that doesn't answer"
+        self.same(what, {"up", "held"}, links)
 
 
 class Kills(AtTheCounter):

@@ -95,9 +95,8 @@ class Given(AtThePage):
         clerk.run("document.querySelectorAll('#changing input')[1].value = '4711'")
         clerk.press("#changing button", "Save")
         clerk.sees("Saved for the printout.")
-        self.becomes(
-            "a line is added on each page", ["Kies 0/32, 4711"], lambda: self.rows("#site")
-        )
+        what = "a line is added on each page"
+        self.becomes(what, ["Kies 0/32, 4711"], lambda: self.rows("#site"))
         status, text, _ = self.bridge.ask("PUT", "/entries/2/given", body='{"goods": "Erde"}')
         what = "a printed ticket's lines are refused"
         self.same(what, (409, {"why": "printed"}), (status, json.loads(text)))

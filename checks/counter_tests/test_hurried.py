@@ -194,9 +194,8 @@ class Questions(InAHurry):
                 self.clerk.run("document.querySelector('#hint .answer').click()")
                 self.clerk.browser.click_at(x, y)
 
-            self.nothing_comes_of(
-                f"{width} px: an answer, and the weigh button at once", takes_and_weighs, ON_SITE
-            )
+            what = f"{width} px: an answer, and the weigh button at once"
+            self.nothing_comes_of(what, takes_and_weighs, ON_SITE)
             self.same(f"{width} px: and no dialog is open", 0, self.clerk.count("dialog[open]"))
         self.clerk.browser.look(1280, 800)
         self.clerk.sees("Ready.")
@@ -372,9 +371,8 @@ class OffZero(InAHurry):
         self.clerk.keys(ESCAPE + "SINGLE-1")
         what = "160 kg before the vehicle: a Single asks first"
         self.clerk.sees("The bridge showed 160 kg before this vehicle.", what=what)
-        self.same(
-            "its answer has a key of its own", ["Weigh it all the same F10"], self.clerk.answers()
-        )
+        what = "its answer has a key of its own"
+        self.same(what, ["Weigh it all the same F10"], self.clerk.answers())
         self.nothing_comes_of("a Single off zero: Enter hammered", self.hammer, "SINGLE-1")
         self.nothing_comes_of("a Single off zero: Enter held", self.hold_enter, "SINGLE-1")
         what = "a Single off zero: the keys of other questions"
@@ -399,9 +397,8 @@ class OffZero(InAHurry):
         self.clerk.keys(F10)
         self.clerk.sees("Ready.")
         self.clerk.keys(ENTER)
-        self.becomes(
-            "a Single off zero: and then Enter weighs", [("single", "SINGLE-1")], self.added
-        )
+        what = "a Single off zero: and then Enter weighs"
+        self.becomes(what, [("single", "SINGLE-1")], self.added)
 
 
 class EarlyEnter(InAHurry):
@@ -554,14 +551,12 @@ class NextVehicle(InAHurry):
         self.bridge.next_vehicle(7000)
         self.clerk.is_ready_for("LEFT-1")
         self.bridge.put(0)
-        self.clerk.sees(
-            f"{GONE} LEFT-1 was removed", what="a load that wasn't weighed leaves: the page says so"
-        )
+        what = "a load that wasn't weighed leaves: the page says so"
+        self.clerk.sees(f"{GONE} LEFT-1 was removed", what=what)
         self.same("and its plate leaves the form", "", self.clerk.plate())
         self.bridge.put(7000)
-        self.nothing_comes_of(
-            "the next vehicle after one that wasn't weighed: Enter hammered", self.hammer, ""
-        )
+        what = "the next vehicle after one that wasn't weighed: Enter hammered"
+        self.nothing_comes_of(what, self.hammer, "")
         self.clerk.sees("Type the plate.", what="and it needs a plate of its own")
         self.clerk.is_ready_for("MOVED-1")
         self.bridge.put(0)
@@ -597,9 +592,8 @@ class NextVehicle(InAHurry):
         self.same(what, ("UNSEEN-1", "Gravel"), (self.clerk.plate(), self.clerk.value("#goods")))
         self.clerk.sees("Ready.", what="and it is ready again")
         self.clerk.run("document.querySelector('#site button').click()")
-        self.same(
-            "another vehicle from the list has no goods of this one", "", self.clerk.value("#goods")
-        )
+        what = "another vehicle from the list has no goods of this one"
+        self.same(what, "", self.clerk.value("#goods"))
         self.clerk.keys(ESCAPE)
 
     def test_a_window_that_another_vehicle_finds_open(self) -> None:

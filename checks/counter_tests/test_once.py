@@ -99,9 +99,8 @@ class NotOffered(AtThePage):
     def test_only_if_it_is_set_up(self) -> None:
         self.bridge.next_vehicle(9170)
         self.clerk.is_ready_for("ON-CE-3")
-        self.holds(
-            "without the setup the page doesn't offer it", "Weigh once" not in self.clerk.others()
-        )
+        what = "without the setup the page doesn't offer it"
+        self.holds(what, "Weigh once" not in self.clerk.others())
         form = {"key": "once-1", "kind": "first", "plate": "ON-CE-3", "once": "1"}
         self.same(
             "and the counter refuses it",

@@ -59,9 +59,8 @@ class Page(AtThePage):
         clerk.sees("Ready.")
         clerk.keys(ENTER)
         clerk.sees("Slip 1: 18,340 kg")
-        self.same(
-            "the plate is free, and has the focus", ("", "plate"), (clerk.plate(), clerk.focus())
-        )
+        what = "the plate is free, and has the focus"
+        self.same(what, ("", "plate"), (clerk.plate(), clerk.focus()))
         clerk.keys(F8 + F8)
         key = bridge.entries()[0][1]
         text = bridge.weigh(key, "first", "HB-KW-77", port=bridge.office)[1]
@@ -211,9 +210,8 @@ class Page(AtThePage):
         self.same("and the request is over", None, clerk.kept())
         clerk.keys(ESCAPE)
         bridge.put(0)
-        self.comes(
-            "what didn't pass is on the page's list", lambda: "REF-1" in clerk.content("#site")
-        )
+        what = "what didn't pass is on the page's list"
+        self.comes(what, lambda: "REF-1" in clerk.content("#site"))
 
     def test_no_request_twice(self) -> None:
         """Show that the page sends a request again under its key, whatever is cut between the press and the answer, and that it is stored once."""
@@ -327,14 +325,12 @@ class Page(AtThePage):
             ("call the operator" in clerk.alarms(), clerk.text("#site-count")),
         )
         clerk.press("#alarms button", "I have read this")
-        self.comes(
-            "a press closes it on each page", lambda: words not in clerk.alarms() + other.alarms()
-        )
+        what = "a press closes it on each page"
+        self.comes(what, lambda: words not in clerk.alarms() + other.alarms())
         os.rename(f"{bridge.folder}/state", f"{bridge.folder}/away")
         bridge.ask("POST", "/zero")
         words = "The counter can't write its files."
-        self.comes(
-            "a bar says that the counter can't write its files", lambda: words in clerk.alarms()
-        )
+        what = "a bar says that the counter can't write its files"
+        self.comes(what, lambda: words in clerk.alarms())
         os.rename(f"{bridge.folder}/away", f"{bridge.folder}/state")
         self.comes("until it can", lambda: words not in clerk.alarms())

@@ -235,9 +235,8 @@ class Random(AtTheCounter):
             kind, plate, tare = self.asked[key]
             if (row[2], row[3], row[6]) != (kind, plate, str(tare or "")):
                 wrong.append((row, self.asked[key]))
-        self.same(
-            "each entry is what a client asked for, each Single with its own tare", [], wrong[:3]
-        )
+        what = "each entry is what a client asked for, each Single with its own tare"
+        self.same(what, [], wrong[:3])
         self.same(
             "what was refused isn't stored",
             [],

@@ -65,14 +65,12 @@ class Rows(AtThePage):
         self.clerk.run("document.querySelector('#entry .danger').click()")
         time.sleep(0.8)
         self.clerk.run("document.querySelector('#entry .danger').click()")
-        self.clerk.sees(
-            "Withdrawn: AA-WR-1, slip 1", what="the page names the First that is withdrawn"
-        )
+        what = "the page names the First that is withdrawn"
+        self.clerk.sees("Withdrawn: AA-WR-1, slip 1", what=what)
         self.same("and the slip that says so", "Slip 2 says so.", self.clerk.more()[:15])
         self.clerk.load()
-        self.clerk.sees(
-            "AA-WR-1, Slip 1, is withdrawn.", what="the vehicle on the bridge isn't called weighed"
-        )
+        what = "the vehicle on the bridge isn't called weighed"
+        self.clerk.sees("AA-WR-1, Slip 1, is withdrawn.", what=what)
         self.clerk.keys("BB-RI-2")
         self.clerk.sees("AA-WR-1, Slip 1, is withdrawn.")
         self.same("nobody is on site", "", self.clerk.text("#site-count"))
@@ -103,9 +101,8 @@ class Rows(AtThePage):
         self.becomes("three are on site", "3", lambda: self.clerk.text("#site-count"))
         self.clerk.run("document.querySelector('#tares').focus()")
         self.clerk.keys(TAB)
-        self.same(
-            "Tab goes to the first row on site", ["site", "CR-TH-33", "main"], self.clerk.run(FOCUS)
-        )
+        what = "Tab goes to the first row on site"
+        self.same(what, ["site", "CR-TH-33", "main"], self.clerk.run(FOCUS))
         for key, name, wanted in (
             (DOWN, "down", ["site", "BR-TW-22", "main"]),
             (RIGHT, "right", ["site", "BR-TW-22", "menu"]),
@@ -133,9 +130,8 @@ class Rows(AtThePage):
         self.clerk.browser.mouse("mousePressed", *at)
         self.bridge.next_vehicle(9600)
         self.bridge.weigh("press-1", "second", "AR-ON-11")
-        self.becomes(
-            "an entry comes while the button is down", "3", lambda: self.clerk.text("#site-count")
-        )
+        what = "an entry comes while the button is down"
+        self.becomes(what, "3", lambda: self.clerk.text("#site-count"))
         self.same(
             "the row is the same part of the page",
             [True, plate],
@@ -179,9 +175,8 @@ class Rows(AtThePage):
         what = "in, out and what was weighed with a tare are summed apart"
         self.becomes(what, wanted, lambda: self.clerk.text("#today-sum"))
         status, table, fields = self.bridge.ask("GET", "/today.csv")
-        self.same(
-            "the day as CSV", (200, True), (status, fields["content-type"].startswith("text/csv"))
-        )
+        what = "the day as CSV"
+        self.same(what, (200, True), (status, fields["content-type"].startswith("text/csv")))
         self.same(
             "has all of its entries",
             [it[0] for it in self.bridge.entries()],
@@ -195,9 +190,8 @@ class Rows(AtThePage):
         what = "with a line for each entry"
         self.same(what, [it[0] for it in self.bridge.entries()], [it[0] for it in lines])
         self.same("its way too", {"in", "out", ""}, {it[7] for it in lines})
-        self.holds(
-            "and says what it is", "The slips and tickets count." in self.clerk.content("#paper")
-        )
+        what = "and says what it is"
+        self.holds(what, "The slips and tickets count." in self.clerk.content("#paper"))
 
     def letters_after_a_reprint(self) -> None:
         """Print again by the mouse, from a row and by the button. The letters that follow are the next plate."""

@@ -33,14 +33,12 @@ class Tares(AtThePage):
         self.nothing_comes_of(what, lambda: self.clerk.browser.hammer(keys, 0.08), plate)
 
     def test_a_mistyped_tare(self) -> None:
-        self.same(
-            "1451 is kept in place of 14510", 200, self.bridge.keep_tare("TY-PO-1", 1451, "anna")
-        )
+        what = "1451 is kept in place of 14510"
+        self.same(what, 200, self.bridge.keep_tare("TY-PO-1", 1451, "anna"))
         self.bridge.next_vehicle(9170)
         self.clerk.keys("TY-PO-1")
-        self.clerk.sees(
-            "The tare is only 1,460 kg. Is it right?", what="a tare below a fifth is doubted"
-        )
+        what = "a tare below a fifth is doubted"
+        self.clerk.sees("The tare is only 1,460 kg. Is it right?", what=what)
         self.same("with a key of its own", ["The tare is right F3"], self.clerk.answers())
         self.hammered("a doubted tare, and other keys", TEN + F1 + F2 + F6 + F7 + F10, "TY-PO-1")
         self.hammered("the answer, and Enter at once", F3 + ENTER, "TY-PO-1")
@@ -87,9 +85,8 @@ class Tares(AtThePage):
         self.clerk.keys(ESCAPE + "SUEWAB12E")
         what = "it asks about other hyphens"
         self.clerk.sees("SUEW-AB-12E has a kept tare of 5,000 kg. Is it this vehicle?", what=what)
-        self.same(
-            "both have a key", ["SUEW-AB-12E F2", "No, another vehicle F6"], self.clerk.answers()
-        )
+        what = "both have a key"
+        self.same(what, ["SUEW-AB-12E F2", "No, another vehicle F6"], self.clerk.answers())
         self.hammered("other hyphens, and Enter", TEN, "SUEWAB12E")
         self.hammered("the kept one, hammered", 5 * F2 + ENTER, "SUEW-AB-12E")
         self.clerk.sees("Ready.")
@@ -99,9 +96,8 @@ class Tares(AtThePage):
         self.clerk.sees("SUEW-AB-12E has a kept tare")
         self.hammered("another vehicle, hammered", 5 * F6 + ENTER, "SUEWAB12E")
         self.clerk.sees("Ready.")
-        self.same(
-            "it is weighed in under what was typed", "Weigh in · SUEWAB12E", self.clerk.button()
-        )
+        what = "it is weighed in under what was typed"
+        self.same(what, "Weigh in · SUEWAB12E", self.clerk.button())
         self.clerk.keys(ESCAPE)
 
     def a_key_answers_one_question(self) -> None:
@@ -125,9 +121,8 @@ class Tares(AtThePage):
         self.clerk.run(FINGER)
         before = self.bridge.entries()
         self.bridge.keep_tare("FI-NG-5", 5000, "anna")
-        self.comes(
-            "the button changes", lambda: self.clerk.run("return window.wasPressed") is not None
-        )
+        what = "the button changes"
+        self.comes(what, lambda: self.clerk.run("return window.wasPressed") is not None)
         time.sleep(0.5)
         self.same(
             "and a press that was meant for the other weighing does nothing",
@@ -152,9 +147,8 @@ class Tares(AtThePage):
         )
         what = "with the clerk and the last day"
         self.holds(what, "by anna" in found[1][1] and "until" in found[1][1], found[1])
-        self.same(
-            "used, or not yet", [False, True, False], ["last used on" in it[1] for it in found]
-        )
+        what = "used, or not yet"
+        self.same(what, [False, True, False], ["last used on" in it[1] for it in found])
         self.clerk.keys("po1")
         what = "a part of the plate finds it"
         self.becomes(what, ["TY-PO-1 · 1,460 kg"], lambda: [it[0] for it in self.clerk.run(KEPT)])
@@ -181,9 +175,8 @@ class Tares(AtThePage):
         self.clerk.run(DELETE)
         time.sleep(0.8)
         self.clerk.run(DELETE)
-        self.becomes(
-            "a second press deletes it", "No tare is kept.", lambda: self.clerk.text("#kept")
-        )
+        what = "a second press deletes it"
+        self.becomes(what, "No tare is kept.", lambda: self.clerk.text("#kept"))
         self.clerk.keys(ESCAPE)
         self.bridge.next_vehicle(9170)
         self.clerk.is_ready_for("TY-PO-1")

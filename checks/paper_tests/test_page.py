@@ -137,9 +137,8 @@ class ByTheBrowser(CounterCheck, PaperCheck):
         what = f"{size}: what is large, and what the clerk gave"
         self.same(what, [], [it for it in wanted if it.replace(" ", "") not in bare])
         net, kind = letter_height(pdf, "10.200"), letter_height(pdf, "SECOND")
-        self.holds(
-            f"{size}: the net's letters are larger than the text's", net > 2 * kind, (net, kind)
-        )
+        what = f"{size}: the net's letters are larger than the text's"
+        self.holds(what, net > 2 * kind, (net, kind))
 
     def write_pictures(self, folder: str, of_the_browser: str) -> None:
         """Write the pictures of docs/counter.md."""
@@ -196,9 +195,8 @@ class WithPrinter(CounterWithPrinter):
         clerk.sees("Type the plate.")
         clerk.is_ready_for("HB-KW-77")
         clerk.keys(ENTER)
-        self.becomes(
-            "a weighing at the page prints automatically", [0], lambda: marks_of(played.printed)
-        )
+        what = "a weighing at the page prints automatically"
+        self.becomes(what, [0], lambda: marks_of(played.printed))
         clerk.keys(F8)
         self.becomes("F8 prints it again", [0, 2], lambda: marks_of(played.printed))
         self.same("not by the browser", [], clerk.papers())
@@ -220,9 +218,8 @@ class WithPrinter(CounterWithPrinter):
             if number == 0:
                 bridge.ask("POST", "/papers/1", body="")
             self.becomes("it is cut in the middle", None, lambda: played.cut_after)
-        self.comes(
-            "cut three times, it has failed", lambda: "It was not printed." in clerk.text("#jobs")
-        )
+        what = "cut three times, it has failed"
+        self.comes(what, lambda: "It was not printed." in clerk.text("#jobs"))
         self.looks()
         clerk.press("#jobs button", "Print again")
         what = "and a press prints it"
@@ -246,9 +243,8 @@ class WithPrinter(CounterWithPrinter):
         for width, is_dark, lang in ((360, False, "de"), (360, True, "fr"), (1280, True, "es")):
             at = at_of(self.bridge.http)
             with Clerk(at, width, 740, is_dark, lang, case=self.subTest) as other:
-                self.comes(
-                    f"{width} px, {lang}: the bar is there", lambda: "yard" in other.alarms()
-                )
+                what = f"{width} px, {lang}: the bar is there"
+                self.comes(what, lambda: "yard" in other.alarms())
                 other.keys("NEW-1")
                 time.sleep(0.3)
                 for opens in OPENS:
