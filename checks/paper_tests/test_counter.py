@@ -168,7 +168,8 @@ class PrintingCounter(CounterWithPrinter):
         plates = [f"K-{it}" for it in range(KILLS)]
         for at, plate in enumerate(plates):
             bridge.next_vehicle(9170)
-            bridge.weigh(f"kill-{at}", "single", plate, 5000)
+            status, said = bridge.weigh(f"kill-{at}", "single", plate, 5000)
+            self.holds(f"{plate} is weighed", status == 201, said)
             time.sleep(rolls.uniform(0, 2))
             bridge.kill_counter()
             bridge.start_counter()
