@@ -92,7 +92,7 @@ class Desktop(DemoCheck):
             environment = {"PATH": f"{top}:{os.environ['PATH']}", **variables}
             demo = self.started(*words, environment=environment).wait_until_up()
             try:
-                wait_until("it opens a browser", opened.exists, seconds=2)
+                wait_until("it opens a browser", opened.exists, seconds=20 if is_opened else 2)
             except TimeoutError:
                 pass
             found = opened.read_text(encoding="utf-8") if opened.exists() else ""
