@@ -23,6 +23,7 @@ from pathlib import Path
 from checks.lib import formerly
 from checks.lib.case import PROGRAM
 from checks.lib.leftovers import Stopped, end_marked, new_mark, stop_on_signals
+from checks.lib.program import PROGRAM as BUILT
 from checks.lib.running import (
     COUNTS,
     Counts,
@@ -78,7 +79,8 @@ def units(patterns: list[str] | None) -> list[Unit]:
             continue
         for it in classes_of(modules):
             if tests := tuple(name_of(test) for test in chosen(it, patterns)):
-                only = [f"-k={test}" for test in tests] if patterns else [f"-k={it.__name__}."]
+                # with both dots, so that no class runs whose name only ends like this one's
+                only = [f"-k={test}" for test in tests] if patterns else [f"-k=*.{it.__name__}.*"]
                 found.append(
                     Unit(
                         f"{name}.{it.__name__}",
@@ -195,8 +197,7 @@ def end_running(mark: str) -> None:
 def run_all(picked: list[Unit], logs: Path, at_once: int, is_whole: bool) -> int:
     """Run the units, and return the status of all."""
     if any(it.needs_program for it in picked):
-        words = [str(TOP / "weighbridge"), "--version"]
-        subprocess.run(words, check=True, stdout=subprocess.DEVNULL)
+        subprocess.run([BUILT, "--version"], check=True, stdout=subprocess.DEVNULL)
     print("| Check | cases | seconds | | lacked |\n|---|---|---|---|---|")
     all_counts = []
     if is_whole and subprocess.run([str(TOP / "tools" / "list_checks"), "--check"]).returncode:

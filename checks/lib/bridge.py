@@ -15,6 +15,7 @@ from typing import IO, Any, Protocol, Self
 
 from checks.lib.ports import HOST as HOST
 from checks.lib.ports import free_port as free_port
+from checks.lib.waiting import wait_until
 
 Answer = tuple[int, str]  # the status and the body
 
@@ -41,8 +42,36 @@ def sizes_of(process: subprocess.Popen[Any]) -> tuple[int, float]:
     return int(kept.split()[1]), (int(fields[11]) + int(fields[12])) / ticks
 
 
+def kg_of(load: int) -> int:
+    """Return what a load is indicated as. It is in tenths of the interval, which is 20 kg."""
+    return (load + 5) // 10 * 20
+
+
+def is_listening(port: int) -> bool:
+    """Return True if a program listens at this port of this machine."""
+    try:
+        socket.create_connection((HOST, port), 1).close()
+    except OSError:
+        return False
+    return True
+
+
+def wait_until_listening(port: int, process: subprocess.Popen[Any], seconds: float = 20) -> None:
+    """Wait until a program listens that was started just now. It is an error if it ends before."""
+
+    def look() -> bool:
+        if not is_listening(port):
+            if process.poll() is None:
+                return False
+            said = process.stderr.read() if process.stderr is not None else ""
+            raise SystemExit(f"{process.args!r} ended: {said.strip()}")
+        return True
+
+    wait_until(f"port {port} is listened at", look, seconds=seconds, pause=0.01)
+
+
 class Closing:
-    """What is closed at the end of a `with` block, or of a test that entered it by `enterContext`."""
+    """A thing that is closed at the end of a `with` block, or of a test that entered it by `enterContext`."""
 
     def close(self) -> None:
         raise NotImplementedError
@@ -80,21 +109,25 @@ class Converter(Closing, threading.Thread):
             self.start()
 
     def run(self) -> None:
-        stream, _ = self.listener.accept()
-        stream.setsockopt(socket.IPPROTO_TCP, socket.TCP_NODELAY, 1)
-        due = time.monotonic()
         try:
+            self.feed(self.listener.accept()[0])
+        except OSError:
+            pass
+
+    def feed(self, stream: socket.socket) -> None:
+        """Send lines until the client leaves or the converter ends. It sends nothing later of a silence."""
+        with stream:
+            stream.setsockopt(socket.IPPROTO_TCP, socket.TCP_NODELAY, 1)
+            due = time.monotonic()
             while not self.ended.is_set():
-                self.speaks.wait()
-                number = len(self.sent)
-                line = f"{self.load(number)}\r\n".encode()
+                if not self.speaks.is_set():
+                    self.speaks.wait()
+                    due = time.monotonic()
+                line = f"{self.load(len(self.sent))}\r\n".encode()
                 self.sent.append(time.monotonic())
                 stream.sendall(line)
                 due = max(due + 1 / self.rate, time.monotonic() - 1)
                 time.sleep(max(0, due - time.monotonic()))
-        except OSError:
-            pass
-        stream.close()
 
     def close(self) -> None:
         self.ended.set()
@@ -114,6 +147,39 @@ class Played(Converter):
         wanted = len(self.sent) + lines
         while len(self.sent) < wanted and self.is_alive():
             time.sleep(0.002)
+
+
+class Lasting(Played):
+    """Sends the load that is on the bridge now, to one client after the other, so that a service can be started again. It remembers each load that it sent."""
+
+    def __init__(self, rate: float = 10.0) -> None:
+        super().__init__(rate)
+        self.load = self.swaying
+        self.sway = 0  # how much more every second line has
+        self.loads: list[int] = []  # what each line had
+
+    def swaying(self, number: int) -> int:
+        self.loads.append(self.now + self.sway * (number % 2))
+        return self.loads[-1]
+
+    def run(self) -> None:
+        while not self.ended.is_set():
+            super().run()
+
+    def put(self, load: int, lines: int = 0) -> None:
+        """Put a load on the bridge. A service that doesn't run takes no line of it, so nothing is waited for."""
+        self.now = load
+
+    def close(self) -> None:
+        super().close()
+        self.listener.shutdown(socket.SHUT_RDWR)  # wakes the thread that accepts
+        self.listener.close()
+
+    def sent_since(self, moment: float) -> list[int]:
+        """Return the loads of the lines that were sent since then, but of no more than the last 400."""
+        count = len(self.sent)
+        newest = range(max(0, count - 400), count)
+        return [self.loads[it] for it in newest if self.sent[it] > moment]
 
 
 class Fed(Closing):
@@ -153,66 +219,61 @@ class Service(Closing):
         turns: int = 1_000_000_000,
         limit: Callable[[], object] | None = None,
         errors: int | IO[Any] | None = subprocess.PIPE,
+        log: str | None = None,
     ) -> None:
-        """Start it. `converter` is any with a `source` and a `begin`, and may have more that a check uses. `limit` is called in the new process before the program begins; `errors` is its standard error."""
+        """Start it. `converter` is any with a `source` and a `begin`, and may have more that a check uses. `limit` is called in the new process before the program begins; `errors` is its standard error. If `log` is given, all that it prints and reports is added to this file."""
         self.converter = converter
         self.terminal, self.office = free_port(), free_port()
-        words = [
-            program,
-            "serve",
-            "--file",
-            file,
-            "--terminal",
-            f"{HOST}:{self.terminal}",
-            "--office",
-            f"{HOST}:{self.office}",
-        ]
-        words += ["--converter", converter.source, "--turns", str(turns), *options]
-        self.process = subprocess.Popen(
-            words,
-            stdin=subprocess.DEVNULL,
-            stdout=subprocess.PIPE,
-            stderr=errors,
-            text=True,
-            preexec_fn=limit,
-        )
-        converter.begin()
-        self.wait_for_office()
+        self.words = [program, "serve", "--file", file]
+        self.words += ["--terminal", f"{HOST}:{self.terminal}", "--office", f"{HOST}:{self.office}"]
+        self.words += ["--converter", converter.source, "--turns", str(turns), *options]
+        self.limit, self.errors, self.log = limit, errors, log
+        self.start()
         if isinstance(converter, Fed):
             # The service answers once it has polled its converter for a second, so all that is sent from now on is new.
             get(self, "/indication")
 
+    def start(self) -> None:
+        """Start it, or start it again on the same ports once it was killed."""
+        with open(self.log or os.devnull, "ab") as log:
+            self.process = subprocess.Popen(
+                self.words,
+                stdin=subprocess.DEVNULL,
+                stdout=log if self.log else subprocess.PIPE,
+                stderr=log if self.log else self.errors,
+                text=True,
+                preexec_fn=self.limit,
+            )
+        self.converter.begin()
+        self.wait_for_office()
+
     def wait_for_office(self) -> None:
-        until = time.monotonic() + 10
-        while time.monotonic() < until:
-            try:
-                socket.create_connection((HOST, self.office), 1).close()
-                return
-            except OSError:
-                if self.process.poll() is not None:
-                    assert self.process.stderr is not None  # it is a pipe
-                    raise SystemExit(f"the service ended: {self.process.stderr.read().strip()}")
-                time.sleep(0.01)
-        raise SystemExit("the service doesn't listen")
+        wait_until_listening(self.office, self.process, 10)
+
+    def indication(self) -> str:
+        """Return what the office indicates. It is empty if there is no answer."""
+        try:
+            return (get(self, "/indication") or (0, ""))[1]
+        except OSError:
+            return ""
 
     def put(self, load: int, seconds: float = 20) -> None:
         """Puts a load on the bridge, and waits until it is indicated as stable. The interval is 20 kg."""
         self.converter.put(load, 1)
-        wanted = f"STABLE G {(load + 5) // 10 * 20:10} kg"
-        until = time.monotonic() + seconds
-        while time.monotonic() < until:
-            answer = get(self, "/indication")
-            if answer and answer[1].startswith(wanted):
-                return
-        raise SystemExit(f"not indicated within {seconds} s: {wanted}")
+        wanted = f"STABLE G {kg_of(load):10} kg"
+
+        def is_so(found: str) -> bool:
+            return found.startswith(wanted)
+
+        wait_until(wanted, self.indication, is_so, seconds)
 
     def kill(self) -> None:
+        """End it at once, even while it is held."""
         self.process.send_signal(signal.SIGKILL)
         self.process.wait()
 
     def close(self) -> None:
         if self.process.poll() is None:
-            self.process.send_signal(signal.SIGCONT)
             self.kill()
         for it in (self.process.stdout, self.process.stderr):
             if it is not None:
@@ -226,11 +287,11 @@ class Service(Closing):
         return out, err, self.process.returncode
 
 
-class Terminal(Closing):
-    """A client of the terminal."""
+class Client(Closing):
+    """A client of a port with the terminal's commands."""
 
-    def __init__(self, service: HasTerminal, timeout: float = 20) -> None:
-        self.stream = socket.create_connection((HOST, service.terminal), timeout)
+    def __init__(self, port: int, timeout: float = 20) -> None:
+        self.stream = socket.create_connection((HOST, port), timeout)
         self.stream.setsockopt(socket.IPPROTO_TCP, socket.TCP_NODELAY, 1)
         self.rest = b""
 
@@ -252,6 +313,13 @@ class Terminal(Closing):
 
     def close(self) -> None:
         self.stream.close()
+
+
+class Terminal(Client):
+    """A client of the service's terminal."""
+
+    def __init__(self, service: HasTerminal, timeout: float = 20) -> None:
+        super().__init__(service.terminal, timeout)
 
 
 def printed(program: str, *words: str) -> tuple[int, str, str]:

@@ -95,6 +95,13 @@ class Check(unittest.TestCase):
         with self.subTest(what):
             wait_until(what, look, lambda found: found == wanted, seconds)
 
+    def comes(self, what: str, look: Callable[[], Any], seconds: float = 20) -> Any:
+        """Look until something is there, and return it, as a case of its own."""
+        found = None
+        with self.subTest(what):
+            found = wait_until(what, look, seconds=seconds)
+        return found
+
     def passes_unittest(self, part: str) -> None:
         """Show that the tests pass that a part of this repository has in its own folder."""
         words = [sys.executable, "-B", "-m", "unittest", "discover", "-s", ".", "-t", "."]

@@ -1,4 +1,4 @@
-"""Parts that checks/demo shares: a demo that runs, its clerk who weighs by HTTP, and the processes that it leaves."""
+"""A demo that runs, its clerk who weighs by HTTP, and the processes that it leaves. Installed programs are tried by it too, so it needs no other part of the repository."""
 
 import json
 import os
@@ -6,16 +6,16 @@ import re
 import shutil
 import signal
 import subprocess
-import tempfile
 import threading
 import time
 import urllib.error
 import urllib.parse
 import urllib.request
 
-from checks.lib.countering import failures
+from checks.lib.bridge import Closing
+from checks.lib.waiting import wait_until
 from collections.abc import Callable, Iterable, Mapping
-from typing import IO, Any
+from typing import IO, Any, Self
 
 TOP = os.path.dirname(os.path.dirname(os.path.dirname(os.path.abspath(__file__))))
 STARTS_WITHIN = 60  # seconds
@@ -59,8 +59,8 @@ def processes_of(*folders: str) -> dict[int, str]:
     return found
 
 
-class Running:
-    """A demo that was started. `words` are more of its words.
+class Running(Closing):
+    """A demo that was started. `words` are more of its arguments.
 
     `hangup` is what SIGHUP does to it, even if the check itself runs under nohup. Ctrl-C ends it, even if a shell began the check with `&`, which ignores that.
     """
@@ -102,12 +102,13 @@ class Running:
         for line in stream:
             into.append(line.rstrip("\n"))
 
-    def wait_until_up(self) -> "Running":
-        until = time.monotonic() + STARTS_WITHIN
-        while not any("Ctrl-C" in it for it in self.out):
-            if self.process.poll() is not None or time.monotonic() > until:
-                raise SystemExit(f"demo: it doesn't start: {self.out} {self.err}")
-            time.sleep(0.02)
+    def wait_until_up(self) -> Self:
+        def look() -> bool:
+            if self.process.poll() is not None:
+                raise SystemExit(f"the demo doesn't start: {self.out} {self.err}")
+            return any("Ctrl-C" in it for it in self.out)
+
+        wait_until("the demo says how to end it", look, seconds=STARTS_WITHIN)
         found = re.findall(r"http://127\.0\.0\.1:\d+/", "\n".join(self.out))
         self.clerk, self.page = found[0], found[1]
         folder = re.search(r"The folder +(\S+)", "\n".join(self.out))
@@ -213,12 +214,11 @@ class Running:
                 os.kill(number, signal.SIGKILL)
             except OSError:
                 pass
-        if not failures:
-            for it in re.findall(r"/\S*/weighbridge-demo-\w+", self.printed()):
-                shutil.rmtree(it, ignore_errors=True)
+        for it in re.findall(r"/\S*/weighbridge-demo-\w+", self.printed()):
+            shutil.rmtree(it, ignore_errors=True)
 
 
-class Busy:
+class Busy(Closing):
     """Loops that keep processors busy, below everything else."""
 
     def __init__(self, number: int) -> None:
@@ -227,11 +227,7 @@ class Busy:
             for _ in range(number)
         ]
 
-    def end(self) -> None:
+    def close(self) -> None:
         for it in self.loops:
             it.kill()
             it.wait()
-
-
-def new_folder() -> str:
-    return tempfile.mkdtemp(prefix="demo-check-")

@@ -34,10 +34,7 @@ QUICK = {
 # About how many seconds the others take, if it is more than a minute.
 SECONDS = {
     "head_office_upgrade": 1200,
-    "counter": 1500,
     "release": 400,
-    "paper": 350,
-    "demo": 300,
     "units": 250,
 }
 # The end, or the beginning, of a line that reports a case.

@@ -1,16 +1,17 @@
-"""A network between a browser and a program of this machine, that can be slow, or gone. It needs python3 alone."""
+"""A network between a browser and a program of this machine, that can be slow, or gone. It needs only python3."""
 
 import queue
 import socket
 import threading
 import time
 
-HOST = "127.0.0.1"
+from checks.lib.bridge import HOST, Closing
+
 Way = queue.Queue[tuple[float, bytes]]  # when to pass the bytes, and the bytes
 
 
-class Network(threading.Thread):
-    """Hands on what comes to its port, `delay` seconds later in each direction, and no faster than `speed` bytes a second. While it isn't there,
+class Network(Closing, threading.Thread):
+    """Forwards what comes to its port, `delay` seconds later in each direction, and no faster than `speed` bytes a second. While it isn't there,
     each connection stands still as on a pulled cable, and a new one gets no byte."""
 
     def __init__(self, to: int) -> None:
@@ -24,8 +25,16 @@ class Network(threading.Thread):
 
     def run(self) -> None:
         while True:
-            client, _ = self.listener.accept()
+            try:
+                client, _ = self.listener.accept()
+            except OSError:
+                return  # it was closed
             threading.Thread(target=self.connect, args=(client,), daemon=True).start()
+
+    def close(self) -> None:
+        self.is_there.set()
+        self.listener.shutdown(socket.SHUT_RDWR)  # wakes the thread that accepts
+        self.listener.close()
 
     def connect(self, client: socket.socket) -> None:
         self.is_there.wait()

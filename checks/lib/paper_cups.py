@@ -1,12 +1,12 @@
-"""A CUPS of its own for checks/paper: a scheduler in a folder, on a port of this machine, with a queue that prints to a file."""
+"""A CUPS in a folder of its own, on a port of this machine, with a queue that prints to a file."""
 
 import os
 import shutil
 import subprocess
 import tempfile
-import time
 
-from checks.lib.bridge import HOST, free_port
+from checks.lib.bridge import HOST, Closing, free_port
+from checks.lib.waiting import wait_until
 
 FILES = """ServerRoot {folder}
 CacheDir {folder}/cache
@@ -87,7 +87,9 @@ JobRetryInterval 1
 """
 
 
-class Cups:
+class Cups(Closing):
+    """A scheduler that runs until it is closed."""
+
     def __init__(self) -> None:
         self.folder, self.port = tempfile.mkdtemp(prefix="cups-"), free_port()
         self.address, self.made = f"{HOST}:{self.port}", f"{self.folder}/made"
@@ -98,26 +100,19 @@ class Cups:
             file.write(FILES.format(folder=self.folder))
         with open(f"{self.folder}/cupsd.conf", "w") as file:
             file.write(SETUP.format(host=HOST, port=self.port))
-        self.scheduler: subprocess.Popen[bytes] | None = None
         self.start()
 
     def start(self) -> None:
-        words = [
-            "cupsd",
-            "-f",
-            "-c",
-            f"{self.folder}/cupsd.conf",
-            "-s",
-            f"{self.folder}/cups-files.conf",
-        ]
+        files = ["-c", f"{self.folder}/cupsd.conf", "-s", f"{self.folder}/cups-files.conf"]
+        quiet = subprocess.DEVNULL
         self.scheduler = subprocess.Popen(
-            words, stdin=subprocess.DEVNULL, stdout=subprocess.DEVNULL, stderr=subprocess.DEVNULL
+            ["cupsd", "-f", *files], stdin=quiet, stdout=quiet, stderr=quiet
         )
-        for _ in range(100):
-            if self.tell("lpstat", "-r").startswith("scheduler is running"):
-                return
-            time.sleep(0.1)
-        raise SystemExit(f"paper: cupsd doesn't begin: see {self.folder}/error_log")
+        wait_until(
+            "cupsd is running",
+            lambda: self.tell("lpstat", "-r").startswith("scheduler is running"),
+            pause=0.1,
+        )
 
     def tell(self, program: str, *words: str) -> str:
         return subprocess.run(
@@ -128,7 +123,7 @@ class Cups:
         ).stdout
 
     def queue(self, name: str) -> None:
-        """A queue that puts what it gets, through the filters of the distribution, into a file."""
+        """Make a queue that prints into a file, through the filters of the distribution."""
         with open(f"{self.folder}/file.ppd", "w") as file:
             file.write(PPD)
         self.tell(
@@ -136,7 +131,6 @@ class Cups:
         )
 
     def stop(self) -> None:
-        assert self.scheduler is not None  # it was started
         self.scheduler.terminate()
         self.scheduler.wait()
 

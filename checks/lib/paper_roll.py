@@ -1,8 +1,8 @@
-"""A printer for ESC/POS that puts paper into pictures, for checks/paper. It knows what the commands mean by Epson's reference, and nothing of the program:
-a byte that is no command that it knows, in its place, is a fault."""
+"""A printer for ESC/POS that puts paper into pictures. It knows the commands by Epson's reference, and nothing of the program. Any other byte is a fault."""
 
 import subprocess
 import tempfile
+from typing import Any
 
 from PIL import Image, ImageDraw, ImageFont
 
@@ -29,13 +29,15 @@ class Fault(Exception):
 
 
 class Printed:
-    """What came out: a picture, its lines as texts, and how large each was."""
+    """A paper as a picture, with its lines as texts, and the size of each."""
 
-    def __init__(self, data, dots):
+    def __init__(self, data: bytes, dots: int) -> None:
         self.data, self.at, self.dots = data, 0, dots
         self.columns = dots // CELL[0]
-        self.image, self.top, self.left = Image.new("L", (dots, 20000), 255), 10, 0
-        self.lines, self.line, self.sizes, self.cuts = [], "", [], 0
+        self.image, self.top = Image.new("L", (dots, 20000), 255), 10
+        self.line, self.cuts = "", 0
+        self.lines: list[str] = []
+        self.sizes: list[tuple[int, int]] = []
         self.font = ImageFont.truetype(FONT, 20)
         self.reset()
         while self.at < len(data):
@@ -44,18 +46,19 @@ class Printed:
             raise Fault("a line without its end")
         self.image = self.image.crop((0, 0, dots, self.top + 10))
 
-    def reset(self):
+    def reset(self) -> None:
         self.table, self.size, self.is_bold, self.is_white, self.to = 0, (1, 1), False, False, 0
-        self.pending = []
+        # The letters of this line, with size, and whether each is bold or white.
+        self.pending: list[tuple[str, tuple[int, int], bool, bool]] = []
 
-    def take(self, count=1):
+    def take(self, count: int = 1) -> bytes:
         if self.at + count > len(self.data):
             raise Fault("it ends within a command")
         found = self.data[self.at : self.at + count]
         self.at += count
         return found
 
-    def command(self):
+    def command(self) -> None:
         byte = self.take()[0]
         if byte == 0x1B:
             self.escape(self.take())
@@ -68,7 +71,7 @@ class Printed:
         else:
             raise Fault(f"byte {byte:02x} at {self.at - 1}")
 
-    def escape(self, what):
+    def escape(self, what: bytes) -> None:
         if what == b"@":
             self.reset()
         elif what == b"R":
@@ -89,7 +92,7 @@ class Printed:
         else:
             raise Fault(f"ESC {what!r} at {self.at}")
 
-    def group(self, what):
+    def group(self, what: bytes) -> None:
         if what == b"!":
             size = self.take()[0]
             self.size = (size >> 4) + 1, (size & 7) + 1
@@ -105,7 +108,7 @@ class Printed:
         else:
             raise Fault(f"GS {what!r} at {self.at}")
 
-    def picture(self):
+    def picture(self) -> None:
         if self.take(2) != b"0\0":
             raise Fault("another picture")
         width, height = int.from_bytes(self.take(2), "little"), int.from_bytes(
@@ -121,14 +124,14 @@ class Printed:
         self.image.paste(picture, ((self.dots - width * 8) // 2 if self.to == 1 else 0, self.top))
         self.top += height
 
-    def character(self, letter):
-        wide, high = self.size
+    def character(self, letter: str) -> None:
+        wide = self.size[0]
         if sum(it[1][0] for it in self.pending) + wide > self.columns:
             raise Fault(f"the line {self.line + letter!r} is wider than {self.columns} columns")
         self.pending.append((letter, self.size, self.is_bold, self.is_white))
         self.line += letter
 
-    def feed(self):
+    def feed(self) -> None:
         wide = sum(it[1][0] for it in self.pending) * CELL[0]
         high = max((it[1][1] for it in self.pending), default=1) * CELL[1]
         left = (self.dots - wide) // 2 if self.to == 1 else 0
@@ -149,21 +152,21 @@ class Printed:
 
     # ---- what it says
 
-    def legal(self):
-        """The legal text on it, put together where a line was wrapped."""
+    def legal(self) -> str:
+        """Return the legal text on it, put together where a line was wrapped."""
         return legal_of(self.lines)
 
-    def large(self):
+    def large(self) -> list[str]:
         return [line for line, size in zip(self.lines, self.sizes) if size[1] > 1]
 
-    def save(self, path):
+    def save(self, path: str) -> None:
         self.image.save(path)
 
 
-def legal_of(lines):
-    """The legal text among the lines of a paper: from its first words to the rule or remark behind it."""
+def legal_of(lines: list[str]) -> str:
+    """Return the legal text among the lines of a paper: from its first words to the rule or remark behind it."""
     begin = next(at for at, it in enumerate(lines) if it.startswith("WEIGHING "))
-    made = []
+    made: list[str] = []
     for line in lines[begin:]:
         if line.startswith("> ") or not line.strip() or line.startswith("--"):
             break
@@ -174,8 +177,8 @@ def legal_of(lines):
     return "\n".join(made) + "\n"
 
 
-def code_in(path):
-    """What the QR code of a picture says."""
+def code_in(path: str) -> str:
+    """Return the text of a picture's QR code."""
     it = subprocess.run(
         ["zbarimg", "--quiet", "--raw", "-Sdisable", "-Sqrcode.enable", path],
         capture_output=True,
@@ -184,7 +187,7 @@ def code_in(path):
     return it.stdout.removesuffix("\n")
 
 
-def code_of(image):
+def code_of(image: Any) -> str:
     with tempfile.NamedTemporaryFile(suffix=".png") as file:
         image.save(file.name)
         return code_in(file.name)

@@ -1,24 +1,23 @@
-"""What the parts of checks/paper share: setups, the command, and a paper read back from its bytes or its PDF."""
+"""A setup of weighbridge-paper with its command, and printouts that are read from a PDF."""
 
-import atexit
 import os
 import re
-import shutil
 import subprocess
-import sys
-import tempfile
 
-from checks.lib.countering import TOP, failures
+from checks.lib.bridge import HOST
+from checks.lib.case import Check
+from checks.lib.counter_case import CounterCheck
 from checks.lib.paper_roll import Printed, code_in, legal_of
+from PIL import Image
 
-sys.path.insert(0, os.path.dirname(os.path.dirname(os.path.dirname(os.path.abspath(__file__)))))
-COMMAND = os.path.join(TOP, "counter", "weighbridge-paper")
+from checks import TOP
+from tests.played_printer import PlayedPrinter
+
+COMMAND = str(TOP / "counter" / "weighbridge-paper")
+# The tests write pictures into this folder, for somebody to inspect, and those of docs/counter.md, if the variable is set.
+PICTURES = os.environ.get("CHECKS_PICTURES")
 # width in points of a letter of the legal text
-LETTERS = {
-    "a4": 6.02,
-    "a5": 4.816,
-    "roll80": 4.816,
-}
+LETTERS = {"a4": 6.02, "a5": 4.816, "roll80": 4.816}
 HEAD = """spool = "{folder}/spool"
 zone = "Europe/Berlin"
 language = "{language}"
@@ -28,86 +27,153 @@ footer = ["Öffentliche Waage · Mo–Fr 7–17"]
 
 
 class Desk:
-    """A setup with its printers, and the command."""
+    """A setup in a folder with its printers, and the command."""
 
-    def __init__(self, language="en", **printers):
-        self.folder = tempfile.mkdtemp(prefix="paper-")
-        # what failed stays, to be looked at
-        atexit.register(lambda: failures or shutil.rmtree(self.folder, ignore_errors=True))
-        self.setup = f"{self.folder}/paper.toml"
-        os.mkdir(f"{self.folder}/made")
-        with open(self.setup, "w") as file:
-            file.write(HEAD.format(folder=self.folder, language=language))
+    def __init__(self, folder: str, language: str = "en", **printers: str) -> None:
+        self.folder, self.setup = folder, f"{folder}/paper.toml"
+        os.mkdir(f"{folder}/made")
+        with open(self.setup, "w", encoding="utf-8") as file:
+            file.write(HEAD.format(folder=folder, language=language))
             for name, lines in printers.items():
-                file.write(f'[[printer]]\nname = "{name}"\n{lines.format(folder=self.folder)}\n')
+                file.write(f'[[printer]]\nname = "{name}"\n{lines.format(folder=folder)}\n')
 
-    def words(self, *words):
+    def words(self, *words: str) -> list[str]:
         return [COMMAND, "--setup", self.setup, *words]
 
-    def run(self, letters, *words, within=60):
+    def run(self, letters: str, *words: str) -> tuple[int, str, str]:
+        """Run the command with these letters as its input. Return its status, output and errors."""
         it = subprocess.run(
-            self.words(*words), input=letters.encode(), capture_output=True, timeout=within
+            self.words(*words), input=letters.encode(), capture_output=True, timeout=60
         )
         return it.returncode, it.stdout.decode(), it.stderr.decode()
 
-    def made(self):
-        """What came out, the oldest first."""
-        names = sorted(
-            os.listdir(f"{self.folder}/made"), key=lambda it: int(re.findall(r"-(\d+)\.", it)[0])
-        )
+    def begin(self, letters: str, *words: str) -> subprocess.Popen[bytes]:
+        """Start the command with these letters as its input, and return its process."""
+        quiet, pipe = subprocess.DEVNULL, subprocess.PIPE
+        it = subprocess.Popen(self.words(*words), stdin=pipe, stdout=quiet, stderr=quiet)
+        assert it.stdin is not None  # it is a pipe
+        with it.stdin:
+            it.stdin.write(letters.encode())
+        return it
+
+    def listed(self) -> str:
+        """Return the list of what waits."""
+        return self.run("", "--list")[1]
+
+    def made(self) -> list[str]:
+        """Return the paths of what came out, the oldest first."""
+
+        def number(name: str) -> int:
+            return int(re.findall(r"-(\d+)\.", name)[0])
+
+        names = sorted(os.listdir(f"{self.folder}/made"), key=number)
         return [f"{self.folder}/made/{it}" for it in names]
 
 
-def printed_of(path, dots):
+class PaperCheck(Check):
+    """A check with desks and played printers, which end with the test."""
+
+    def desk(self, language: str = "en", **printers: str) -> Desk:
+        return Desk(self.folder(), language, **printers)
+
+    def printer(self) -> PlayedPrinter:
+        """Play a printer, until the test ends."""
+        played = PlayedPrinter()
+        self.addCleanup(played.gone)
+        return played
+
+
+class CounterWithPrinter(CounterCheck, PaperCheck):
+    """A check with a counter that has a printer."""
+
+    def setUp(self) -> None:
+        self.played, self.bridge = self.printer(), self.new_bridge()
+        folder = self.bridge.folder
+        with open(f"{folder}/paper.toml", "w", encoding="utf-8") as file:
+            file.write(
+                f'spool = "{folder}/spool"\nzone = "Europe/Berlin"\nheader = ["Kieswerk Wellum", "Hafenstraße 12"]\n'
+                f'[[printer]]\nname = "yard"\nto = "tcp:{HOST}:{self.played.port}"\ncode_pages = ["cp858", "cp852"]\n'
+            )
+        with open(self.bridge.setup, encoding="utf-8") as file:
+            setup = file.read()
+        with open(self.bridge.setup, "w", encoding="utf-8") as file:
+            file.write(f'papers = "{folder}/paper.toml"\n{setup}')
+        self.bridge.start_counter()
+        self.bridge.put(0)
+
+
+def marks(paper: bytes) -> int:
+    """Return how often a paper says that it is no original."""
+    return paper.count(b"DUPLICATE") + paper.count(b"COPY")
+
+
+def marks_of(papers: list[bytes]) -> list[int]:
+    return [marks(it) for it in papers]
+
+
+def printed_of(path: str, dots: int) -> Printed:
     with open(path, "rb") as file:
         return Printed(file.read(), dots)
 
 
-def lines_of(pdf, form):
-    """The lines of a PDF, by pdftotext."""
+def lines_of(pdf: str, form: str) -> list[str]:
+    """Return the lines of a PDF, by pdftotext."""
     return lines_of_width(pdf, LETTERS[form])
 
 
-def lines_of_width(pdf, width):
-    it = subprocess.run(
-        ["pdftotext", "-fixed", str(width), pdf, "-"], capture_output=True, text=True, check=True
-    )
-    lines = it.stdout.replace("\f", "\n\n").split("\n")  # a page's end ends what stands on it
+def output_of(*words: str) -> str:
+    return subprocess.run(words, capture_output=True, text=True, check=True).stdout
+
+
+def lines_of_width(pdf: str, width: float) -> list[str]:
+    text = output_of("pdftotext", "-fixed", str(width), pdf, "-")
+    lines = text.replace("\f", "\n\n").split("\n")  # a page's end ends what is on it
     begin = next(it for it in lines if it.lstrip().startswith("WEIGHING "))
     margin = len(begin) - len(begin.lstrip())
     return [it[margin:] if not it[:margin].strip() else it.strip() for it in lines]
 
 
-def legal_in_pdf(pdf, form):
+def legal_in_pdf(pdf: str, form: str) -> str:
     return legal_of(lines_of(pdf, form))
 
 
-def picture_of(pdf, resolution=200):
-    """The first page of a PDF as a picture."""
-    subprocess.run(
-        ["pdftoppm", "-r", str(resolution), "-png", "-singlefile", pdf, pdf.removesuffix(".pdf")],
-        check=True,
-    )
-    return pdf.removesuffix(".pdf") + ".png"
+def picture_of(pdf: str, resolution: int = 200) -> str:
+    """Write the first page of a PDF as a picture, and return its path."""
+    name = pdf.removesuffix(".pdf")
+    output_of("pdftoppm", "-r", str(resolution), "-png", "-singlefile", pdf, name)
+    return f"{name}.png"
 
 
-def code_in_pdf(pdf):
+def code_in_pdf(pdf: str) -> str:
     return code_in(picture_of(pdf))
 
 
-def fonts_left_out(pdf):
-    """Fonts of a PDF that aren't embedded."""
-    it = subprocess.run(["pdffonts", pdf], capture_output=True, text=True, check=True)
-    rows = it.stdout.strip().split("\n")[2:]
+def fonts_left_out(pdf: str) -> list[str]:
+    """Return the fonts of a PDF that aren't embedded."""
+    rows = output_of("pdffonts", pdf).strip().split("\n")[2:]
     return [row for row in rows if row.split()[-5] != "yes"] or ([] if rows else ["none at all"])
 
 
-def about(pdf):
-    """Pages, and width and height in millimetres."""
-    it = subprocess.run(["pdfinfo", pdf], capture_output=True, text=True, check=True)
-    size = re.search(r"Page size: +([\d.]+) x ([\d.]+) pts", it.stdout)
-    return (
-        int(re.search(r"Pages: +(\d+)", it.stdout)[1]),
-        round(float(size[1]) * 25.4 / 72),
-        round(float(size[2]) * 25.4 / 72),
-    )
+def about(pdf: str) -> tuple[int, int, int]:
+    """Return the pages of a PDF, and its width and height in millimetres."""
+    text = output_of("pdfinfo", pdf)
+    size = re.findall(r"Page size: +([\d.]+) x ([\d.]+) pts", text)[0]
+    pages = re.findall(r"Pages: +(\d+)", text)[0]
+    width, height = (round(float(it) * 25.4 / 72) for it in size)
+    return int(pages), width, height
+
+
+def write_row(paths: list[str], target: str, scale: float) -> None:
+    """Write pictures next to each other into one."""
+    pictures = [Image.open(it).convert("L") for it in paths]
+    pictures = [
+        it.resize((round(it.width * scale), round(it.height * scale)), Image.LANCZOS)
+        for it in pictures
+    ]
+    size = (sum(it.width + 12 for it in pictures), max(it.height for it in pictures) + 12)
+    sheet, left = Image.new("L", size, 200), 6
+    for it in pictures:
+        sheet.paste(it, (left, 6))
+        left += it.width + 12
+    os.makedirs(os.path.dirname(target), exist_ok=True)
+    sheet.quantize(8).save(target, optimize=True)

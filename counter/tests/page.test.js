@@ -1,4 +1,4 @@
-// What the page decides without a browser: which plates are asked for, what the sentence says, what a key does. `checks/counter --only unit` runs it by node.
+// What the page decides without a browser: which plates are asked for, what the sentence says, what a key does. `checks/counter -k test_unit.` runs it by node.
 
 import assert from 'node:assert/strict';
 import { readFileSync } from 'node:fs';

@@ -22,31 +22,28 @@ ANSWERS = {
 
 
 class PlayedPrinter:
-    def __init__(self, port=0):
-        self.state, self.rate, self.is_deaf, self.is_dumb, self.knows_behind = (
-            "",
-            None,
-            False,
-            False,
-            True,
-        )
-        self.cut_after = (
-            self.out_after
-        ) = None  # bytes of a paper after which it breaks the connection, or has no paper
-        self.printed = []  # whole papers, as bytes
-        self.begun = []  # what came out of papers that were cut
+    """A printer that prints at `rate` bytes a second, or at once."""
+
+    def __init__(self, port: int = 0) -> None:
+        self.state, self.is_deaf, self.is_dumb, self.knows_behind = "", False, False, True
+        self.rate: int | None = None
+        # Bytes of a paper after which it breaks the connection, or has no paper.
+        self.cut_after: int | None = None
+        self.out_after: int | None = None
+        self.printed: list[bytes] = []  # whole papers
+        self.begun: list[bytes] = []  # what came out of papers that were cut
         self.connections = self.asked = 0
-        self.listener = self.stream = None
+        self.stream: socket.socket | None = None
         self.port, self.is_over = port, False
         self.there()
 
-    def there(self):
+    def there(self) -> None:
         self.is_over = False
         self.listener = socket.create_server(("127.0.0.1", self.port))
         self.port = self.listener.getsockname()[1]
         threading.Thread(target=self._serve, args=(self.listener,), daemon=True).start()
 
-    def gone(self):
+    def gone(self) -> None:
         """Switched off: nobody listens, and what it had in its memory is lost."""
         self.is_over = True
         with contextlib.suppress(OSError):
@@ -54,14 +51,14 @@ class PlayedPrinter:
         self.listener.close()
         self.reset()
 
-    def reset(self):
+    def reset(self) -> None:
         stream, self.stream = self.stream, None
         if stream is not None:
             with contextlib.suppress(OSError):
                 stream.setsockopt(socket.SOL_SOCKET, socket.SO_LINGER, struct.pack("ii", 1, 0))
                 stream.shutdown(socket.SHUT_RDWR)
 
-    def _serve(self, listener):
+    def _serve(self, listener: socket.socket) -> None:
         while not self.is_over:
             try:
                 stream, _ = listener.accept()
@@ -76,11 +73,11 @@ class PlayedPrinter:
 class Connection:
     """One at a time, as most such printers have it."""
 
-    def __init__(self, printer, stream):
+    def __init__(self, printer: PlayedPrinter, stream: socket.socket) -> None:
         self.printer, self.stream, self.waiting, self.paper = printer, stream, b"", b""
         stream.settimeout(0.01)
 
-    def run(self):
+    def run(self) -> None:
         printer = self.printer
         has_ended = False
         while printer.stream is self.stream:
@@ -103,7 +100,7 @@ class Connection:
         if self.paper:
             printer.begun.append(self.paper)
 
-    def take(self, more):
+    def take(self, more: bytes) -> None:
         """A command in real time is answered at once, also if nothing is printed."""
         while re.fullmatch(rb"\x10\x04[\x01-\x04]", more[:3], re.S) and (
             not self.waiting or self.printer.state
@@ -114,7 +111,7 @@ class Connection:
             more = more[3:]
         self.waiting += more
 
-    def work(self):
+    def work(self) -> None:
         printer = self.printer
         while self.waiting and printer.state in ("", "paper_low"):
             if self.waiting.startswith(b"\x1dr\x01"):
@@ -145,7 +142,7 @@ class Connection:
             if printer.out_after is not None and len(self.paper) >= printer.out_after:
                 printer.out_after, printer.state = None, "paper_out"
 
-    def length(self):
+    def length(self) -> int:
         found = PICTURE.match(self.waiting)
         if found:
             return 8 + int.from_bytes(found[1], "little") * int.from_bytes(found[2], "little")
