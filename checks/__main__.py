@@ -3,7 +3,7 @@
 Usage: python3 -m checks [--logs FOLDER] [--slow] [--at-once N] [-k PATTERN] [--list] [CHECK..]
 
 CHECK is a check of docs/checks.md, or one class of it: `support` or `support.Support`. If none is named, all run but the slow ones. The output of each
-class goes to FOLDER/CHECK.CLASS.log. A class that lacks a tool says so and counts as skipped. What measures time runs afterwards, one at a time.
+class goes to FOLDER/CHECK.CLASS.log. A class that lacks a tool says so and counts as skipped. Classes that measure time run afterwards, one at a time.
 
 The program is built first, if one of them needs it and it isn't built. The last line counts tests: `N passed, N failed, N skipped`. The status is 1 if one failed, or if docs/checks.md
 doesn't list the checks that are here.
@@ -46,7 +46,7 @@ QUICK = 10
 
 @dataclass(frozen=True)
 class Unit:
-    """What runs as one process: a class of a check, or a check that is a program of its own."""
+    """A class of a check, or a check that is a program of its own. It runs as one process."""
 
     name: str
     slow: bool
@@ -59,7 +59,7 @@ class Unit:
 
     @property
     def order(self) -> tuple[bool, bool, int]:
-        """Quick ones first, then the longest; what runs alone at the end."""
+        """Quick ones come first, and then the longest."""
         is_quick = self.seconds <= QUICK
         return self.slow, not is_quick, self.seconds if is_quick else -self.seconds
 
@@ -139,7 +139,9 @@ def main() -> int:
     use_debians_python()
     options = arguments("python3 -m checks", __doc__)
     options.add_argument("checks", nargs="*", metavar="CHECK")
-    options.add_argument("--long", action="store_true", dest="slow", help="the same as --slow")
+    options.add_argument(
+        "--long", action="store_true", dest="slow", help="the former name of --slow"
+    )
     options.add_argument("--logs", type=Path, help="the folder of the logs; a new one if not given")
     options.add_argument(
         "--at-once",

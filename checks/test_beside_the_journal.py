@@ -551,7 +551,7 @@ class AtFiveTimesTheRate(AtARate):
 
 
 class Migration(Check):
-    """A migration beside a witness."""
+    """A migration next to a witness."""
 
     needs = (PROGRAM,)
 

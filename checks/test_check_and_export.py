@@ -93,7 +93,7 @@ class CheckAndExport(Check):
         digest = "eba23531a9d727ecf55fe0311e70eb4482f3f871908d8e4fb0018b1c4730bb65"
         for what, statement in (
             (
-                "a changed gross whose digest was made anew",
+                "a changed gross whose digest was made again",
                 f"UPDATE journal SET gross_kg = 18360, digest = '{digest}' WHERE number = 1",
             ),
             ("a missing number", "UPDATE journal SET number = 3 WHERE number = 2"),

@@ -132,7 +132,7 @@ def heard(folder: str, *acts: tuple[float, bytes]) -> list[str]:
 
 
 class Watch(Check):
-    """What the service's watch tells systemd of an office's answers."""
+    """The service's watch, and what it tells systemd of an office's answers."""
 
     def test_turns(self) -> None:
         start, turn = "READY=1 WATCHDOG=1", "WATCHDOG=1"
@@ -153,7 +153,7 @@ class Watch(Check):
 
 
 class Start(Check):
-    """What the start does under each clock."""
+    """The start under each clock."""
 
     def setUp(self) -> None:
         self.machine = Machine(os.path.join(self.folder(), "machine"))

@@ -89,7 +89,7 @@ def offered_by_zsh(folder: str, name: str, words: list[str]) -> list[str]:
 
 
 class Completions(Check):
-    """What each shell offers of both programs."""
+    """The subcommands, options and values that each shell offers."""
 
     needs = (PROGRAM,)
 

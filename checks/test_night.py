@@ -66,7 +66,7 @@ class Parts(Check):
 
 
 class Nights(Check):
-    """Nights beside a running service, and after it was killed."""
+    """Nights while a service runs, and after it was killed."""
 
     needs = (PROGRAM,)
     seconds = 40

@@ -173,7 +173,7 @@ class ServeHeldUp(Check):
         self.ends(service)
 
     def test_departure(self) -> None:
-        """A vehicle drives off while the process is stopped, and its weighing is requested meanwhile."""
+        """Request a weighing of a vehicle that drives off while the process is stopped."""
         service = self.start(bridge.Played(RATE))
         for seconds, wanted in ((IN_TIME, 409), (LATE, 0)):
             service.put(0)
@@ -190,7 +190,7 @@ class ServeHeldUp(Check):
         self.ends(service)
 
     def test_exchanges(self) -> None:
-        """A check, both exports and a purge of many entries."""
+        """Hold the office up by a check, both exports and a purge of many entries."""
         converter = bridge.Converter(RATE, load)
         file = os.path.join(self.folder(), "journal.db")
         make_journal(file, ENTRIES, 400 * DAY)
@@ -237,11 +237,11 @@ class ServePace(Check):
         with ThreadPoolExecutor(len(PACES)) as pool:
             for pace, lines, status in pool.map(self.lines_about, PACES):
                 self.same(f"{pace}: the service's status at its end", 0, status)
-                self.same(f"{pace}: how often it is told", int(pace.is_told), len(lines))
+                self.same(f"{pace}: how often the service says it", int(pace.is_told), len(lines))
                 for it in lines:
                     said = re.fullmatch(
                         rf"pace: (\d+) readings came in 6[0-3] s, and --pace .*states {pace.stated} a second: .*",
                         it,
                     )
                     is_right = said and abs(int(said[1]) - pace.rate * 60) <= pace.rate * 6
-                    self.holds(f"{pace}: what is told", is_right, it)
+                    self.holds(f"{pace}: its words", is_right, it)

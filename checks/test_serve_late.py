@@ -333,7 +333,7 @@ def tell_many(name: str, count: int, found: list[tuple[float, int]]) -> None:
 
 
 def start(folder: str, rate: float) -> bridge.Service:
-    """Start a service with so many turns a second and an empty bridge."""
+    """Start a service with this rate of turns and an empty bridge."""
     pace = f"{rate:.0f}"
     service = bridge.Service(
         BUILT, os.path.join(folder, f"{pace}.db"), bridge.Played(rate), "--pace", pace

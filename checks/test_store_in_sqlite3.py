@@ -14,7 +14,7 @@ from checks.lib.case import Check
 from checks.lib.journal import PAIR, change, write_rows
 
 LIBRARIES = ["wb_instrument", "wb_journal", "wb_store", "sqlite"]
-# What the program shows of the pair.
+# The lines that the program prints of the pair.
 SHOWN = "".join(
     f"{row[0]} {row[1]} {row[3]} {kind} Some({row[5]}) {row[10]} true\n"
     for row, kind in zip(PAIR, ("first", "second"))

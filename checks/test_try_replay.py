@@ -61,7 +61,7 @@ class TryReplay(Check):
             self.assertRegex(told[0], rf"\./weighbridge {command}$", what)
 
     def test_build_next_to_another(self) -> None:
-        """A build waits for another one, says so, and then continues."""
+        """Show that a build waits for another one, says so, and then continues."""
         out = TOP / "crates" / "weighbridge" / "out"
         os.utime(out / "proved" / "stamp", (0, 0))
         with open(out / "building", "w", encoding="utf-8") as held:

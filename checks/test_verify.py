@@ -47,7 +47,7 @@ from checks.lib.second_verifier import (
 )
 from checks.lib.showing import fail, ok
 
-Digests = dict[int, str]  # those of a journal's entries, by number
+Digests = dict[int, str]  # of the entries of a journal, by number
 # A name, places, the bytes that are put there (None cuts the log), and the number of the frame that the readers name.
 Row = tuple[str, int | tuple[int, ...], bytes | None, int | None]
 
@@ -173,7 +173,7 @@ def bytes_below(folder: str) -> dict[str, str]:
 
 
 def chained_anew(path: str, since: int) -> None:
-    """Changes the plate of an entry, and makes its digest and that of each one above it anew."""
+    """Change the plate of an entry, and compute its digest and those of all later entries again."""
     database, previous = sqlite3.connect(path), ZEROS
     for number, key, plate, moment, gross, preset, most, serial in database.execute(
         "SELECT number, request_key, plate, moment, gross_kg, preset_kg, max_kg, serial FROM journal ORDER BY number"
@@ -1088,7 +1088,7 @@ def show_known(folder: str, kept: str, digests: Digests) -> None:
 
 
 class Verify(Check):
-    """What both readers say of journals that were changed in each way."""
+    """Both readers, over journals that were changed in each way."""
 
     needs = ("cc",)
     seconds = 60

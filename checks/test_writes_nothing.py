@@ -147,7 +147,7 @@ def mounted(script: str, folder: str) -> list[str]:
 
 
 class WritesNothing(Check):
-    """What a look at a journal leaves."""
+    """Looks at journals, and the bytes that they leave."""
 
     needs = (PROGRAM, "strace")
     seconds = 60
@@ -190,7 +190,7 @@ class WritesNothing(Check):
         self.same(f"{what}, on a mount that can't be written", wanted, found)
 
     def test_check_that_is_killed(self) -> None:
-        """A check that is killed at any time leaves no byte of its copies."""
+        """Show that a check that is killed at any time leaves no byte of its copies."""
         path, temporary, _ = self.folders()
         chance, left = random.Random(1), 0
         make_journal(path, 20_000)

@@ -1,1 +1,1 @@
-"""What the checks share."""
+"""Modules that several checks use."""

@@ -20,7 +20,7 @@ from checks.lib import program
 KEEP = "CHECKS_KEEP"
 # How many times the usual number of random or repeated trials is made, as --times sets it.
 TIMES = "CHECKS_TIMES"
-# What a class needs that tries the built program. `python3 -m checks` builds it first.
+# A class that tries the built program needs this. `python3 -m checks` builds the program first.
 PROGRAM = "the program"
 # Names that stand for more than a command or a module of Python.
 OTHERS: dict[str, tuple[str, Callable[[], bool]]] = {
@@ -31,7 +31,7 @@ OTHERS: dict[str, tuple[str, Callable[[], bool]]] = {
 
 
 def many(usual: int) -> int:
-    """Return how many trials to make, where so many are usual."""
+    """Return how many trials to make in place of the usual number."""
     return max(1, round(usual * float(os.environ.get(TIMES, 1))))
 
 
@@ -52,14 +52,14 @@ def skip_without(*names: str) -> Callable[[Any], Any]:
 
 
 class Check(unittest.TestCase):
-    """A check. `python3 -m checks` decides by its attributes when it runs, and beside what."""
+    """A check. `python3 -m checks` decides by its attributes when it runs, and which others run meanwhile."""
 
     needs: ClassVar[tuple[str, ...]] = ()
     """Commands and modules of Python. The class is skipped without one of them."""
     slow: ClassVar[bool] = False
     """It runs only with --slow."""
     alone: ClassVar[bool] = False
-    """Nothing runs beside it, because it measures time or changes what others use."""
+    """No other runs meanwhile, because it measures time or changes what others use."""
     seconds: ClassVar[int] = 10
     """About how long it takes on a quiet machine. Only the order depends on it."""
     maxDiff = None
@@ -79,12 +79,12 @@ class Check(unittest.TestCase):
         return path
 
     def same(self, what: str, wanted: object, found: object) -> None:
-        """Compare two values as a case of its own. The test goes on after a difference."""
+        """Compare two values as a case of its own. The test continues after a difference."""
         with self.subTest(what):
             self.assertEqual(wanted, found)
 
     def holds(self, what: str, is_so: object, found: object = "") -> None:
-        """Show that something is so, as a case of its own. `found` tells what was there if it isn't."""
+        """Show that something is so, as a case of its own. If it isn't, the failure shows `found`."""
         with self.subTest(what):
             self.assertTrue(is_so, found)
 

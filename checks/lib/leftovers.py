@@ -1,4 +1,4 @@
-"""Ends what a check has left running. Each process of a check inherits a mark in its environment, also if it left the check's group or was adopted.
+"""Ends what a check has left running. Each process of a check inherits a mark in its environment, and keeps it if it leaves the check's group.
 
 A check that another check runs adds its own mark to the other's, and ends only what has its own.
 """
@@ -28,7 +28,7 @@ def has_mark(environment: bytes, mark: str) -> bool:
 
 
 def marked(mark: str) -> list[int]:
-    """Return the numbers of the processes with this mark, but for this one."""
+    """Return the numbers of the other processes with this mark."""
     found = []
     for name in os.listdir("/proc"):
         if name.isdigit() and int(name) != os.getpid():
@@ -57,7 +57,7 @@ def end_marked(mark: str) -> int:
 
 
 class Stopped(KeyboardInterrupt):
-    """This process was told to end. unittest passes it on, as it does with Ctrl-C, and each test cleans up."""
+    """A signal ends this process. unittest passes it on, as it does with Ctrl-C, and each test cleans up."""
 
     def __init__(self, number: int) -> None:
         super().__init__(f"signal {number}")

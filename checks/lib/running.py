@@ -157,7 +157,7 @@ def run(classes: list[type[Check]], patterns: list[str] | None, failfast: bool =
 
 
 def use_debians_python() -> None:
-    """Begin anew under Debian's own Python, unless this is it."""
+    """Continue under Debian's own Python, unless this is it."""
     if os.path.exists(DEBIANS) and not os.path.samefile(sys.executable, DEBIANS):
         os.execv(DEBIANS, [DEBIANS, *sys.orig_argv[1:]])
 
@@ -170,11 +170,11 @@ def arguments(name: str, words: str | None) -> argparse.ArgumentParser:
     options.add_argument(
         "-k", action="append", metavar="PATTERN", help="only tests whose name has it"
     )
-    options.add_argument("--slow", action="store_true", help="also those that take long")
+    options.add_argument("--slow", action="store_true", help="run those that take long, too")
     options.add_argument("--list", action="store_true", help="only print the tests' names")
     options.add_argument("--keep", action="store_true", help="keep the folders of the tests")
     options.add_argument(
-        "--times", type=float, metavar="FACTOR", help="make so many times the usual trials"
+        "--times", type=float, metavar="FACTOR", help="multiply the number of trials"
     )
     return options
 

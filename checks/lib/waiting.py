@@ -14,7 +14,7 @@ def wait_until(
     seconds: float = 20,
     pause: float = 0.02,
 ) -> Found:
-    """Look until `is_so` holds for what was seen, and return that. Raise TimeoutError with what was seen last if it doesn't within so many seconds."""
+    """Look until `is_so` holds for what was seen, and return that. Raise TimeoutError with what was seen last if it doesn't in time."""
     until = time.monotonic() + seconds
     while not is_so(found := look()):
         if time.monotonic() >= until:
