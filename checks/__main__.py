@@ -95,6 +95,17 @@ def units(patterns: list[str] | None) -> list[Unit]:
     return found
 
 
+def is_picked(unit: Unit, there: list[Unit], named: list[str], with_slow: bool) -> bool:
+    """Return whether a unit runs. A slow one needs --slow, unless its class is named, or a check of which all classes are slow."""
+    check = unit.name.partition(".")[0]
+    if unit.name in named:
+        return True
+    if named and check not in named:
+        return False
+    others = [it for it in there if it.name.partition(".")[0] == check]
+    return with_slow or not unit.slow or bool(named) and all(it.slow for it in others)
+
+
 def run(unit: Unit, logs: Path) -> Counts:
     """Run a unit, print its row, and return the counts of its tests."""
     began, log, counted = time.monotonic(), logs / f"{unit.name}.log", logs / f"{unit.name}.json"
@@ -160,10 +171,7 @@ def main() -> int:
     picked = [
         it
         for it in sorted(there, key=lambda it: it.order)
-        if {it.name, it.name.partition(".")[0]} & {*asked.checks}
-        or not asked.checks
-        and (asked.slow or not it.slow)
-        and (it.tests or not asked.k)
+        if is_picked(it, there, asked.checks, asked.slow) and (it.tests or not asked.k)
     ]
     if asked.list:
         print("\n".join(it for unit in picked for it in unit.tests or [unit.name]))
