@@ -199,7 +199,7 @@ def shown(
 def compared(
     step: Step, shell: Shell, names: dict[str, str], is_exact: bool = False
 ) -> tuple[str, str]:
-    """Run a command of a page. Return what the page shows and what came: to the letter if it is exact, else but for what differs each time."""
+    """Run a command of a page. Return what the page shows and what came: to the letter if it is exact, and otherwise without what differs each time."""
     printed = shell.run(replaced(step.command, names))
     if printed is None:
         return "an end of the command", f"none within {SECONDS} s"

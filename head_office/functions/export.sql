@@ -6,8 +6,8 @@ begin
     end if;
 end $$;
 
--- Who loads what, under the lock of the bridge: one load at a time, and what follows sees what the one before stored. Of a first load `taken` has already
--- what `compare` says of records beside which nothing is stored: it is the same, and isn't written twice.
+-- Takes the lock of the bridge, and finds out who loads what. Loads of a bridge run one at a time, so each sees what the one before stored. For a first load, `taken`
+-- already has what `compare` would write, because nothing is stored yet.
 create or replace function admit(of_bridge text, is_newest boolean, fetched timestamptz) returns taking language plpgsql as $$
 declare
     it      taking;
@@ -98,7 +98,7 @@ begin
     if newest is not null and (it.lowest is null or last is null or it.lowest > last) then
         return newest;
     end if;
-    -- numbers of stored entries, and none of these: brought over, replaced, or begun anew
+    -- the export has numbers of stored entries, and none of these entries: the journal was migrated or replaced, or it began again
     years := years_of(newest, it.lowest, last);
     select count(*) as many, min(moment) as since, count(*) filter (where is_other) as others, min(number) filter (where is_other) as first into beside
     from (
@@ -170,8 +170,8 @@ begin
     return it;
 end $$;
 
--- Each record beside what is stored of its number, and the one below it in the export. One that is stored as it came is sound, since no other can stand; of a
--- new one the constraint of the table decides when it is stored.
+-- Compares each record with what is stored under its number, and with the record below it in the export. A record that is stored as it came is sound, because no
+-- other is ever stored. The table's constraint judges a new one when it is stored.
 create or replace function compare(it taking) returns void language plpgsql as $$
 begin
     create temporary table found (what text not null, first bigint not null, last bigint not null, record text not null) on commit drop;

@@ -1,4 +1,4 @@
--- What is wrong of the export, beside what was stored before it.
+-- Finds faults of the export, compared with what was stored before it.
 create or replace function find_in_export(it taking) returns void language plpgsql as $$
 declare
     its_former integer := (select former from follower where journal = it.journal);
@@ -8,7 +8,7 @@ begin
     select 'unsound', number, number, line_of(number, key, kind, plate, moment, gross_kg, preset_kg, interval_kg, max_kg, serial, digest, previous)
     from compared where not sound;
 
-    -- one for a run: the entry that differs in more than its digests, with those behind it that differ in these alone
+    -- one for a run: the entry that differs in more than its digests, with those behind it that differ only in these
     insert into found
     select 'differs', number, last, line_of(number, key, kind, plate, moment, gross_kg, preset_kg, interval_kg, max_kg, serial, digest, previous)
     from (
@@ -29,7 +29,7 @@ begin
     where r.sound and not r.known and case
         when r.previous is null then r.is_next and r.below_previous is not null or e.previous is not null
         when r.is_next and r.previous = r.below or r.previous = encode(e.digest, 'hex') then false
-        -- zeros: nothing stood below; what is stored here from below was of age, and purged
+        -- zeros: the journal has no entry below; the one that is stored here was past retention, and purged
         when r.previous = repeat('0', 64) then r.number > it.lowest or r.moment::date <= (e.moment at time zone 'UTC')::date + it.days
         else r.number = 1 or r.is_next or e.number is not null end;
 
@@ -38,7 +38,7 @@ begin
     from (select coalesce(number_below, it.before, it.sealed) + 1 as a, number - 1 as z from compared) g
     cross join lateral (
         select count(*) as many from entry e where e.journal = it.journal and e.number between g.a and g.z and e.year between it.since and it.until offset 0) s
-    -- what the former journal alone has of them is left out
+    -- entries that only the former journal has are left out
     where g.a <= g.z and (s.many > 0 or not exists (
         select from entry o where o.journal = its_former and o.number between g.a and g.z and o.year between years.since and years.until));
 
@@ -60,7 +60,7 @@ begin
         where f.journal = it.journal and f.what = 'nearly full' and coalesce(a.at > now() - interval '30 days', true));
 end $$;
 
--- What is wrong of single entries, and of one beside the sound one below it.
+-- Finds faults of single entries, and of an entry compared with the sound one below it.
 create or replace function find_in_entries(it taking) returns void language plpgsql as $$
 declare
     years record := years_of(it.journal, 1, 4294967295);
@@ -108,7 +108,7 @@ begin
         case kind when 'first' then format('first of %s, which has number %s open', plate, former_number) else format('%s of %s', kind, plate) end
     from paired where kind <> 'single' and (kind = 'first') = (coalesce(former_kind, '') = 'first');
 
-    -- among the new ones, and beside what was stored: the index on the key's hash serves that alone, and the journal itself can't be read for it
+    -- among the new ones, and against those that are stored: only the index on the key's hash serves that, because reading the whole journal takes too long
     insert into found
     select 'key again', n.number, n.number, format('key %s of number %s', n.key, n.other)
     from (select number, key, coalesce(lag(number) over w, lead(number) over w) as other from compared
@@ -123,8 +123,8 @@ begin
     where n.sound and not n.known;
 end $$;
 
--- What is wrong of the journal beside others: a first load whose first entry stands in another one too, and a follower beside the former journal, by a
--- whole export; what is left out in a row is one finding.
+-- Finds faults of the journal compared with others. The first entry of a first load may be in another journal, too. A follower is compared with the former journal
+-- by a whole export. Entries that are left out in a row are one finding.
 create or replace function find_in_journals(it taking) returns void language plpgsql as $$
 begin
     if it.stored is null then
@@ -146,7 +146,7 @@ begin
 end $$;
 
 -- Writes the findings, the first hundred by what matters and how many more, as far as the bridge has room for them today, and the load. Says how it went, and of each of the first twenty new findings
--- the record and what stands here beside it.
+-- the record and what is stored here under its number.
 create or replace function write_load(it taking, added bigint) returns setof text language plpgsql as $$
 declare
     done    load;

@@ -1,6 +1,6 @@
--- A follower beside the former journal, from the first entry of the one to the last entry of the other: entries that differ in more than their
--- digests, and those that one of them lacks. None, if the journal was brought over as it stood. What was of age when the follower was first loaded was
--- purged.
+-- The differences between a follower and the former journal, from the follower's first entry to the former journal's last one. These are entries that differ in more
+-- than their digests, and entries that one of the two lacks. There is none if the journal was migrated as it was. Entries that were past retention when the follower
+-- was first loaded don't count, because they were purged.
 create or replace view follower_difference as
     select f.bridge, f.journal, f.former, d.number, d.what, d.record, d.former_record
     from follower f
@@ -24,8 +24,8 @@ create or replace view follower_difference as
                 is distinct from (o.key, o.kind, o.plate, o.moment, o.gross_kg, o.preset_kg, o.interval_kg, o.max_kg, o.serial) end
     ) d;
 
--- Each finding with what stands here beside it, what is to be done, who acknowledged it, and whether a later load made up for it. A follower's stands
--- beside the former journal's, and so where it had no entry.
+-- Each finding with what is stored here under its number, the advice, who acknowledged it, and whether a later load made up for it. A follower's finding is shown
+-- with the former journal's entry, even if the follower had none.
 create or replace view finding_beside_stored as
     select f.finding, j.bridge, j.journal, f.what, f.first, f.last, case when f.first > 0 then concat_ws('-', f.first, nullif(f.last, f.first)) end as numbers,
         f.record, f.at, case when e.number is not null then line_of(e.number, e.key, e.kind, e.plate, e.moment at time zone 'UTC', e.gross_kg,
@@ -57,7 +57,7 @@ create or replace view heard as
         cross join lateral (select e.number, e.moment from entry e where e.journal = y.journal and e.year = y.year and e.number = y.last offset 0) e) e on true
     left join standing s on s.journal = l.journal;
 
--- The tickets of a haulier, with the day of the bridge's own zone. His plates are looked up one by one: told that they are equal, PostgreSQL may read the
+-- The tickets of a haulier, with the day of the bridge's own zone. The view looks up his plates one by one. By a condition that they are equal, PostgreSQL may read the
 -- entries of all plates from the first one to his.
 create or replace view haulier_ticket as
     select h.haulier, t.bridge, t.ticket, t.kind, t.plate, t.first, t.at, (t.at at time zone b.zone)::date as day, t.gross_kg, t.tare_kg, t.net_kg, t.brought
@@ -71,15 +71,15 @@ create or replace view loader_login as
         order by s.setdatabase desc limit 1) as temp_file_limit
     from loader l left join pg_catalog.pg_roles r on r.rolname = l.login;
 
--- What the bridge's own check looks for, of what is stored here, made again: none, unless this cluster's own files were changed. Asked after a restore.
+-- Stored entries that the bridge's own check would refuse. There is none, unless this cluster's own files were changed. A restore asks this.
 create or replace view unsound_entry as
     select j.bridge, j.journal, e.number
     from entry e join journal j using (journal)
     where e.digest <> digest_of(number, key, kind, plate, moment at time zone 'UTC', gross_kg, preset_kg, interval_kg, max_kg, serial,
         encode(previous, 'hex'));
 
--- Stored entries that don't hold the digest of the one before, though it is stored here: none, unless a finding says why, or this cluster's own files
--- were changed and digests made anew. Zeros are held where the one before was of age by then, and purged.
+-- Stored entries that don't hold the digest of the one before, although that one is stored here. There is none, unless a finding says why, or this cluster's own files
+-- were changed and digests computed again. An entry may hold zeros if the one before was past retention by then, and purged.
 create or replace view unchained_entry as
     select j.bridge, j.journal, e.number
     from entry e join entry o on o.journal = e.journal and o.number = e.number - 1 join journal j on j.journal = e.journal join bridge b using (bridge)

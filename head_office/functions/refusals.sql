@@ -1,4 +1,4 @@
--- Breaks a load off. Who called it writes the reason down.
+-- Breaks a load off. Its caller writes the reason down.
 create or replace function refuse(reason text, why text) returns void language plpgsql as
 $$ begin raise exception '%', why using errcode = 'HO001', hint = reason; end $$;
 
@@ -33,9 +33,9 @@ begin
     return many;
 end $$;
 
--- Writes a refused load down, and as a finding unless an open one says the same. Of each reason a login has at most a hundred a day at a bridge, so that
--- none hides another; past that what is a new finding is written still, unless the next load makes up for it by itself, or the loader itself chose the
--- words. Of what the next load makes up for there is one open finding of a reason. Says it in a line, even if a lock keeps it from being written down.
+-- Writes a refused load down, and as a finding unless an open one says the same. A login has at most a hundred refusals a day of each reason at a bridge, so that
+-- none hides another. Past that, a new finding is still written, unless the next load makes up for it, or the loader chose the words. A reason that the next load
+-- makes up for has only one open finding. Returns the line about it, even if a lock prevents writing it down.
 create or replace function write_refusal(of_bridge text, because text, told text, fetched timestamptz) returns text language plpgsql set lock_timeout = '5s' as $$
 declare
     said       text := left(regexp_replace(left(told, 500), '[^ -~]', '?', 'g'), 500);
@@ -69,7 +69,7 @@ exception when lock_not_available or deadlock_detected then
     return format('%s: refused: %s', named, said);
 end $$;
 
--- What the program `load` refused by itself, since no export came to be handed in.
+-- Notes a refusal of the program `load`, which had no export to load.
 create or replace function note_refusal(of_bridge text, because text, told text, fetched timestamptz default null) returns text
 language plpgsql security definer set search_path = head_office, pg_temp as $$
 begin

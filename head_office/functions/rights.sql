@@ -10,7 +10,7 @@ begin
     end loop;
 end $$;
 grant insert on bridge, instrument, journal, loader, follower, haulier to head_office_registrar;
--- which instrument is whose may not be said anew
+-- nobody may give an instrument to another bridge
 grant update (zone, retention_days, load_within, entry_within, places, whole_within, plate_years) on bridge to head_office_registrar;
 grant update (note) on journal to head_office_registrar;
 -- a journal that was registered by mistake: nothing hangs on it yet, or it stays

@@ -1,4 +1,4 @@
--- What is kept of a sealed year, as one digest.
+-- One digest over the entries that are kept of a sealed year.
 create or replace function kept_digest_of(its integer, of_year integer) returns bytea stable
     return (select sha256(convert_to(coalesce(string_agg(concat_ws(',', number, kind, extract(epoch from moment)::bigint, coalesce(gross_kg::text, ''),
         coalesce(preset_kg::text, ''), interval_kg, max_kg, serial, coalesce(partner::text, '')), E'\n' order by number), ''), 'UTF8'))
@@ -21,8 +21,8 @@ create or replace view due_year as
         and not exists (select from sealed_year s where s.journal = j.journal and s.year >= y.year)
     group by 1, 2;
 
--- Drops the plates of a bridge's entries up to the end of a year: what is kept of them has no plate, key or digest, and one digest stays over those of
--- all. A First whose Second comes later stays with it.
+-- Drops the plates of a bridge's entries up to the end of a year. What is kept of an entry has no plate, key or digest. One digest stays over the digests of all. A
+-- First whose Second comes later stays with it.
 create or replace function seal(of_bridge text, of_year integer) returns setof text language plpgsql security definer set search_path = head_office, pg_temp set lock_timeout = '60s' as $$
 declare
     its       bridge;

@@ -42,8 +42,8 @@ begin
     return added;
 end $$;
 
--- The new entries, each with the plate's last entry before it that is no Single: a new one, behind what was stored; the First that is open; or, where one of
--- them comes late, what is looked up.
+-- Pairs each new entry with the plate's last entry before it that is no Single. That is another new one, or the open First. If an entry comes late, the stored
+-- entries are searched.
 create or replace function pair(it taking, is_late boolean) returns void language plpgsql as $$
 begin
     create temporary table paired on commit drop as
@@ -65,7 +65,7 @@ begin
     select number, kind, plate, moment at time zone 'UTC', gross_kg, preset_kg, null, null, null from compared where sound and not known and kind = 'single';
 end $$;
 
--- The sums of the tickets in `touched`, as they are now, added to `delta` so many times.
+-- Adds the present sums of the tickets in `touched` to `delta`, multiplied by `times`.
 create or replace function add_to_delta(times integer) returns void language plpgsql as $$
 begin
     insert into delta
@@ -78,8 +78,8 @@ begin
     group by 1, 2;
 end $$;
 
--- Stores the new entries, and keeps the sums and what is open. What changes is tickets of the new entries; of those that come next after a new one of
--- the same plate, where a missing one comes late; and of a follower's entries that the former journal has from now on.
+-- Stores the new entries, and keeps the sums and the open Firsts. The tickets of the new entries change. If a missing entry comes late, so does the ticket of the next
+-- entry of its plate. So do the tickets of a follower's entries that the former journal has from now on.
 create or replace function store(it taking) returns bigint language plpgsql as $$
 declare
     added      bigint;

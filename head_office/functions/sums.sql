@@ -11,7 +11,7 @@ create or replace view on_site as
     select j.bridge, o.plate, o.number, o.since, o.gross_kg
     from open_entry o join (select bridge, max(journal) as journal from journal group by bridge) j using (journal);
 
--- What the entries say of each journal and year.
+-- The row of each journal and year, computed from the entries.
 create or replace view computed_journal_year as
     select journal, year, min(number) as first, max(number) as last, count(*) as entries, max(received_at) as received_at from entry group by 1, 2;
 
@@ -37,7 +37,7 @@ begin
     perform pg_try_advisory_xact_lock_shared(hashtext('head_office load'), hashtext(of_bridge));
 end $$;
 
--- Makes the sums and open Firsts of a bridge anew from its entries, where more than a load changes them.
+-- Computes the sums and open Firsts of a bridge again from its entries, after a change that is no load.
 create or replace function rebuild_sums(of_bridge text) returns void language plpgsql security definer set search_path = head_office, pg_temp as $$
 declare
     its integer;

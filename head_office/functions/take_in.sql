@@ -1,6 +1,6 @@
--- Takes in the export of a bridge's journal that this transaction handed in, fetched at that moment. What is new and without fault is stored, what is
--- stored already stays as it is, and everything else is a finding. What is refused changes nothing, and is written down. An export of the newest entries
--- alone is no finding for what it hasn't from before.
+-- Takes in the export of a bridge's journal from the login's landing table, fetched at that moment. It stores new entries without fault, and leaves stored ones as they
+-- are. Everything else is a finding. A refused export changes nothing, and the refusal is written down. An export of only the newest entries is no finding for the
+-- older ones that it lacks.
 create or replace function take_in(of_bridge text, is_newest boolean default false, fetched timestamptz default null) returns setof text
 language plpgsql security definer
 set search_path = head_office, pg_temp set work_mem = '64MB' set jit = off set constraint_exclusion = off set plan_cache_mode = force_custom_plan

@@ -1,7 +1,7 @@
--- The tickets of each journal, from its entries alone. The partner of a Second is the plate's last entry before it that is no Single, if that is a
--- First. A preset tare above the gross makes a net below zero, as at the bridge. Journal and number are one value, as in entry_by_plate: told a journal
--- and an order of numbers, PostgreSQL may read that journal backwards. It is looked for in the table of the entry's own year, and only if it isn't there in
--- those of years before: in each the last one before it in any journal, since PostgreSQL takes what lies between two bounds for so few that it sorts them.
+-- The tickets of each journal, only from its entries. The partner of a Second is the plate's last entry before it that is no Single, if that is a
+-- First. A preset tare above the gross makes a net below zero, as at the bridge. Journal and number are one value, as in entry_by_plate. By a condition
+-- on the journal and an order of numbers, PostgreSQL may read that journal backwards. The view looks in the table of the entry's own year first. If the partner isn't
+-- there, it looks in those of earlier years, each time for the last entry before it in any journal. By two bounds, PostgreSQL would expect few rows and sort them.
 create or replace view ticket_of_journal as
     select j.bridge, e.journal, e.number as ticket, case e.kind when 'second' then 'pair' else 'preset' end as kind, e.plate, p.number as first,
         e.moment as at, greatest(e.gross_kg, p.gross_kg) as gross_kg, coalesce(e.preset_kg, least(e.gross_kg, p.gross_kg)) as tare_kg,
@@ -38,8 +38,8 @@ create or replace view sealed_ticket as
     from sealed_entry e join journal j using (journal) left join sealed_entry p on p.journal = e.journal and p.number = e.partner
     where e.kind = 'single' or e.partner is not null;
 
--- A bridge's own days: its tickets, and what was brought (the loaded vehicle came first), taken, and weighed by a preset tare; from the tickets, and
--- below from the sums that each load keeps.
+-- The totals of a bridge's days in its own zone, from the tickets. They count the tickets, and add what was brought (the loaded vehicle came first), taken, and weighed
+-- by a preset tare. The view below has the same from the sums that each load keeps.
 create or replace view computed_day_total as
     select t.bridge, (t.at at time zone b.zone)::date as day, count(*) as tickets, sum(t.gross_kg) as gross_kg, sum(t.net_kg) as net_kg,
         coalesce(sum(t.net_kg) filter (where t.brought), 0) as brought_kg, coalesce(sum(t.net_kg) filter (where not t.brought), 0) as taken_kg,

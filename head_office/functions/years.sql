@@ -38,7 +38,7 @@ end $$;
 create or replace function make_years() returns boolean
     return make_year(date_part('year', now() at time zone 'UTC')::integer) and make_year(date_part('year', now() at time zone 'UTC')::integer + 1);
 
--- The years in which entries of a journal with these numbers are looked for.
+-- The years whose tables may have entries of a journal with these numbers.
 create or replace function years_of(its integer, a bigint, z bigint, out since integer, out until integer) stable language sql as
 $$ select min(y.since), max(y.until) from journal_year y where y.journal = its and y.first <= z and y.last >= a $$;
 
@@ -56,7 +56,7 @@ begin
     end loop;
 end $$;
 
--- What a journal has of each year, made anew from its entries.
+-- Computes the rows of a journal for each year again from its entries.
 create or replace function rebuild_years(its integer) returns void language plpgsql as $$
 begin
     delete from journal_year where journal = its;
