@@ -2,7 +2,7 @@
 
 from collections.abc import Callable
 
-from weighbridge_counter.fanout import Fanout
+from weighbridge_counter.fanout import Fanout, Outcome, Question, Turn
 
 MAX_KG = 60000  # the scale takes no tare above it
 
@@ -139,8 +139,8 @@ class Asker:
         self.fanout, self.line, self.outcome = fanout, line, "waits"
         self.lines: tuple[str, ...] = ()
         self.until = fanout.clock() + patience
-        self.question = None
-        self.turn = None
+        self.question: Question | None = None
+        self.turn: Turn | None = None
         self.then: Callable[[], None] = lambda: None
         self.turn = fanout.take_turn(self._granted, patience)
         if self.outcome == "granted":
@@ -152,11 +152,13 @@ class Asker:
             self._ask()
 
     def _ask(self) -> None:
+        assert self.turn is not None
         self.question = self.fanout.ask(
             self.turn, self.line, self._done, self.until - self.fanout.clock()
         )
 
-    def _done(self, outcome, lines) -> None:
+    def _done(self, outcome: Outcome, lines: tuple[str, ...]) -> None:
+        assert self.turn is not None
         self.outcome, self.lines = outcome.value, lines
         self.fanout.give_back(self.turn)
         self.then()

@@ -11,7 +11,9 @@ import struct
 import tempfile
 import time
 import unittest
+from collections.abc import Sequence
 from pathlib import Path
+from typing import Any
 from unittest import mock
 
 import aiohttp
@@ -77,7 +79,7 @@ SILENT = {
 
 
 class Served(unittest.IsolatedAsyncioTestCase):
-    async def serve(self, application):
+    async def serve(self, application: web.Application) -> None:
         # a busy machine's slow turns are no lines of the counter
         asyncio.get_running_loop().slow_callback_duration = 60
         self.connections = Connections(collections.Counter())
@@ -88,16 +90,16 @@ class Served(unittest.IsolatedAsyncioTestCase):
 
 
 class Clients(Served):
-    async def serve_counter(self):
+    async def serve_counter(self) -> None:
         folder = tempfile.TemporaryDirectory()
         self.addCleanup(folder.cleanup)
-        counter = Counter(Setup(state=Path(folder.name)), lambda address: None)
+        counter: Any = Counter(Setup(state=Path(folder.name)), lambda address: None)
         self.addCleanup(counter.printing.notes.shutdown)
         counter.terminal.is_in_doubt = lambda: False
         await self.serve(Routes(counter, FOLDER).application())
         self.pages = counter.pages
 
-    async def log_of(self, pieces, ends="closes"):
+    async def log_of(self, pieces: Sequence[bytes], ends: str = "closes") -> tuple[str, bytes]:
         """Return the log's lines and the client's answer after a client sent the pieces and ended."""
         self.connections.lines = Lines()
         with contextlib.redirect_stderr(io.StringIO()) as said:
@@ -119,7 +121,7 @@ class Clients(Served):
                 await asyncio.sleep(0.01)
         return said.getvalue(), answer
 
-    def is_one_line(self, said, cause, what):
+    def is_one_line(self, said: str, cause: str, what: str) -> None:
         self.assertEqual(1, said.count("\n"), f"{what}: {said}")
         line = said.removesuffix("\n")
         self.assertTrue(line.isprintable() and line.isascii(), f"{what}: {said!r}")
@@ -127,7 +129,7 @@ class Clients(Served):
         self.assertIn(cause, line, what)
         self.assertLess(len(line), 80 + LONGEST_CAUSE, what)
 
-    async def test_what_is_no_request_is_one_line_with_its_cause_and_its_sender(self):
+    async def test_what_is_no_request_is_one_line_with_its_cause_and_its_sender(self) -> None:
         await self.serve_counter()
         for what, (pieces, cause) in NO_REQUESTS.items():
             for ends in ("closes", "resets", "waits"):
@@ -136,14 +138,14 @@ class Clients(Served):
                 if ends == "waits" and "address" not in what and "WebSocket" not in what:
                     self.assertRegex(answer, rb"^HTTP/1\.[01] 400 ", what)
 
-    async def test_a_connection_that_is_cut_in_a_body_is_one_line(self):
+    async def test_a_connection_that_is_cut_in_a_body_is_one_line(self) -> None:
         await self.serve_counter()
         for what, pieces in CUT_REQUESTS.items():
             for ends in ("closes", "resets"):
                 said, _ = await self.log_of(pieces, ends)
                 self.is_one_line(said, "ConnectionResetError", f"{what}, {ends}")
 
-    async def test_what_ends_before_it_is_a_request_or_after_its_answer_is_no_line(self):
+    async def test_what_ends_before_it_is_a_request_or_after_its_answer_is_no_line(self) -> None:
         await self.serve_counter()
         for what, pieces in SILENT.items():
             for ends in ("closes", "resets", "waits"):
@@ -155,9 +157,9 @@ class Clients(Served):
             await asyncio.sleep(0.01)
         self.assertEqual(set(), self.pages.open)
 
-    async def test_a_line_that_repeats_is_told_once(self):
+    async def test_a_line_that_repeats_is_told_once(self) -> None:
         await self.serve_counter()
-        said = []
+        said: list[str] = []
         with mock.patch.object(connections, "tell", said.append):
             for _ in range(20):
                 reader, writer = await asyncio.open_connection("127.0.0.1", self.port)
@@ -166,10 +168,10 @@ class Clients(Served):
                 writer.close()
         self.assertEqual(1, len(said), said)
 
-    async def test_a_mistake_of_the_counter_keeps_its_traceback(self):
+    async def test_a_mistake_of_the_counter_keeps_its_traceback(self) -> None:
         faults = [KeyError("x"), OSError(5, "y"), ConnectionResetError("of another connection")]
 
-        async def breaks(request):
+        async def breaks(request: web.Request) -> web.StreamResponse:
             raise faults[0]
 
         application = web.Application()
@@ -182,20 +184,26 @@ class Clients(Served):
             self.assertIn(type(faults.pop(0)).__name__, said)
             self.assertRegex(answer, rb"^HTTP/1\.1 500 ")
 
-    async def test_no_descriptor_is_one_line(self):
+    async def test_no_descriptor_is_one_line(self) -> None:
         await self.serve_counter()
-        loop, said = asyncio.get_running_loop(), []
+        loop = asyncio.get_running_loop()
+        said: list[str] = []
         context = {"message": "x", "exception": OSError(24, "Too many open files"), "socket": None}
         with mock.patch.object(connections, "tell", said.append):
             for _ in range(1000):
                 loop.call_exception_handler(dict(context))
         self.assertEqual(["this machine: accepts no connection: Too many open files"], said)
         with mock.patch.object(loop, "default_exception_handler") as default:
-            for other in ({"exception": KeyError()}, {"exception": OSError(5, "x")}, {}):
+            others: tuple[dict[str, Any], ...] = (
+                {"exception": KeyError()},
+                {"exception": OSError(5, "x")},
+                {},
+            )
+            for other in others:
                 loop.call_exception_handler({"message": "y", **other})
         self.assertEqual(3, default.call_count)
 
-    def test_a_cause_is_bounded_and_printable(self):
+    def test_a_cause_is_bounded_and_printable(self) -> None:
         for fault in (ValueError("\x1b[2J\n" * 1000), ValueError("ä\u2028" * 1000), ValueError()):
             cause = cause_of(fault)
             self.assertLessEqual(len(cause), LONGEST_CAUSE)
@@ -206,12 +214,12 @@ REQUEST = POST + b"Content-Length: 5\r\n\r\nkey=A"
 SHORT = {doing: (0.2, why) for doing, (_, why) in places.WITHIN.items()}
 
 
-async def answer_at_once(request):
+async def answer_at_once(request: web.Request) -> web.StreamResponse:
     return web.Response(text="zero\n")
 
 
 class Files(Served):
-    async def test_a_file_comes_whole_and_not_again(self):
+    async def test_a_file_comes_whole_and_not_again(self) -> None:
         folder = tempfile.TemporaryDirectory()
         self.addCleanup(folder.cleanup)
         counter = Counter(Setup(state=Path(folder.name)), lambda address: None)
@@ -224,7 +232,8 @@ class Files(Served):
             ("/openapi.json", "application/json"),
         ):
             async with aiohttp.ClientSession() as session:
-                url, fields = f"http://127.0.0.1:{self.port}{path}", {}
+                url = f"http://127.0.0.1:{self.port}{path}"
+                fields: dict[str, str] = {}
                 for status in (200, 304):
                     async with session.get(url, headers=fields) as answer:
                         body = await answer.read()
@@ -241,33 +250,36 @@ class Files(Served):
 class Slow(Served):
     """Clients that are slow, silent, too many, or gone. Their times are short here."""
 
-    def setUp(self):
-        for it in (
+    def setUp(self) -> None:
+        shorter: tuple[Any, ...] = (
             mock.patch.dict(places.WITHIN, SHORT),
             mock.patch.object(places, "ANSWERED_WITHIN", 0.3),
             mock.patch.object(connections, "LOOK_EVERY", 0.02),
             mock.patch.object(connections, "tell", self.tell),
-        ):
+        )
+        for it in shorter:
             it.start()
             self.addCleanup(it.stop)
-        self.said, self.taken, self.may_go = [], [], asyncio.Event()
+        self.said: list[str] = []
+        self.taken: list[str] = []
+        self.may_go = asyncio.Event()
 
-    def tell(self, line):
+    def tell(self, line: str) -> None:
         self.said.append(line)
 
-    async def serve_weighings(self, most=400, most_refused=64):
-        async def weigh(request):
+    async def serve_weighings(self, most: int = 400, most_refused: int = 64) -> None:
+        async def weigh(request: web.Request) -> web.StreamResponse:
             self.taken.append((await request.read()).decode())
             await self.may_go.wait()
             return web.Response(text="stored\n")
 
-        async def stream(request):
+        async def stream(request: web.Request) -> web.StreamResponse:
             response = web.StreamResponse()
             await response.prepare(request)
             await asyncio.sleep(60)
             return response
 
-        async def much(request):
+        async def much(request: web.Request) -> web.StreamResponse:
             return web.Response(body=b"x" * 30_000_000)
 
         application = web.Application()
@@ -283,28 +295,30 @@ class Slow(Served):
         await self.serve(application)
         self.connections.places = Places(most, most_refused)
 
-    async def client(self, sent, **more):
+    async def client(
+        self, sent: bytes, **more: Any
+    ) -> tuple[asyncio.StreamReader, asyncio.StreamWriter]:
         reader, writer = await asyncio.open_connection("127.0.0.1", self.port, **more)
         self.addCleanup(writer.close)
         writer.write(sent)
         await asyncio.sleep(0.02)
         return reader, writer
 
-    async def end_of(self, reader):
+    async def end_of(self, reader: asyncio.StreamReader) -> bytes:
         """Return what came until the connection ended."""
         try:
             return await asyncio.wait_for(reader.read(), 3)
         except ConnectionError:
             return b""
 
-    async def all_are_gone(self):
+    async def all_are_gone(self) -> None:
         for _ in range(100):
             if not self.connections.of and not self.connections.places.clients:
                 return
             await asyncio.sleep(0.02)
         self.fail(f"{len(self.connections.of)} connections are left")
 
-    async def test_a_slow_client_is_cut_and_the_line_says_why(self):
+    async def test_a_slow_client_is_cut_and_the_line_says_why(self) -> None:
         await self.serve_weighings()
         for sent, why in (
             (b"", "it sent no request"),
@@ -323,7 +337,7 @@ class Slow(Served):
         await self.all_are_gone()
         self.assertEqual([], self.taken)
 
-    async def test_one_that_takes_no_response_is_cut(self):
+    async def test_one_that_takes_no_response_is_cut(self) -> None:
         await self.serve_weighings()
         await self.client(b"GET /much HTTP/1.1\r\n" + HOST + b"\r\n", limit=1000)
         (connection,) = self.connections.of.values()
@@ -331,7 +345,7 @@ class Slow(Served):
         self.assertIn("it didn't take its whole response", self.said[0])
         self.assertEqual(0, connection.wire.get_write_buffer_size(), "what waits is let go")
 
-    async def test_a_request_that_is_worked_on_has_its_time(self):
+    async def test_a_request_that_is_worked_on_has_its_time(self) -> None:
         await self.serve_weighings()
         reader, writer = await self.client(REQUEST)
         await asyncio.sleep(0.5)
@@ -342,7 +356,7 @@ class Slow(Served):
         writer.close()
         await self.all_are_gone()
 
-    async def test_a_connection_may_ask_again_and_then_be_silent_for_its_time(self):
+    async def test_a_connection_may_ask_again_and_then_be_silent_for_its_time(self) -> None:
         await self.serve_weighings()
         self.may_go.set()
         reader, writer = await self.client(REQUEST)
@@ -354,7 +368,7 @@ class Slow(Served):
         self.assertEqual(b"", await self.end_of(reader))
         self.assertEqual(5, len(self.taken))
 
-    async def test_a_client_that_ended_its_half_gets_its_response(self):
+    async def test_a_client_that_ended_its_half_gets_its_response(self) -> None:
         await self.serve_weighings()
         for is_late in (False, True):
             self.may_go.clear()
@@ -368,14 +382,14 @@ class Slow(Served):
             self.assertTrue((await self.end_of(reader)).endswith(b"stored\n"), is_late)
         self.assertEqual((["key=A"] * 2, []), (self.taken, self.said))
 
-    async def test_a_client_that_ended_its_half_is_not_waited_for_without_end(self):
+    async def test_a_client_that_ended_its_half_is_not_waited_for_without_end(self) -> None:
         await self.serve_weighings()
         reader, writer = await self.client(REQUEST)
         writer.write_eof()
         self.assertEqual(b"", await self.end_of(reader))
         self.assertIn("it ended its half", self.said[0])
 
-    async def test_half_a_request_before_the_end_of_a_half_is_none(self):
+    async def test_half_a_request_before_the_end_of_a_half_is_none(self) -> None:
         await self.serve_weighings()
         self.may_go.set()
         for cut in (1, 10, len(POST) - 1, len(REQUEST) - 6, len(REQUEST) - 1):
@@ -386,7 +400,7 @@ class Slow(Served):
         self.assertEqual([], self.taken)
         self.assertEqual([], [it for it in self.said if "is cut" in it], "no wait")
 
-    async def test_a_request_whose_client_reset_the_connection_is_not_taken(self):
+    async def test_a_request_whose_client_reset_the_connection_is_not_taken(self) -> None:
         await self.serve_weighings()
         self.may_go.set()
         client = socket.create_connection(("127.0.0.1", self.port))
@@ -397,7 +411,7 @@ class Slow(Served):
         self.assertEqual([], self.taken)
         self.assertIn("its connection ended before it was taken", self.said[0])
 
-    async def test_a_reset_is_seen_before_asyncio_reads_it(self):
+    async def test_a_reset_is_seen_before_asyncio_reads_it(self) -> None:
         await self.serve_weighings()
         for linger, is_reset in ((0, False), (1, True)):
             client = socket.create_connection(("127.0.0.1", self.port))
@@ -410,7 +424,7 @@ class Slow(Served):
             self.assertEqual(is_reset, connection.is_reset())
             await self.all_are_gone()
 
-    async def test_a_request_whose_client_was_cut_before_is_not_taken(self):
+    async def test_a_request_whose_client_was_cut_before_is_not_taken(self) -> None:
         await self.serve_weighings()
         self.may_go.set()
         reader, _ = await self.client(b"")
@@ -421,7 +435,7 @@ class Slow(Served):
         await asyncio.sleep(0.05)
         self.assertEqual([], self.taken)
 
-    async def test_a_body_that_comes_after_its_response_is_no_new_request(self):
+    async def test_a_body_that_comes_after_its_response_is_no_new_request(self) -> None:
         await self.serve_weighings()
         reader, writer = await self.client(REQUEST.replace(b"weighings", b"zero")[:-5])
         self.assertIn(b" 200 ", await reader.read(200))
@@ -432,9 +446,10 @@ class Slow(Served):
             self.assertIn(b" 200 ", await reader.read(200))
         self.assertEqual([], self.said)
 
-    async def test_a_look_that_fails_is_not_the_last(self):
+    async def test_a_look_that_fails_is_not_the_last(self) -> None:
         await self.serve_weighings()
-        faults, loop = [], asyncio.get_running_loop()
+        faults: list[dict[str, Any]] = []
+        loop = asyncio.get_running_loop()
         with mock.patch.object(loop, "call_exception_handler", faults.append), mock.patch.object(
             self.connections, "look", side_effect=OSError(28, "No space left on device")
         ):
@@ -443,7 +458,7 @@ class Slow(Served):
         reader, _ = await self.client(b"GET")
         self.assertEqual(b"", await self.end_of(reader))
 
-    async def test_a_flood_of_connections_takes_few_descriptors_at_once(self):
+    async def test_a_flood_of_connections_takes_few_descriptors_at_once(self) -> None:
         await self.serve_weighings(20, 4)
         clients = [socket.socket() for _ in range(300)]
         for it in clients:
@@ -457,7 +472,7 @@ class Slow(Served):
         await asyncio.sleep(0.1)
         self.assertLess(most, 24 + 4 * connections.ACCEPTED_AT_ONCE + 40)
 
-    async def test_one_too_many_gets_a_503_and_another_address_a_place(self):
+    async def test_one_too_many_gets_a_503_and_another_address_a_place(self) -> None:
         await self.serve_weighings(4, 2)
         readers = [await self.client(REQUEST) for _ in range(4)]
         for other in ("127.0.0.1", "127.0.0.2"):
@@ -478,7 +493,7 @@ class Slow(Served):
         for reader, _ in readers:
             self.assertTrue((await reader.read(200)).endswith(b"stored\n"))
 
-    async def test_streams_of_one_address_keep_no_other_out(self):
+    async def test_streams_of_one_address_keep_no_other_out(self) -> None:
         await self.serve_weighings(6, 2)
         events = b"GET /events HTTP/1.1\r\n" + HOST + b"\r\n"
         for _ in range(6):
@@ -490,7 +505,7 @@ class Slow(Served):
         refused, _ = await self.client(events, local_addr=("127.0.0.2", 0))
         self.assertEqual(6, self.connections.places.count())
 
-    async def test_a_flood_of_half_heads_takes_no_place_from_a_request(self):
+    async def test_a_flood_of_half_heads_takes_no_place_from_a_request(self) -> None:
         await self.serve_weighings(20, 4)
         self.may_go.set()
         flood = [

@@ -1,10 +1,14 @@
 """Papers in the counter: what passes is printed once, what isn't the office's is refused, and nothing of it holds up who asks."""
 
 import asyncio
+import contextlib
+import io
 import tempfile
 import unittest
 import zoneinfo
+from collections.abc import Callable
 from pathlib import Path
+from typing import Any
 from unittest import mock
 
 from weighbridge_counter.once import void_key
@@ -16,18 +20,19 @@ from weighbridge_paper.text import read_text
 
 from .papers import USUAL, Sample
 from .played_printer import PlayedPrinter
+from .test_paper_printing import job_of
 
 TEMPLATE = Template(("Kieswerk",), (), "en", zoneinfo.ZoneInfo("UTC"))
 
 
-def first_of(pair):
+def first_of(pair: Sample) -> str:
     """Return the slip of a ticket's first weighing."""
     block = pair.text.split("SECOND NO")[0].split("\n", 2)[2]
     return f"WEIGHING SLIP {pair.number - 1}\nPLATE {pair.plate}\n{block}"
 
 
 class InTheCounter(unittest.IsolatedAsyncioTestCase):
-    async def asyncSetUp(self):
+    async def asyncSetUp(self) -> None:
         folder = tempfile.TemporaryDirectory()
         self.addCleanup(folder.cleanup)
         self.played = PlayedPrinter()
@@ -47,19 +52,19 @@ class InTheCounter(unittest.IsolatedAsyncioTestCase):
         self.printing = Printing(self.papers, {1: USUAL["second"].digests[1]}.get)
         self.running = asyncio.ensure_future(self.printing.run())
 
-    async def asyncTearDown(self):
+    async def asyncTearDown(self) -> None:
         self.running.cancel()
         self.printing.end()
         self.printing.notes.shutdown()
 
-    async def becomes(self, look):
+    async def becomes(self, look: Callable[[], object]) -> None:
         for _ in range(250):
             if look():
                 return
             await asyncio.sleep(0.02)
         raise AssertionError("it doesn't become so")
 
-    async def test_what_passes_is_printed_once(self):
+    async def test_what_passes_is_printed_once(self) -> None:
         for _ in range(3):
             self.printing.passed(
                 USUAL["second"].text, {"key": "K2", "goods": "Kies", "plate": "AB-12"}
@@ -75,7 +80,7 @@ class InTheCounter(unittest.IsolatedAsyncioTestCase):
             ),
         )
 
-    async def test_what_is_not_the_office_s_is_refused_and_told(self):
+    async def test_what_is_not_the_office_s_is_refused_and_told(self) -> None:
         for changed in (
             USUAL["second"].text.replace("8140", "8120").replace("10200", "10220"),
             USUAL["second"].text.replace("AB-12", "ab-12"),
@@ -95,15 +100,15 @@ class InTheCounter(unittest.IsolatedAsyncioTestCase):
             ([], []), (self.played.printed, self.printing.spool.jobs("waits", "begun", "printed"))
         )
 
-    async def test_without_its_key_a_text_is_printed_all_the_same(self):
+    async def test_without_its_key_a_text_is_printed_all_the_same(self) -> None:
         self.printing.passed(Sample("single", number=7).text, {})
         await self.becomes(lambda: self.played.printed)
 
-    async def test_a_void_names_its_first_outside_the_legal_text(self):
+    async def test_a_void_names_its_first_outside_the_legal_text(self) -> None:
         void, first = Sample("void", number=27), Sample("first", number=28)
         self.printing.first_of = {27: 26, 28: 3, 30: 29}.get
 
-        def texts(paper):
+        def texts(paper: dict[str, Any]) -> list[str]:
             return [it.get("text", "") for it in paper["blocks"] if it["is"] in ("line", "rule")]
 
         said = texts(await self.printing.for_browser(void.text))
@@ -119,10 +124,12 @@ class InTheCounter(unittest.IsolatedAsyncioTestCase):
         self.printing.passed(Sample("void", number=30).text, {})
         await self.becomes(lambda: self.played.printed)
         self.assertIn(b"Slip 29", self.played.printed[0])
-        self.printing.first_of = {}.get
+        self.printing.first_of = lambda number: None
         self.assertIn("Slip 26", texts(await self.printing.for_browser(void.text)), "it is kept")
 
-    async def test_a_vehicle_that_is_weighed_once_has_a_slip_that_says_so_and_no_other_paper(self):
+    async def test_a_vehicle_that_is_weighed_once_has_a_slip_that_says_so_and_no_other_paper(
+        self,
+    ) -> None:
         slip, void = Sample("first", number=7), Sample("void", number=9)
         self.printing.passed(slip.text, {"once": "1", "goods": "Kies"})
         await self.becomes(lambda: len(self.played.printed) == 1)
@@ -144,12 +151,12 @@ class InTheCounter(unittest.IsolatedAsyncioTestCase):
         said = [it.get("text") for it in again["blocks"]]
         self.assertIn("Weighed once. No second weighing follows.", said, "it still says so")
 
-    async def test_what_was_given_at_the_first_weighing_is_on_the_ticket(self):
+    async def test_what_was_given_at_the_first_weighing_is_on_the_ticket(self) -> None:
         pair = Sample("second", number=8)
         first = first_of(pair)
         self.printing.passed(first, {"key": "K1", "goods": "Kies 0/32", "driver": "Ada"})
         await self.becomes(lambda: len(self.played.printed) == 1)
-        again = Printing(self.papers, {}.get)  # as after a restart
+        again = Printing(self.papers, lambda number: None)  # as after a restart
         self.addCleanup(again.notes.shutdown)
         again.passed(pair.text, {"key": "K2", "driver": "", "order": "7"})
         await self.becomes(lambda: not again.tasks and again.spool.text_of(8))
@@ -161,7 +168,7 @@ class InTheCounter(unittest.IsolatedAsyncioTestCase):
         )
         self.assertEqual({"goods": "Kies 0/32", "order": "7"}, again.given.of(pair.digest))
 
-    async def test_lines_can_be_changed_until_the_original_is_printed(self):
+    async def test_lines_can_be_changed_until_the_original_is_printed(self) -> None:
         self.played.state = "cover_open"
         ticket = USUAL["single"]
         self.printing.passed(ticket.text, {"goods": "Sand"})
@@ -180,20 +187,17 @@ class InTheCounter(unittest.IsolatedAsyncioTestCase):
             "of a vehicle on site, because its ticket will have it",
         )
 
-    async def test_lines_that_change_while_the_paper_is_rendered_are_on_it(self):
-        job = self.printing.spool.job(
-            self.printing.spool.put(
-                self.printing.spool.take(read_text(USUAL["single"].text)), "other"
-            )
-        )
-        self.assertTrue(self.printing.spool.give(job.paper, (("goods", "Kies"),)))
-        self.assertFalse(self.printing.spool.begin(job, True))
-        now = self.printing.spool.job(job.id)
+    async def test_lines_that_change_while_the_paper_is_rendered_are_on_it(self) -> None:
+        spool = self.printing.spool
+        job = job_of(spool, spool.put(spool.take(read_text(USUAL["single"].text)), "other"))
+        self.assertTrue(spool.give(job.paper, (("goods", "Kies"),)))
+        self.assertFalse(spool.begin(job, True))
+        now = job_of(spool, job.id)
         self.assertEqual((("goods", "Kies"),), now.given)
-        self.assertTrue(self.printing.spool.begin(now, True))
-        self.assertFalse(self.printing.spool.give(job.paper, (("goods", "Erde"),)))
+        self.assertTrue(spool.begin(now, True))
+        self.assertFalse(spool.give(job.paper, (("goods", "Erde"),)))
 
-    async def test_a_trouble_is_a_fault_and_a_press_asks_for_nothing(self):
+    async def test_a_trouble_is_a_fault_and_a_press_asks_for_nothing(self) -> None:
         self.played.state = "cover_open"
         self.printing.passed(USUAL["single"].text, {})
         await self.becomes(lambda: [it["why"] for it in self.printing.jobs] == ["cover_open"])
@@ -206,7 +210,7 @@ class InTheCounter(unittest.IsolatedAsyncioTestCase):
         self.assertEqual([0, 2], [it.count(b"DUPLICATE") for it in self.played.printed])
         self.assertFalse((await self.printing.for_browser(USUAL["single"].text))["is_original"])
 
-    async def test_of_many_that_wait_so_many_are_read(self):
+    async def test_of_many_that_wait_so_many_are_read(self) -> None:
         paper = self.printing.spool.take(read_text(USUAL["second"].text))
         for it in range(MOST_SHOWN + 5):
             self.printing.spool.put(paper, f"printer_{it}")
@@ -214,7 +218,7 @@ class InTheCounter(unittest.IsolatedAsyncioTestCase):
             self.assertEqual(MOST_SHOWN, len(self.printing._look()))
         self.assertEqual(MOST_SHOWN, read.call_count)
 
-    async def test_what_can_not_be_noted_is_told_and_ends_nothing(self):
+    async def test_what_can_not_be_noted_is_told_and_ends_nothing(self) -> None:
         await self.becomes(lambda: self.printing.threads)
         path = self.printing.spool.folder / "papers.db"
         whole = path.read_bytes()
@@ -236,10 +240,7 @@ class InTheCounter(unittest.IsolatedAsyncioTestCase):
         await self.becomes(lambda: self.played.printed)
         self.assertTrue(self.printing.state()["is_writable"])
 
-    def assertLogsOnStandardError(self):
-        import contextlib
-        import io
-
+    def assertLogsOnStandardError(self) -> contextlib.AbstractContextManager[io.StringIO]:
         return contextlib.redirect_stderr(io.StringIO())
 
 

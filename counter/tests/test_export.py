@@ -35,24 +35,27 @@ FIELDS = {
 }
 
 
-def export(*rows):
+def export(*rows: str) -> str:
     return "\n".join((HEADER, *rows, ""))
 
 
-def line(**others):
+def line(**others: str) -> str:
     return ",".join((FIELDS | others).values())
 
 
 class PlayedJournal:
     """A journal of random weighings: the rows of its export, and the text that the office gave for each."""
 
-    def __init__(self, chance, entries):
-        self.chance, self.rows, self.texts, self.open = chance, [], [], {}
+    def __init__(self, chance: random.Random, entries: int) -> None:
+        self.chance = chance
+        self.rows: list[str] = []
+        self.texts: list[str] = []
+        self.open: dict[str, tuple[int, str]] = {}
         self.at, self.digest = datetime.datetime(2025, 3, 10, tzinfo=datetime.timezone.utc), ZEROS
         for number in range(1, entries + 1):
             self.weigh(number)
 
-    def weigh(self, number):
+    def weigh(self, number: int) -> None:
         choose = self.chance.choice
         self.at += datetime.timedelta(seconds=choose((0, 1, 3600)))
         interval, plate = choose((1, 2, 5, 10, 20, 50)), choose(("A", "AB-12", "W" * 12, "007"))
@@ -61,16 +64,16 @@ class PlayedJournal:
         kind = choose(("second", "void") if plate in self.open else ("first", "single"))
         if kind == "single":
             preset = interval * self.chance.randrange(1, gross // interval)
-        gross = None if kind == "void" else gross
         at, most, serial = f"{self.at:%Y-%m-%d %H:%M:%S}", choose((1, 60000, 500000)), "S" * 16
         before, moment = self.digest, int(self.at.timestamp())
+        weight = None if kind == "void" else gross
         self.digest, block = entry(
-            number, kind, plate, moment, at, gross, preset, interval, most, serial, before, key
+            number, kind, plate, moment, at, weight, preset, interval, most, serial, before, key
         )
-        values = (number, key, kind, plate, at, gross or "", preset or "", interval, most, serial)
+        values = (number, key, kind, plate, at, weight or "", preset or "", interval, most, serial)
         self.rows.append(",".join(map(str, (*values, self.digest, before))))
-        first, net = self.open.pop(plate, None), gross and preset and gross - preset
-        if kind == "second":
+        first, net = self.open.pop(plate, None), gross - preset if preset else None
+        if kind == "second" and first is not None:
             block, net = first[1] + block, abs(first[0] - gross)
         if kind == "first":
             self.open[plate] = (gross, block)
@@ -80,7 +83,7 @@ class PlayedJournal:
 
 
 class TheRows(unittest.TestCase):
-    def test_a_row_has_the_types_of_its_columns(self):
+    def test_a_row_has_the_types_of_its_columns(self) -> None:
         at = datetime.datetime(2025, 3, 10, 8, tzinfo=datetime.timezone.utc)
         (row,) = rows_of(export(line()))
         self.assertEqual(
@@ -92,7 +95,7 @@ class TheRows(unittest.TestCase):
         )
         self.assertEqual([], list(rows_of(export())))
 
-    def test_a_field_that_the_office_does_not_write_is_refused(self):
+    def test_a_field_that_the_office_does_not_write_is_refused(self) -> None:
         numbers = ("", "x", "-1", "+1", " 1", "1 ", "01", "1.0", "1_0", "١", "²", "9" * 5000)
         wrong = {
             "number": (*numbers, "0"),
@@ -124,12 +127,12 @@ class TheRows(unittest.TestCase):
                 with self.assertRaises(NoExport, msg=f"{column}: {field[:30]}"):
                     list(rows_of(export(line(**{column: field}))))
 
-    def test_a_damaged_digest_may_have_any_letters(self):
+    def test_a_damaged_digest_may_have_any_letters(self) -> None:
         for damaged in ("\r\n", "\n", '"",', "Ä\r\nx"):
             rows = list(rows_of(export(line(digest=f'"{damaged}"'), line(number="2"))))
             self.assertEqual([damaged.replace('""', '"'), DIGEST], [it.digest for it in rows])
 
-    def test_what_is_no_export_is_refused(self):
+    def test_what_is_no_export_is_refused(self) -> None:
         good = export(line())
         for text in (
             "",
@@ -154,34 +157,34 @@ class TheRows(unittest.TestCase):
             with self.assertRaises(NoExport, msg=text):
                 list(rows_of(text))
 
-    def test_numbers_that_do_not_rise_are_refused(self):
+    def test_numbers_that_do_not_rise_are_refused(self) -> None:
         for one, other in ((1, 1), (2, 1)):
             with self.assertRaises(NoExport):
                 list(rows_of(export(line(number=str(one)), line(number=str(other)))))
 
-    def test_a_digest_of_a_damaged_journal_may_be_any_text(self):
+    def test_a_digest_of_a_damaged_journal_may_be_any_text(self) -> None:
         for digest in ("", "x", "a,b", 'a"b', "a\nb", "ä" * 64):
             quoted = '"' + digest.replace('"', '""') + '"'
             (row, other) = rows_of(export(line(digest=quoted), line(number="2", previous=quoted)))
             self.assertEqual((digest, digest), (row.digest, other.previous))
             self.assertIsNone(slip_of_row(row))
 
-    def test_a_key_is_found_in_rows_that_are_quoted_too(self):
+    def test_a_key_is_found_in_rows_that_are_quoted_too(self) -> None:
         text = export(line(digest='"a,K2"'), line(number="2", key='"K2"'))
         self.assertEqual([True, False], [has_key(text, it) for it in ("K2", "K2,")])
         self.assertEqual([12, 12], [len(it) for it in records_of(text)])
 
-    def test_lines_are_cut_the_same_wherever_the_text_is_cut(self):
+    def test_lines_are_cut_the_same_wherever_the_text_is_cut(self) -> None:
         rows = [line(number=str(it), plate="A" * (1 + it % 12)) for it in range(1, 60)]
         wanted = [it.plate for it in rows_of(export(*rows))]
         self.assertEqual(["A" * (1 + it % 12) for it in range(1, 60)], wanted)
         for export_module.AT_ONCE in (1, 2, 100, 191, 192, 193, 1000):
             self.assertEqual(wanted, [it.plate for it in rows_of(export(*rows))])
 
-    def setUp(self):
+    def setUp(self) -> None:
         self.addCleanup(setattr, export_module, "AT_ONCE", export_module.AT_ONCE)
 
-    def test_no_other_file_names_the_columns(self):
+    def test_no_other_file_names_the_columns(self) -> None:
         columns = re.compile(r"\b(gross_kg|preset_kg|interval_kg|max_kg)\b")
         found = {
             it.name for it in PROGRAMS.glob("weighbridge_*/*.py") if columns.search(it.read_text())
@@ -192,7 +195,7 @@ class TheRows(unittest.TestCase):
 
 
 class TheSameLists(unittest.TestCase):
-    def test_the_lists_of_an_export_are_those_of_the_texts_that_passed(self):
+    def test_the_lists_of_an_export_are_those_of_the_texts_that_passed(self) -> None:
         kinds = set()
         for seed in range(40):
             journal = PlayedJournal(random.Random(seed), 60)
@@ -219,7 +222,7 @@ class TheSameLists(unittest.TestCase):
             self.assertEqual((other.last, other.serial), (known.last, known.serial))
         self.assertEqual({"first", "second", "single", "void"}, kinds)
 
-    def test_what_a_text_says_is_what_the_lists_show(self):
+    def test_what_a_text_says_is_what_the_lists_show(self) -> None:
         for it in (*USUAL.values(), *LONGEST.values()):
             made = Lists(UTC)
             entry_, _ = made.passed(read_text(it.text))

@@ -2,6 +2,7 @@
 
 import random
 import unittest
+from functools import partial
 
 from weighbridge_counter.fanout import PATIENCE, REPEAT_AFTER, REPLY_WITHIN
 from weighbridge_counter.values import reply_of, value_of
@@ -20,13 +21,13 @@ REPLIES = {
 }
 
 
-def up(period=0.1, **how):
+def up(period: float = 0.1, **how: bool) -> PlayedTerminal:
     played = PlayedTerminal(period, **how)
     reconnect(played)
     return played
 
 
-def reconnect(played):
+def reconnect(played: PlayedTerminal) -> None:
     """A new connection, of which nothing has to be found out."""
     played.connect()
     played.reading(3)
@@ -34,7 +35,7 @@ def reconnect(played):
 
 
 class Values(unittest.TestCase):
-    def test_a_value_is_written_as_it_was_read(self):
+    def test_a_value_is_written_as_it_was_read(self) -> None:
         for line in (
             "S S      18340 kg",
             "S D        -20 kg",
@@ -45,7 +46,7 @@ class Values(unittest.TestCase):
         ):
             self.assertEqual(line, reply_of(value_of(line, 1.0)))
 
-    def test_no_reply_is_taken_for_a_value(self):
+    def test_no_reply_is_taken_for_a_value(self) -> None:
         for line in (
             "TA A      18340 kg",
             "T S      18340 kg",
@@ -63,7 +64,7 @@ class Values(unittest.TestCase):
 
 
 class Sending(unittest.TestCase):
-    def test_a_new_connection_asks_for_values_alone(self):
+    def test_a_new_connection_asks_for_values_alone(self) -> None:
         played = PlayedTerminal()
         played.connect()
         self.assertEqual(["SIR"], played.sent)
@@ -76,7 +77,7 @@ class Sending(unittest.TestCase):
         played.reading(1)
         self.assertEqual("answered", asker.outcome)
 
-    def test_a_command_that_waited_over_a_standstill_never_goes_out(self):
+    def test_a_command_that_waited_over_a_standstill_never_goes_out(self) -> None:
         played = PlayedTerminal()
         played.connect()
         asker = Asker(played.fanout, "Z")
@@ -87,19 +88,21 @@ class Sending(unittest.TestCase):
         played.pass_time(0.1)
         self.assertEqual("not_sent", asker.outcome)
 
-    def test_who_settles_a_new_connection_asks_before_the_others(self):
+    def test_who_settles_a_new_connection_asks_before_the_others(self) -> None:
         played = PlayedTerminal()
         played.connect()
         till = Asker(played.fanout, "TA 5000 kg", patience=0.5)
-        looks, said = [], []
+        looks: list[bool] = []
+        said: list[str] = []
         played.fanout.take_turn(looks.append, 5.0, first=True, may_settle=True)
         played.reading(8)
         self.assertEqual((["SIR"], "not_sent", [True]), (played.sent, till.outcome, looks))
+        assert played.fanout.holder is not None
         played.fanout.ask(played.fanout.holder, "TA", lambda outcome, lines: said.extend(lines))
         played.reading(2)
         self.assertEqual(["TA A          0 kg"], said)
 
-    def test_a_command_goes_out_right_behind_a_value_alone(self):
+    def test_a_command_goes_out_right_behind_a_value_alone(self) -> None:
         played = up()
         played.pass_time(0.3)
         asker = Asker(played.fanout, "TAC")
@@ -109,7 +112,7 @@ class Sending(unittest.TestCase):
         played.reading()
         self.assertEqual(("answered", ("TAC A",)), (asker.outcome, asker.lines))
 
-    def test_what_can_not_go_out_in_time_is_never_sent(self):
+    def test_what_can_not_go_out_in_time_is_never_sent(self) -> None:
         played = up()
         played.pass_time(0.3)
         asker = Asker(played.fanout, "TA 5000 kg")
@@ -119,7 +122,7 @@ class Sending(unittest.TestCase):
         self.assertEqual(0, played.tare)
         self.assertNotIn("TA 5000 kg", played.sent)
 
-    def test_one_that_waits_behind_others_is_dropped_in_time(self):
+    def test_one_that_waits_behind_others_is_dropped_in_time(self) -> None:
         played = up()
         turn = played.fanout.take_turn(lambda is_granted: None)
         asker = Asker(played.fanout, "TA 5000 kg")
@@ -129,18 +132,18 @@ class Sending(unittest.TestCase):
         played.reading(3)
         self.assertNotIn("TA 5000 kg", played.sent)
 
-    def test_one_turn_after_the_other(self):
+    def test_one_turn_after_the_other(self) -> None:
         played = up()
-        order = []
+        order: list[str] = []
         askers = [Asker(played.fanout, line) for line in ("TA 100 kg", "TA", "TAC", "TA")]
         for it in askers:
-            it.then = lambda it=it: order.append(it.lines[0].split()[0])
+            it.then = partial(lambda asker: order.append(asker.lines[0].split()[0]), it)
         played.reading(9)
         self.assertEqual(["TA", "TA", "TAC", "TA"], order)
         self.assertEqual(["answered"] * 4, [it.outcome for it in askers])
         self.assertEqual("TA A        100 kg", askers[1].lines[0])
 
-    def test_it_says_something_before_a_minute_is_over(self):
+    def test_it_says_something_before_a_minute_is_over(self) -> None:
         played = up()
         played.reading(int(3 * REPEAT_AFTER / played.period))
         self.assertGreaterEqual(played.sent.count("SIR"), 3)
@@ -150,7 +153,7 @@ class Sending(unittest.TestCase):
 class CallingBack(unittest.TestCase):
     """The service stands still while a command lies before it."""
 
-    def held(self, line, seconds, **how):
+    def held(self, line: str, seconds: float, **how: bool) -> tuple[PlayedTerminal, str]:
         played = up(**how)
         played.serve()
         asker = Asker(played.fanout, line)
@@ -160,7 +163,7 @@ class CallingBack(unittest.TestCase):
         played.serve()
         return played, outcome
 
-    def test_nothing_acts_after_its_sender_was_refused(self):
+    def test_nothing_acts_after_its_sender_was_refused(self) -> None:
         for line in ("TA 5000 kg", "TAC", "Z", "T"):
             for seconds in (1.1, 1.6, 3.5):
                 played, outcome = self.held(line, seconds)
@@ -168,15 +171,15 @@ class CallingBack(unittest.TestCase):
                     ("unanswered", [], 1), (outcome, played.done, played.resets), (line, seconds)
                 )
 
-    def test_a_copy_without_the_reset_fails(self):
+    def test_a_copy_without_the_reset_fails(self) -> None:
         played, outcome = self.held("TA 5000 kg", 1.6, is_reset=False)
         self.assertEqual(("unanswered", ["TA 5000 kg"]), (outcome, played.done))
 
-    def test_what_is_answered_in_time_is_not_called_back(self):
+    def test_what_is_answered_in_time_is_not_called_back(self) -> None:
         played, outcome = self.held("TA 5000 kg", REPLY_WITHIN - 0.1)
         self.assertEqual((["TA 5000 kg"], 0), (played.done, played.resets))
 
-    def test_a_silent_converter_is_waited_for(self):
+    def test_a_silent_converter_is_waited_for(self) -> None:
         played = up()
         played.state = "I"
         for _ in range(3):
@@ -187,7 +190,7 @@ class CallingBack(unittest.TestCase):
         played.serve()
         self.assertEqual(("answered", 0), (asker.outcome, played.resets))
 
-    def test_the_tare_before_is_remembered(self):
+    def test_the_tare_before_is_remembered(self) -> None:
         played = up()
         Asker(played.fanout, "TA")
         played.reading(2)
@@ -198,7 +201,7 @@ class CallingBack(unittest.TestCase):
             (asker.outcome, played.fanout.doubtful_tare, played.fanout.tare),
         )
 
-    def test_it_is_remembered_too_where_the_connection_was_cut(self):
+    def test_it_is_remembered_too_where_the_connection_was_cut(self) -> None:
         for cut in ("ended", "reset"):
             played = up()
             Asker(played.fanout, "TA")
@@ -207,19 +210,20 @@ class CallingBack(unittest.TestCase):
             getattr(played.fanout, cut)()
             self.assertEqual((0, None), (played.fanout.doubtful_tare, played.fanout.tare), cut)
 
-    def test_who_leaves_his_turn_leaves_no_reply_to_the_next(self):
+    def test_who_leaves_his_turn_leaves_no_reply_to_the_next(self) -> None:
         played = up()
         asker = Asker(played.fanout, "TA 5000 kg")
+        assert asker.turn is not None
         played.fanout.give_back(asker.turn)
         self.assertEqual(1, played.resets)
         self.assertEqual("down", played.fanout.link)
 
-    def test_a_reply_that_nobody_asked_for_ends_the_connection(self):
+    def test_a_reply_that_nobody_asked_for_ends_the_connection(self) -> None:
         played = up()
         played.fanout.received("TAC A")
         self.assertEqual(1, played.resets)
 
-    def test_a_cut_connection_tells_who_waits(self):
+    def test_a_cut_connection_tells_who_waits(self) -> None:
         played = up()
         asker = Asker(played.fanout, "TAC")
         played.fanout.ended()
@@ -227,7 +231,7 @@ class CallingBack(unittest.TestCase):
 
 
 class Waiting(unittest.TestCase):
-    def test_a_zero_waits_until_it_stands_still(self):
+    def test_a_zero_waits_until_it_stands_still(self) -> None:
         played = up()
         played.state = "D"
         asker = Asker(played.fanout, "Z")
@@ -237,11 +241,12 @@ class Waiting(unittest.TestCase):
         played.reading(1)
         self.assertEqual(("answered", ("Z A",)), (asker.outcome, asker.lines))
 
-    def test_a_line_behind_it_ends_its_waiting_after_some_readings(self):
+    def test_a_line_behind_it_ends_its_waiting_after_some_readings(self) -> None:
         played = up()
         played.state = "D"
         asker = Asker(played.fanout, "T")
         played.reading(1)
+        assert asker.question is not None
         played.fanout.hurry(asker.question)
         following = Asker(played.fanout, "I4")
         played.reading(6)
@@ -249,20 +254,22 @@ class Waiting(unittest.TestCase):
         self.assertEqual(('I4 A "WB01"',), following.lines)
         self.assertEqual((0, 0), (played.fanout.swallow, played.resets))
 
-    def test_one_that_is_hurried_before_it_is_sent_is_sent(self):
+    def test_one_that_is_hurried_before_it_is_sent_is_sent(self) -> None:
         played = up()
         played.pass_time(0.3)
         asker = Asker(played.fanout, "Z")
+        assert asker.question is not None
         played.fanout.hurry(asker.question)
         played.serve()
         played.reading(1)
         self.assertEqual(("Z A",), asker.lines)
 
-    def test_a_swallowed_reply_that_does_not_come_ends_the_connection(self):
+    def test_a_swallowed_reply_that_does_not_come_ends_the_connection(self) -> None:
         played = up()
         played.state = "D"
         asker = Asker(played.fanout, "Z")
         played.reading(1)
+        assert asker.question is not None
         played.fanout.hurry(asker.question)
         played.reading(2)
         self.assertEqual((1, ["I4"]), (played.fanout.swallow, played.lines))
@@ -273,7 +280,7 @@ class Waiting(unittest.TestCase):
 
 
 class ManyAtOnce(unittest.TestCase):
-    def test_each_reply_goes_to_its_question(self):
+    def test_each_reply_goes_to_its_question(self) -> None:
         rng = random.Random(7)
         for period in (0.1, 0.02, 0.5):
             played, asked = up(period), []
@@ -298,7 +305,7 @@ class ManyAtOnce(unittest.TestCase):
                 all(it.outcome in ("answered", "not_sent", "unanswered") for it in asked)
             )
 
-    def test_no_tare_is_ever_seen_whose_sender_was_refused(self):
+    def test_no_tare_is_ever_seen_whose_sender_was_refused(self) -> None:
         """Each preset is another one, so that one that acted late is known by its number."""
         rng = random.Random(11)
         played, presets, seen = up(), {}, set()

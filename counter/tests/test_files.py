@@ -8,8 +8,11 @@ import json
 import os
 import tempfile
 import unittest
+import zoneinfo
+from collections.abc import Callable
 from pathlib import Path
 from types import SimpleNamespace
+from typing import Any
 from unittest import mock
 
 from aiohttp.test_utils import make_mocked_request
@@ -26,19 +29,22 @@ from weighbridge_paper.layout import Template
 from weighbridge_paper.printers import Papers
 
 from .papers import USUAL
-from .test_acts import BODY, TICKET, WithABridge
+from .played import PlayedTerminal
+from .test_acts import BODY, TICKET, Bridge, WithABridge
 
+UTC = zoneinfo.ZoneInfo("UTC")
 FAULTS = (errno.ENOSPC, errno.EROFS, errno.EIO)
 
 
 class PlayedDisk:
     """A disk that takes writes, refuses them, or hangs until a test sets `goes_on`."""
 
-    def __init__(self):
-        self.fault, self.goes_on, self.tries = None, asyncio.Event(), 0
+    def __init__(self) -> None:
+        self.fault: int | None = None
+        self.goes_on, self.tries = asyncio.Event(), 0
         self.goes_on.set()
 
-    async def __call__(self, work):
+    async def __call__(self, work: Callable[[], object]) -> None:
         self.tries += 1
         await self.goes_on.wait()
         if self.fault is not None:
@@ -47,43 +53,41 @@ class PlayedDisk:
 
 
 class OnADisk(WithABridge):
-    def setUp(self):
+    def setUp(self) -> None:
         self.said = io.StringIO()
         told = contextlib.redirect_stderr(self.said)
         told.__enter__()
         self.addCleanup(told.__exit__, None, None, None)
 
-    def bridge(self, *answers):
+    def bridge(self, *answers: tuple[int, str] | None) -> Bridge:
         bridge = super().bridge(*answers)
         self.disk = bridge.files.beside = PlayedDisk()
         return bridge
 
-    def lines(self):
+    def lines(self) -> list[str]:
         return [it for it in self.said.getvalue().split("\n") if it.startswith("counter: ")]
 
 
 class TheWayToTheDisk(unittest.TestCase):
-    def setUp(self):
+    def setUp(self) -> None:
         folder = tempfile.TemporaryDirectory()
         self.addCleanup(folder.cleanup)
         self.path = Path(folder.name) / "tares.json"
 
-    def calls_of(self, work):
+    def calls_of(self, work: Callable[[], object]) -> list[tuple[str, ...]]:
         """Return what reaches the disk, in its order."""
-        calls, real = (
-            [],
-            SimpleNamespace(open=os.open, fsync=os.fsync, replace=os.replace, unlink=os.unlink),
-        )
+        calls: list[tuple[str, ...]] = []
+        real = SimpleNamespace(fsync=os.fsync, replace=os.replace, unlink=os.unlink)
 
-        def fsync(number):
+        def fsync(number: int) -> None:
             calls.append(("fsync", os.readlink(f"/proc/self/fd/{number}")))
             real.fsync(number)
 
-        def replace(old, new):
+        def replace(old: Path, new: Path) -> None:
             calls.append(("rename", str(old), str(new)))
             real.replace(old, new)
 
-        def unlink(path, **more):
+        def unlink(path: Path, **more: Any) -> None:
             calls.append(("unlink", str(path)))
             real.unlink(path, **more)
 
@@ -91,7 +95,7 @@ class TheWayToTheDisk(unittest.TestCase):
             work()
         return calls
 
-    def test_a_file_its_name_and_its_folder_reach_the_disk_in_this_order(self):
+    def test_a_file_its_name_and_its_folder_reach_the_disk_in_this_order(self) -> None:
         new, folder = str(self.path) + ".new", str(self.path.parent)
         self.assertEqual(
             [("fsync", new), ("rename", new, str(self.path)), ("fsync", folder)],
@@ -102,7 +106,7 @@ class TheWayToTheDisk(unittest.TestCase):
             self.calls_of(lambda: store(self.path, None)),
         )
 
-    def test_after_any_failure_the_file_is_as_before_and_nothing_is_next_to_it(self):
+    def test_after_any_failure_the_file_is_as_before_and_nothing_is_next_to_it(self) -> None:
         store(self.path, {"is": "old"})
         for name in (
             "weighbridge_counter.files.json.dump",
@@ -119,13 +123,13 @@ class TheWayToTheDisk(unittest.TestCase):
                 name,
             )
 
-    def test_a_folder_that_can_not_be_synced_is_a_fault(self):
+    def test_a_folder_that_can_not_be_synced_is_a_fault(self) -> None:
         with mock.patch(
             "weighbridge_counter.files.sync_folder", side_effect=OSError(errno.EIO, "broken")
         ), self.assertRaises(OSError):
             store(self.path, {"is": "new"})
 
-    def test_a_file_that_is_none_of_the_counter_s_is_logged_and_ignored(self):
+    def test_a_file_that_is_none_of_the_counter_s_is_logged_and_ignored(self) -> None:
         for letters in (b"", b"{", b"\xff", b"[" * 100000):
             self.path.write_bytes(letters)
             with contextlib.redirect_stderr(io.StringIO()) as said:
@@ -134,7 +138,7 @@ class TheWayToTheDisk(unittest.TestCase):
 
 
 class AFault(OnADisk):
-    async def test_a_fault_is_logged_once_and_once_more_when_it_is_over(self):
+    async def test_a_fault_is_logged_once_and_once_more_when_it_is_over(self) -> None:
         files = self.bridge().files
         for self.disk.fault in FAULTS:
             files.keep("zero.json", {"is_set": True})
@@ -155,7 +159,7 @@ class AFault(OnADisk):
         )
         self.assertEqual({"is_set": True}, found_in(files.path("zero.json")))
 
-    async def test_what_is_refused_is_not_made_up_for_later(self):
+    async def test_what_is_refused_is_not_made_up_for_later(self) -> None:
         files = self.bridge().files
         await files.write("tares.json", {"A": 1}, 1)
         self.disk.fault = errno.ENOSPC
@@ -167,7 +171,7 @@ class AFault(OnADisk):
             ({"A": 1}, {"A": 1}), (files.read("tares.json"), found_in(files.path("tares.json")))
         )
 
-    async def test_a_write_that_hangs_is_refused_in_time_and_the_next_at_once(self):
+    async def test_a_write_that_hangs_is_refused_in_time_and_the_next_at_once(self) -> None:
         files = self.bridge().files
         self.disk.goes_on.clear()
         with mock.patch("weighbridge_counter.files.SLOW_AFTER", 0.05):
@@ -187,7 +191,7 @@ class AFault(OnADisk):
         self.assertTrue(await bringing)
         self.assertEqual((None, {}), (found_in(files.path("act.json")), files.faults))
 
-    async def test_a_newer_wish_is_not_lost_behind_an_older_write(self):
+    async def test_a_newer_wish_is_not_lost_behind_an_older_write(self) -> None:
         files = self.bridge().files
         files.keep("act.json", None)
         self.disk.goes_on.clear()
@@ -203,13 +207,13 @@ class AFault(OnADisk):
         self.assertTrue(await files.bring())
         self.assertIsNone(found_in(files.path("act.json")))
 
-    async def test_it_is_written_in_a_thread_that_holds_up_nobody(self):
+    async def test_it_is_written_in_a_thread_that_holds_up_nobody(self) -> None:
         files = Files(Path(self.bridge().files.folder))
         running = asyncio.ensure_future(files.run())
         hangs = asyncio.Event()
         loop = asyncio.get_running_loop()
 
-        def slow(path, what):
+        def slow(path: Path, what: Any) -> None:
             import time
 
             loop.call_soon_threadsafe(hangs.set)
@@ -231,7 +235,7 @@ class AFault(OnADisk):
 
 
 class ATare(OnADisk):
-    async def test_without_a_note_of_it_nothing_is_begun(self):
+    async def test_without_a_note_of_it_nothing_is_begun(self) -> None:
         for fault in FAULTS:
             bridge = self.bridge((201, TICKET))
             await bridge.until(bridge.acts.look())
@@ -250,7 +254,9 @@ class ATare(OnADisk):
                 "a weighing without a tare still works",
             )
 
-    async def test_a_note_that_hangs_keeps_nobody_waiting_at_the_terminal_or_the_office(self):
+    async def test_a_note_that_hangs_keeps_nobody_waiting_at_the_terminal_or_the_office(
+        self,
+    ) -> None:
         bridge = self.bridge((201, TICKET), (201, TICKET))
         await bridge.until(bridge.acts.look())
         self.disk.goes_on.clear()
@@ -273,13 +279,13 @@ class ATare(OnADisk):
         self.assertTrue(await bridge.files.bring())
         self.assertIsNone(bridge.on_disk())
 
-    async def test_an_answer_passes_byte_for_byte_though_its_end_can_not_be_noted(self):
+    async def test_an_answer_passes_byte_for_byte_though_its_end_can_not_be_noted(self) -> None:
         bridge = self.bridge((201, TICKET))
 
-        def fails_from_now_on(line):
+        def fails_from_now_on(line: str) -> str | None:
             if line.startswith("TA 5000"):
                 self.disk.fault = errno.ENOSPC
-            return type(bridge.played).reply(bridge.played, line)
+            return PlayedTerminal.reply(bridge.played, line)
 
         bridge.played.reply = fails_from_now_on
         told = await self.weigh(bridge)
@@ -301,7 +307,9 @@ class ATare(OnADisk):
         self.assertTrue(await bridge.files.bring())
         self.assertIsNone(bridge.on_disk())
 
-    async def test_a_connection_that_begins_while_it_is_noted_takes_the_note_away_from_nobody(self):
+    async def test_a_connection_that_begins_while_it_is_noted_takes_the_note_away_from_nobody(
+        self,
+    ) -> None:
         bridge = self.bridge((201, TICKET))
         await bridge.until(bridge.acts.look())
         running = asyncio.ensure_future(bridge.files.run())
@@ -310,9 +318,13 @@ class ATare(OnADisk):
         for _ in range(5):
             await asyncio.sleep(0)
         look = asyncio.ensure_future(bridge.acts.look())
-        seen = []
-        reply = bridge.played.reply
-        bridge.played.reply = lambda line: (seen.append((line, bridge.on_disk())), reply(line))[1]
+        seen: list[tuple[str, Any]] = []
+
+        def reply(line: str) -> str | None:
+            seen.append((line, bridge.on_disk()))
+            return PlayedTerminal.reply(bridge.played, line)
+
+        bridge.played.reply = reply
         for _ in range(5):
             await asyncio.sleep(0)
             bridge.played.reading()
@@ -327,7 +339,7 @@ class ATare(OnADisk):
             (told.status, [it for it in seen if it[0].startswith("TA ")]),
         )
 
-    async def test_whoever_fails_over_an_answer_changes_none(self):
+    async def test_whoever_fails_over_an_answer_changes_none(self) -> None:
         for fault in (OSError(errno.ENOSPC, "full"), ValueError("no moment"), KeyError("x")):
             bridge = self.bridge((201, TICKET))
             bridge.acts.on_text.insert(0, mock.Mock(side_effect=fault))
@@ -340,15 +352,15 @@ class ATare(OnADisk):
 
 
 class TheCounter(OnADisk):
-    def counter(self):
+    def counter(self) -> Any:
         folder = tempfile.TemporaryDirectory()
         self.addCleanup(folder.cleanup)
-        counter = Counter(Setup(state=Path(folder.name)), lambda address: None)
+        counter: Any = Counter(Setup(state=Path(folder.name)), lambda address: None)
         self.disk = counter.files.beside = PlayedDisk()
         self.addCleanup(counter.printing.notes.shutdown)
         return counter
 
-    async def test_a_zero_is_answered_as_the_scale_answers_it(self):
+    async def test_a_zero_is_answered_as_the_scale_answers_it(self) -> None:
         for fault in (None, *FAULTS):
             bridge, counter = self.bridge(), self.counter()
             bridge.played.fanout.on_zero = counter.terminal.fanout.on_zero
@@ -366,7 +378,7 @@ class TheCounter(OnADisk):
                 f"weighbridge_counter_files_written {float(fault is None)}\n", metrics_of(counter)
             )
 
-    async def test_the_fault_stops_no_weighing_and_is_over_by_itself(self):
+    async def test_the_fault_stops_no_weighing_and_is_over_by_itself(self) -> None:
         counter = self.counter()
         self.disk.fault = errno.ENOSPC
         with mock.patch("weighbridge_counter.files.TRY_EVERY", 0.01):
@@ -387,12 +399,12 @@ class TheCounter(OnADisk):
             ),
         )
 
-    async def test_a_tare_that_can_not_be_noted_is_not_kept_and_none_is_dropped(self):
+    async def test_a_tare_that_can_not_be_noted_is_not_kept_and_none_is_dropped(self) -> None:
         counter = self.counter()
         routes = Routes(counter, Path("."))
         counter.terminal.is_in_doubt = lambda: False
 
-        async def asked(method, plate):
+        async def asked(method: str, plate: str) -> tuple[int, Any]:
             request = make_mocked_request(
                 method,
                 f"/tares/{plate}",
@@ -400,7 +412,7 @@ class TheCounter(OnADisk):
                 match_info={"plate": plate},
             )
             request._read_bytes = b'{"kg": 5000}'
-            answer = await routes.guarded(
+            answer: Any = await routes.guarded(
                 request, routes.keep_tare if method == "PUT" else routes.drop_tare
             )
             return answer.status, json.loads(answer.text)
@@ -423,14 +435,14 @@ class TheCounter(OnADisk):
 
 
 class TheNotesOfPapers(unittest.IsolatedAsyncioTestCase):
-    async def becomes(self, look):
+    async def becomes(self, look: Callable[[], object]) -> None:
         for _ in range(500):
             if look():
                 return
             await asyncio.sleep(0.02)
         raise AssertionError("it doesn't become so")
 
-    async def test_they_can_not_be_noted_at_the_start_and_then_can(self):
+    async def test_they_can_not_be_noted_at_the_start_and_then_can(self) -> None:
         with tempfile.TemporaryDirectory() as folder, contextlib.redirect_stderr(
             io.StringIO()
         ) as said:
@@ -438,7 +450,7 @@ class TheNotesOfPapers(unittest.IsolatedAsyncioTestCase):
             in_the_way.write_text("a file where the folder should be")
             with mock.patch("weighbridge_counter.papers.TRY_EVERY", 0.02):
                 printing = Printing(
-                    Papers(in_the_way, Template(("Kieswerk",), (), "en", None)), lambda number: None
+                    Papers(in_the_way, Template(("Kieswerk",), (), "en", UTC)), lambda number: None
                 )
                 running = asyncio.ensure_future(printing.run())
                 await self.becomes(printing.faults)
@@ -459,12 +471,12 @@ class TheNotesOfPapers(unittest.IsolatedAsyncioTestCase):
             printing.end()
             printing.notes.shutdown()
 
-    async def test_a_fault_of_noting_is_not_over_by_a_look(self):
+    async def test_a_fault_of_noting_is_not_over_by_a_look(self) -> None:
         with tempfile.TemporaryDirectory() as folder, contextlib.redirect_stderr(
             io.StringIO()
         ) as said:
             printing = Printing(
-                Papers(Path(folder), Template(("Kieswerk",), (), "en", None)), lambda number: None
+                Papers(Path(folder), Template(("Kieswerk",), (), "en", UTC)), lambda number: None
             )
             with mock.patch.object(
                 printing.spool, "take", side_effect=OSError("papers.db: database or disk is full")

@@ -4,7 +4,9 @@ import json
 import unittest
 import zoneinfo
 from dataclasses import replace
+from pathlib import Path
 from types import SimpleNamespace
+from typing import Any
 from unittest import mock
 
 from aiohttp.test_utils import make_mocked_request
@@ -23,19 +25,20 @@ UTC = zoneinfo.ZoneInfo("UTC")
 
 
 class TheLines(unittest.TestCase):
-    def test_a_field_replaces_a_line_and_an_empty_one_removes_it(self):
+    def test_a_field_replaces_a_line_and_an_empty_one_removes_it(self) -> None:
         before = {"goods": "Kies", "driver": "Ada"}
-        for fields, after in (
+        rows: tuple[tuple[dict[str, str], dict[str, str]], ...] = (
             ({}, before),
             ({"plate": "AB-12", "key": "K"}, before),
             ({"goods": "Sand"}, {"goods": "Sand", "driver": "Ada"}),
             ({"goods": "", "order": "7"}, {"order": "7", "driver": "Ada"}),
             ({"goods": " \x07 ", "driver": ""}, {}),
-        ):
+        )
+        for fields, after in rows:
             self.assertEqual(after, changed(before, fields), fields)
         self.assertEqual({"goods": "Kies", "driver": "Ada"}, before)
 
-    def test_a_second_weighing_has_what_its_first_has(self):
+    def test_a_second_weighing_has_what_its_first_has(self) -> None:
         given, pair = Given(), Sample("second", number=8)
         first, second = read_text(first_of(pair)), read_text(pair.text)
         self.assertEqual({"goods": "Kies"}, given.take(first, {"goods": "Kies"}))
@@ -47,7 +50,7 @@ class TheLines(unittest.TestCase):
         self.assertEqual({}, given.take(other, {}), "another First of the same number")
         self.assertEqual({}, given.take(read_text(USUAL["void"].text), {"goods": "Kies"}))
 
-    def test_a_single_has_only_its_own(self):
+    def test_a_single_has_only_its_own(self) -> None:
         given, single = Given(), read_text(USUAL["single"].text)
         self.assertEqual({"order": "7"}, given.take(single, {"order": "7"}))
         self.assertEqual({}, given.take(single, {"order": ""}))
@@ -55,27 +58,27 @@ class TheLines(unittest.TestCase):
 
 
 class InTheLists(unittest.TestCase):
-    def setUp(self):
+    def setUp(self) -> None:
         self.given = Given()
         self.lists = Lists.of_export(UTC, export(ROW), self.given)
-        self.digest = self.lists.digest_of(1)
+        self.digest = self.lists.digest_of(1) or ""
 
-    def found(self, words):
+    def found(self, words: str) -> list[int]:
         return [it["number"] for it in self.lists.search(words)[0]]
 
-    def test_the_search_finds_them(self):
+    def test_the_search_finds_them(self) -> None:
         self.given.keep(1, self.digest, {"goods": "Kies 0/32", "driver": "Zoë Groß"})
         for words in ("kies", "0/32", "KIES 0", " zoë", "GROSS"):
             self.assertEqual(([1], 1), (self.found(words), self.lists.search(words)[1]), words)
         self.assertEqual([], self.found("sand"))
         self.assertEqual([], self.found(" "))
 
-    def test_what_is_of_another_journal_is_not_found_or_shown(self):
+    def test_what_is_of_another_journal_is_not_found_or_shown(self) -> None:
         self.given.keep(1, "f" * 64, {"goods": "Kies"})
         self.assertEqual([], self.found("kies"))
         self.assertEqual({}, self.lists.shown(1)["given"])
 
-    def test_they_are_shown_with_the_entry_and_the_newest_with_the_plate(self):
+    def test_they_are_shown_with_the_entry_and_the_newest_with_the_plate(self) -> None:
         plate = self.lists.entries[1].plate
         self.assertEqual({}, self.lists.last_given(plate))
         self.given.keep(1, self.digest, {"goods": "Kies"})
@@ -85,7 +88,7 @@ class InTheLists(unittest.TestCase):
 
 
 class TheLetters(unittest.TestCase):
-    def test_letters_that_a_printer_can_not_print_are_named(self):
+    def test_letters_that_a_printer_can_not_print_are_named(self) -> None:
         roll = Printer(
             "yard", "tcp", "127.0.0.1", "9100", "escpos80", TEMPLATE, 48, (("cp858", 19),), True
         )
@@ -103,12 +106,18 @@ class TheLetters(unittest.TestCase):
 
 
 class TheRoute(unittest.IsolatedAsyncioTestCase):
-    async def asked(self, body, kind="single", lines=None, letters=""):
+    async def asked(
+        self,
+        body: bytes,
+        kind: str = "single",
+        lines: dict[str, str] | None = None,
+        letters: str = "",
+    ) -> tuple[int, Any, Any]:
         text = USUAL[kind].text
         lists = SimpleNamespace(
             texts={2: SimpleNamespace(letters=text)}, entries={2: SimpleNamespace(kind=kind)}
         )
-        counter = SimpleNamespace(
+        counter: Any = SimpleNamespace(
             setup=SimpleNamespace(listen=("127.0.0.1", 1), hosts=()),
             books=SimpleNamespace(lists=lists),
             give=mock.AsyncMock(return_value=lines),
@@ -116,10 +125,10 @@ class TheRoute(unittest.IsolatedAsyncioTestCase):
         )
         request = make_mocked_request("PUT", "/entries/2/given", match_info={"number": "2"})
         request._read_bytes = body
-        answer = await Routes(counter, None).give(request)
+        answer: Any = await Routes(counter, Path(".")).give(request)
         return answer.status, json.loads(answer.text), counter.give.mock_calls
 
-    async def test_lines_are_changed(self):
+    async def test_lines_are_changed(self) -> None:
         status, said, calls = await self.asked(
             b'{"goods": "Kies", "order": ""}', lines={"goods": "Kies"}
         )
@@ -128,16 +137,16 @@ class TheRoute(unittest.IsolatedAsyncioTestCase):
             [mock.call(2, USUAL["single"].text, {"goods": "Kies", "order": ""})], calls
         )
 
-    async def test_a_printed_original_and_a_void_are_not_changed(self):
+    async def test_a_printed_original_and_a_void_are_not_changed(self) -> None:
         self.assertEqual((409, {"why": "printed"}), (await self.asked(b"{}"))[:2])
         status, said, calls = await self.asked(b"{}", "void", {})
         self.assertEqual((409, {"why": "void"}, []), (status, said, calls))
 
-    async def test_letters_that_can_not_be_printed_are_refused(self):
+    async def test_letters_that_can_not_be_printed_are_refused(self) -> None:
         status, said, calls = await self.asked(b'{"goods": "x"}', lines={}, letters="x")
         self.assertEqual((422, {"why": "unprintable", "letters": "x"}, []), (status, said, calls))
 
-    async def test_what_is_no_line_is_refused(self):
+    async def test_what_is_no_line_is_refused(self) -> None:
         for body in (b"", b"[]", b'"goods"', b'{"goods": 7}', b'{"plate": "AB-12"}', b"[" * 2000):
             status, _, calls = await self.asked(body, lines={})
             self.assertEqual((422, []), (status, calls), body)

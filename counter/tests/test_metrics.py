@@ -5,7 +5,9 @@ import io
 import re
 import tempfile
 import unittest
+from collections.abc import Callable, Iterable
 from pathlib import Path
+from typing import Any
 
 from prometheus_client.parser import text_string_to_metric_families
 from weighbridge_counter import acts, fanout
@@ -20,24 +22,25 @@ MADE = {"fanout.py": {OF_READINGS}, "acts.py": {OF_OFFICE}}
 
 
 class Metrics(unittest.TestCase):
-    def setUp(self):
+    def setUp(self) -> None:
         folder = tempfile.TemporaryDirectory()
         self.addCleanup(folder.cleanup)
         with contextlib.redirect_stderr(io.StringIO()):
             self.counter = Counter(Setup(state=Path(folder.name)), lambda address: None)
         self.addCleanup(self.counter.printing.notes.shutdown)
 
-    def families(self):
-        return {it.name: it for it in text_string_to_metric_families(metrics_of(self.counter))}
+    def families(self) -> dict[str, Any]:
+        read: Callable[[str], Iterable[Any]] = text_string_to_metric_families
+        return {it.name: it for it in read(metrics_of(self.counter))}
 
-    def values(self):
+    def values(self) -> dict[tuple[str, ...], float]:
         return {
             (it.name.removeprefix(f"{PREFIX}_"), *it.labels.values()): it.value
             for family in self.families().values()
             for it in family.samples
         }
 
-    def test_each_thing_that_is_counted_has_a_metric_that_begins_at_zero(self):
+    def test_each_thing_that_is_counted_has_a_metric_that_begins_at_zero(self) -> None:
         values = self.values()
         for it in COUNTED.values():
             self.assertEqual(0, values[it.name,], it.name)
@@ -51,7 +54,7 @@ class Metrics(unittest.TestCase):
             [values[it.name,] for it in COUNTED.values()],
         )
 
-    def test_a_reading_is_counted_by_its_state_and_a_refusal_by_its_line(self):
+    def test_a_reading_is_counted_by_its_state_and_a_refusal_by_its_line(self) -> None:
         for name, count in (
             ("readings_+", 3),
             ("readings_S", 4),
@@ -74,7 +77,7 @@ class Metrics(unittest.TestCase):
             [7, 8], [values[it,] for it in ("office_texts_total", "office_unanswered_total")]
         )
 
-    def test_no_part_counts_what_no_metric_shows(self):
+    def test_no_part_counts_what_no_metric_shows(self) -> None:
         found = 0
         for path in PARTS.glob("*.py"):
             names = set(re.findall(r'counts\[f?"([^"]*)"\]', path.read_text()))
@@ -87,26 +90,26 @@ class Metrics(unittest.TestCase):
         self.assertEqual(set(), outcomes - set(COUNTED))
         self.assertGreater(found, 8)
 
-    def test_each_metric_has_a_help_text_of_its_own(self):
+    def test_each_metric_has_a_help_text_of_its_own(self) -> None:
         helps = [it.documentation for it in self.families().values()]
         for it in helps:
             self.assertRegex(it, r"^[A-Z1].{8,118}\.$")
         self.assertEqual(len(set(helps)), len(helps))
 
-    def test_nothing_else_of_the_process_is_told(self):
+    def test_nothing_else_of_the_process_is_told(self) -> None:
         text = metrics_of(self.counter)
         for line in text.splitlines():
             self.assertRegex(line, rf"^(# (HELP|TYPE) )?{PREFIX}_")
         self.assertNotIn("events_total", text)
         self.assertNotIn("_created", text)
 
-    def test_what_is_not_known_is_no_number(self):
+    def test_what_is_not_known_is_no_number(self) -> None:
         text = metrics_of(self.counter)
         for name in ("value_age_seconds", "net_kg", "tare_kg", "service_start_seconds"):
             self.assertIn(f"\n{PREFIX}_{name} NaN\n", text)
         self.assertIn(f"\n{PREFIX}_entries 0.0\n", text)
 
-    def test_the_reference_has_each_metric_and_no_other(self):
+    def test_the_reference_has_each_metric_and_no_other(self) -> None:
         part = PAGE.read_text(encoding="utf-8").split("\n### Metrics\n")[1].split("\n## ")[0]
         on_page = set(re.findall(r"^\| `([a-z_]+)(?:\{[a-z]+\})?` \|", part, re.M))
         told = {it.name.removeprefix(f"{PREFIX}_") for it in self.families().values()}

@@ -19,7 +19,7 @@ RESET, STAYS = b"reset", b"stays"  # what the played office does in place of mor
 ASKED = (("GET", "/tickets/1", None), ("POST", "/weighings", b"key=K1&kind=first&plate=%41"))
 
 
-def with_length(length, body=b"body"):
+def with_length(length: bytes, body: bytes = b"body") -> bytes:
     return HEAD + b"Content-Length: " + length + b"\r\n\r\n" + body
 
 
@@ -81,13 +81,15 @@ ANSWERS = {
 class PlayedOffice:
     """Takes one request after another, keeps its bytes, and answers each with its pieces."""
 
-    async def start(self):
-        self.came, self.connections, self.pieces = [], 0, (WHOLE,)
+    async def start(self) -> "PlayedOffice":
+        self.came: list[bytes] = []
+        self.connections = 0
+        self.pieces: tuple[bytes, ...] = (WHOLE,)
         self.listener = await asyncio.start_server(self.answer, "127.0.0.1", 0)
         self.port = self.listener.sockets[0].getsockname()[1]
         return self
 
-    async def answer(self, reader, writer):
+    async def answer(self, reader: asyncio.StreamReader, writer: asyncio.StreamWriter) -> None:
         self.connections += 1
         with contextlib.suppress(OSError, EOFError):
             request = await reader.readuntil(b"\r\n\r\n")
@@ -109,7 +111,7 @@ class PlayedOffice:
 
 
 class AtTheOffice(unittest.IsolatedAsyncioTestCase):
-    async def asyncSetUp(self):
+    async def asyncSetUp(self) -> None:
         # a busy machine's slow turns are no warnings of the client
         asyncio.get_running_loop().slow_callback_duration = 60
         self.played = await PlayedOffice().start()
@@ -117,10 +119,10 @@ class AtTheOffice(unittest.IsolatedAsyncioTestCase):
         self.office = Office(("127.0.0.1", self.played.port))
         self.addAsyncCleanup(asyncio.sleep, 0.05)  # in which the played office closes what is open
 
-    def request(self, line, length=b""):
+    def request(self, line: bytes, length: bytes = b"") -> bytes:
         return b"%s HTTP/1.1\r\nHost: 127.0.0.1:%d\r\n%s\r\n" % (line, self.played.port, length)
 
-    async def test_the_bytes_that_go_out_have_nothing_more_than_they_need(self):
+    async def test_the_bytes_that_go_out_have_nothing_more_than_they_need(self) -> None:
         await self.office.ask("GET", "/journal.csv")
         for body in (b"key=K1&kind=first&plate=AB%2D12", b"", b"\xff\x00\r\n\r\n", b"x" * 2048):
             await self.office.ask("POST", "/weighings", body)
@@ -130,7 +132,7 @@ class AtTheOffice(unittest.IsolatedAsyncioTestCase):
             )
         self.assertEqual(self.request(b"GET /journal.csv"), self.played.came[0])
 
-    async def test_a_target_goes_out_unchanged_or_not_at_all(self):
+    async def test_a_target_goes_out_unchanged_or_not_at_all(self) -> None:
         for target in (
             "/",
             "/tickets/1",
@@ -158,7 +160,7 @@ class AtTheOffice(unittest.IsolatedAsyncioTestCase):
                 await self.office.ask("GET", target)
         self.assertEqual([], self.played.came)
 
-    async def test_a_whole_answer_is_taken_byte_for_byte(self):
+    async def test_a_whole_answer_is_taken_byte_for_byte(self) -> None:
         for what, self.played.pieces in ANSWERS.items():
             for method, target, body in ASKED:
                 answer = await self.office.ask(method, target, body, within=10.0)
@@ -171,7 +173,7 @@ class AtTheOffice(unittest.IsolatedAsyncioTestCase):
             self.played.pieces = (with_length(b"%d" % len(body), body),)
             self.assertEqual(body, (await self.office.ask("GET", "/journal.csv")).body)
 
-    async def test_anything_else_is_no_answer_and_is_asked_once(self):
+    async def test_anything_else_is_no_answer_and_is_asked_once(self) -> None:
         with self.assertNoLogs(level="WARNING"):
             for what, self.played.pieces in NO_ANSWERS.items():
                 for method, target, body in ASKED:
@@ -183,17 +185,17 @@ class AtTheOffice(unittest.IsolatedAsyncioTestCase):
                     await asyncio.sleep(0.01)
                     self.assertEqual((1, 1), (len(self.played.came), self.played.connections), what)
 
-    async def test_an_interim_answer_before_the_whole_one_is_skipped(self):
+    async def test_an_interim_answer_before_the_whole_one_is_skipped(self) -> None:
         self.played.pieces = (b"HTTP/1.1 103 Early Hints\r\nX: y\r\n\r\n", WHOLE)
         self.assertEqual(b"body", (await self.office.ask("POST", "/weighings", b"")).body)
 
-    async def test_silence_ends_in_time(self):
+    async def test_silence_ends_in_time(self) -> None:
         self.played.pieces, began = (STAYS,), time.monotonic()
         with self.assertRaises(NoAnswer):
             await self.office.ask("GET", "/indication", within=0.3)
         self.assertLess(time.monotonic() - began, 1.8)
 
-    async def test_a_redirect_is_an_answer_and_is_not_followed(self):
+    async def test_a_redirect_is_an_answer_and_is_not_followed(self) -> None:
         other = await PlayedOffice().start()
         self.addCleanup(other.listener.close)
         for status in (b"301", b"302", b"303", b"307", b"308"):
@@ -204,7 +206,7 @@ class AtTheOffice(unittest.IsolatedAsyncioTestCase):
                 self.assertEqual((int(status), b"body"), (answer.status, answer.body))
         self.assertEqual((10, 0), (len(self.played.came), other.connections))
 
-    async def test_a_proxy_of_the_environment_gets_nothing(self):
+    async def test_a_proxy_of_the_environment_gets_nothing(self) -> None:
         other = await PlayedOffice().start()
         self.addCleanup(other.listener.close)
         proxy = f"http://127.0.0.1:{other.port}"
@@ -215,7 +217,7 @@ class AtTheOffice(unittest.IsolatedAsyncioTestCase):
                 await self.office.ask(method, target, body)
         self.assertEqual((2, 0), (len(self.played.came), other.connections))
 
-    async def test_each_request_has_a_connection_of_its_own(self):
+    async def test_each_request_has_a_connection_of_its_own(self) -> None:
         self.played.pieces = (KEPT, STAYS)
         for _ in range(3):
             await self.office.ask("GET", "/indication")
@@ -223,7 +225,7 @@ class AtTheOffice(unittest.IsolatedAsyncioTestCase):
         await asyncio.gather(*(self.office.ask("GET", "/indication") for _ in range(40)))
         self.assertEqual(43, self.played.connections)
 
-    async def test_a_request_is_never_sent_again(self):
+    async def test_a_request_is_never_sent_again(self) -> None:
         async with aiohttp.ClientSession(connector=OneConnection()) as session:
             url = f"http://127.0.0.1:{self.played.port}/"
             async with session.get(url):
@@ -232,7 +234,7 @@ class AtTheOffice(unittest.IsolatedAsyncioTestCase):
                 await session.get(url)
         self.assertEqual(1, self.played.connections)
 
-    async def test_an_office_that_is_not_there_gives_no_answer(self):
+    async def test_an_office_that_is_not_there_gives_no_answer(self) -> None:
         self.played.listener.close()
         await self.played.listener.wait_closed()
         for method, target, body in ASKED:
@@ -240,7 +242,7 @@ class AtTheOffice(unittest.IsolatedAsyncioTestCase):
                 await self.office.ask(method, target, body)
         self.assertEqual(0, self.played.connections)
 
-    async def test_each_fault_of_a_connection_is_no_answer(self):
+    async def test_each_fault_of_a_connection_is_no_answer(self) -> None:
         for fault in (
             AssertionError(),
             OSError(5, "x"),
@@ -255,8 +257,8 @@ class AtTheOffice(unittest.IsolatedAsyncioTestCase):
                     await self.office.ask("POST", "/weighings", b"")
         self.assertEqual(0, self.played.connections)
 
-    async def test_a_connection_that_is_reset_at_once_gives_no_answer(self):
-        async def reset(reader, writer):
+    async def test_a_connection_that_is_reset_at_once_gives_no_answer(self) -> None:
+        async def reset(reader: asyncio.StreamReader, writer: asyncio.StreamWriter) -> None:
             linger = struct.pack("ii", 1, 0)
             writer.get_extra_info("socket").setsockopt(socket.SOL_SOCKET, socket.SO_LINGER, linger)
             writer.transport.abort()

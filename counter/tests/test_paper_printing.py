@@ -11,7 +11,9 @@ import tempfile
 import threading
 import unittest
 import zoneinfo
+from collections.abc import Callable
 from pathlib import Path
+from typing import Any
 from unittest import mock
 
 from weighbridge_paper import devices, escpos, layout, words
@@ -20,10 +22,10 @@ from weighbridge_paper.code import QUIET, modules_of
 from weighbridge_paper.page import page_of, path_of
 from weighbridge_paper.forms import FORMS
 from weighbridge_paper.pdf import Sheet
-from weighbridge_paper.printers import Printer, read_papers
+from weighbridge_paper.printers import Papers, Printer, read_papers
 from weighbridge_paper.printing import Worker, about
 from weighbridge_paper.reader import SetupFault
-from weighbridge_paper.spool import Spool
+from weighbridge_paper.spool import Job, Spool
 from weighbridge_paper.text import read_text
 
 from .papers import USUAL, Sample
@@ -40,12 +42,19 @@ FAST = {
 }
 
 
-def marks(data):
+def job_of(spool: Spool, number: int) -> Job:
+    """Return a job that is there."""
+    job = spool.job(number)
+    assert job is not None
+    return job
+
+
+def marks(data: bytes) -> int:
     return data.count(b"DUPLICATE") + data.count(b"COPY")
 
 
 class AtAPrinter(unittest.TestCase):
-    def setUp(self):
+    def setUp(self) -> None:
         folder = tempfile.TemporaryDirectory()
         self.addCleanup(folder.cleanup)
         self.spool = Spool(Path(folder.name))
@@ -67,17 +76,17 @@ class AtAPrinter(unittest.TestCase):
             True,
         )
 
-    def put(self, *samples):
+    def put(self, *samples: Sample) -> list[int]:
         return [self.spool.put(self.spool.take(read_text(it.text)), "yard") for it in samples]
 
-    def turn(self, **how):
+    def turn(self, **how: Any) -> bool:
         return Worker(self.spool, self.printer).turn(**how)
 
-    def state(self, job):
-        found = self.spool.job(job)
+    def state(self, job: int) -> tuple[str, str]:
+        found = job_of(self.spool, job)
         return found.state, found.why
 
-    def test_one_original_and_then_duplicates(self):
+    def test_one_original_and_then_duplicates(self) -> None:
         for it in range(3):
             self.put(USUAL["second"])
             self.assertTrue(self.turn())
@@ -87,7 +96,7 @@ class AtAPrinter(unittest.TestCase):
             b"\x1d!\x22\x1bEAB-12".replace(b"\x1bE", b"\x1bE\x01"), self.played.printed[0]
         )
 
-    def test_many_presses_at_one_that_waits_make_one_paper(self):
+    def test_many_presses_at_one_that_waits_make_one_paper(self) -> None:
         self.played.gone()
         jobs = [self.put(USUAL["second"])[0] for _ in range(3) if not self.turn()]
         self.played.there()
@@ -95,20 +104,20 @@ class AtAPrinter(unittest.TestCase):
         self.assertFalse(self.turn())
         self.assertEqual((1, [0]), (len(set(jobs)), [marks(it) for it in self.played.printed]))
 
-    def test_a_printer_that_another_program_has_is_left_to_it(self):
+    def test_a_printer_that_another_program_has_is_left_to_it(self) -> None:
         (job,) = self.put(USUAL["second"])
         with self.spool.holding("yard") as is_mine:
             self.assertTrue(is_mine)
             self.assertFalse(self.turn())
         self.assertEqual((("waits", ""), 0), (self.state(job), self.played.connections))
 
-    def test_a_first_that_is_printed_again_is_a_copy(self):
+    def test_a_first_that_is_printed_again_is_a_copy(self) -> None:
         for it in range(2):
             self.put(USUAL["first"])
             self.turn()
         self.assertEqual([0, 2], [it.count(b"COPY") for it in self.played.printed])
 
-    def test_they_come_in_their_order(self):
+    def test_they_come_in_their_order(self) -> None:
         samples = [Sample("single", plate=f"NO-{it}") for it in range(5)]
         self.put(*samples)
         while self.turn():
@@ -118,7 +127,7 @@ class AtAPrinter(unittest.TestCase):
             [True] * 5,
         )
 
-    def test_each_trouble_is_told_in_its_name_and_the_original_comes_once_it_is_over(self):
+    def test_each_trouble_is_told_in_its_name_and_the_original_comes_once_it_is_over(self) -> None:
         for name in ("paper_out", "cover_open", "offline", "knife", "fault"):
             self.played.state = name
             (job,) = self.put(Sample("single", plate=name[:5].upper().replace("_", "-")))
@@ -131,13 +140,13 @@ class AtAPrinter(unittest.TestCase):
             self.assertEqual(("printed", ""), self.state(job))
         self.assertEqual([0] * 5, [marks(it) for it in self.played.printed])
 
-    def test_little_paper_is_paper(self):
+    def test_little_paper_is_paper(self) -> None:
         self.played.state = "paper_low"
         (job,) = self.put(USUAL["void"])
         self.assertTrue(self.turn())
         self.assertEqual(("printed", ""), self.state(job))
 
-    def test_gone_and_back(self):
+    def test_gone_and_back(self) -> None:
         self.played.gone()
         (job,) = self.put(USUAL["second"])
         self.assertFalse(self.turn())
@@ -146,7 +155,7 @@ class AtAPrinter(unittest.TestCase):
         self.assertTrue(self.turn())
         self.assertEqual([0], [marks(it) for it in self.played.printed])
 
-    def test_one_that_is_full_takes_nothing_and_is_asked_again(self):
+    def test_one_that_is_full_takes_nothing_and_is_asked_again(self) -> None:
         self.played.is_deaf = True
         (job,) = self.put(USUAL["second"])
         self.assertFalse(self.turn())
@@ -156,7 +165,7 @@ class AtAPrinter(unittest.TestCase):
         self.assertTrue(self.turn())
         self.assertEqual([0], [marks(it) for it in self.played.printed])
 
-    def test_cut_in_the_middle_it_comes_again_as_a_duplicate(self):
+    def test_cut_in_the_middle_it_comes_again_as_a_duplicate(self) -> None:
         self.played.cut_after = 500
         (job,) = self.put(USUAL["second"])
         self.assertFalse(self.turn())
@@ -167,7 +176,7 @@ class AtAPrinter(unittest.TestCase):
             ([marks(it) for it in self.played.begun], [marks(it) for it in self.played.printed]),
         )
 
-    def test_cut_three_times_it_has_failed_and_a_press_prints_it(self):
+    def test_cut_three_times_it_has_failed_and_a_press_prints_it(self) -> None:
         (job,) = self.put(USUAL["second"])
         for _ in range(3):
             self.played.cut_after = 500
@@ -178,7 +187,7 @@ class AtAPrinter(unittest.TestCase):
         self.assertTrue(self.turn())
         self.assertEqual([2], [marks(it) for it in self.played.printed])
 
-    def test_without_paper_in_the_middle_it_is_told_and_goes_on_once(self):
+    def test_without_paper_in_the_middle_it_is_told_and_goes_on_once(self) -> None:
         self.played.out_after = 700
         (job,) = self.put(USUAL["second"])
         done = threading.Thread(target=self.turn, daemon=True)
@@ -195,26 +204,26 @@ class AtAPrinter(unittest.TestCase):
             (self.state(job), [marks(it) for it in self.played.printed], self.played.begun),
         )
 
-    def test_one_in_trouble_is_given_up_if_nobody_waits_any_more(self):
+    def test_one_in_trouble_is_given_up_if_nobody_waits_any_more(self) -> None:
         self.played.out_after = 700
         (job,) = self.put(USUAL["second"])
         self.assertFalse(self.turn(give_up=lambda: True))
         self.assertEqual(("waits", "paper_out"), self.state(job))
 
-    def test_a_slow_one_is_waited_for(self):
+    def test_a_slow_one_is_waited_for(self) -> None:
         self.played.rate = 8000
         (job,) = self.put(USUAL["second"])
         self.assertTrue(self.turn(give_up=lambda: True))
         self.assertEqual([0], [marks(it) for it in self.played.printed])
 
-    def test_one_that_does_not_know_gs_r_is_believed_if_it_is_well(self):
+    def test_one_that_does_not_know_gs_r_is_believed_if_it_is_well(self) -> None:
         self.played.knows_behind = False
         (job,) = self.put(USUAL["second"])
         with mock.patch.object(devices, "UNKNOWN_AFTER", 3):
             self.assertTrue(self.turn())
         self.assertEqual(("printed", ""), self.state(job))
 
-    def test_one_without_status_is_asked_nothing(self):
+    def test_one_without_status_is_asked_nothing(self) -> None:
         self.printer = Printer(
             "yard",
             "tcp",
@@ -235,13 +244,13 @@ class AtAPrinter(unittest.TestCase):
             threading.Event().wait(0.02)
         self.assertEqual(([0], 0), ([marks(it) for it in self.played.printed], self.played.asked))
 
-    def test_a_program_that_died_in_the_middle_makes_a_duplicate(self):
+    def test_a_program_that_died_in_the_middle_makes_a_duplicate(self) -> None:
         (job,) = self.put(USUAL["second"])
-        self.assertTrue(self.spool.begin(self.spool.job(job), True))
+        self.assertTrue(self.spool.begin(job_of(self.spool, job), True))
         self.assertTrue(self.turn())
         self.assertEqual([2], [marks(it) for it in self.played.printed])
 
-    def test_one_that_is_dropped_is_not_printed_and_leaves_the_original_to_the_next(self):
+    def test_one_that_is_dropped_is_not_printed_and_leaves_the_original_to_the_next(self) -> None:
         self.played.gone()
         (one,) = self.put(USUAL["second"])
         self.assertFalse(self.turn())
@@ -253,14 +262,14 @@ class AtAPrinter(unittest.TestCase):
         self.assertEqual([0], [marks(it) for it in self.played.printed])
         self.assertFalse(self.spool.drop(other))
 
-    def test_what_the_browser_printed_meanwhile_is_the_original(self):
+    def test_what_the_browser_printed_meanwhile_is_the_original(self) -> None:
         (job,) = self.put(USUAL["second"])
         self.assertTrue(self.spool.elsewhere(self.spool.take(read_text(USUAL["second"].text)))[0])
         self.assertFalse(self.spool.elsewhere(self.spool.take(read_text(USUAL["second"].text)))[0])
         self.assertTrue(self.turn())
         self.assertEqual([2], [marks(it) for it in self.played.printed])
 
-    def test_that_of_the_browser_is_noted_whole_or_not_at_all(self):
+    def test_that_of_the_browser_is_noted_whole_or_not_at_all(self) -> None:
         paper = self.spool.take(read_text(USUAL["second"].text), (("goods", "Kies"),))
         with mock.patch.object(self.spool, "_open", wraps=self.spool._open) as transactions:
             self.assertEqual((True, (("goods", "Kies"),)), self.spool.elsewhere(paper))
@@ -269,7 +278,7 @@ class AtAPrinter(unittest.TestCase):
             ["printed"], [it.state for it in self.spool.jobs("waits", "begun", "printed")]
         )
 
-    def test_root_makes_nothing_in_another_user_s_folder_nor_where_his_link_leads(self):
+    def test_root_makes_nothing_in_another_user_s_folder_nor_where_his_link_leads(self) -> None:
         if os.geteuid():
             self.skipTest("it isn't run by root")
         theirs, ours = self.spool.folder / "theirs", self.spool.folder / "ours"
@@ -282,7 +291,7 @@ class AtAPrinter(unittest.TestCase):
                 Spool(theirs / name)
         self.assertEqual((["link"], []), (os.listdir(theirs), os.listdir(ours)))
 
-    def test_a_link_in_a_folder_of_files_is_not_followed(self):
+    def test_a_link_in_a_folder_of_files_is_not_followed(self) -> None:
         box, kept = self.spool.folder / "box", self.spool.folder / "kept"
         box.mkdir()
         kept.write_text("kept")
@@ -301,16 +310,16 @@ class AtAPrinter(unittest.TestCase):
             self.assertFalse(self.turn())
         self.assertEqual([name], os.listdir(box))
 
-    def test_a_duplicate_that_did_not_come_out_gives_no_original_back(self):
+    def test_a_duplicate_that_did_not_come_out_gives_no_original_back(self) -> None:
         paper = self.spool.take(read_text(USUAL["second"].text))
-        first, second = (self.spool.job(self.spool.put(paper, it)) for it in ("one", "other"))
+        first, second = (job_of(self.spool, self.spool.put(paper, it)) for it in ("one", "other"))
         self.assertTrue(self.spool.begin(first, True))
         self.spool.printed(first.id)
         self.assertTrue(self.spool.begin(second, False))
         self.spool.give_back(second.id, "cover_open")
-        self.assertFalse(self.spool.job(second.id).is_original)
+        self.assertFalse(job_of(self.spool, second.id).is_original)
 
-    def test_of_many_at_once_one_is_the_original(self):
+    def test_of_many_at_once_one_is_the_original(self) -> None:
         paper = self.spool.take(read_text(USUAL["second"].text))
         jobs = [self.spool.job(self.spool.put(paper, f"printer_{it}")) for it in range(12)]
         found = []
@@ -324,12 +333,12 @@ class AtAPrinter(unittest.TestCase):
             it.join()
         self.assertEqual(1, found.count(True))
 
-    def test_it_is_noted_before_a_byte_goes_out_and_rendered_before_it_is_noted(self):
+    def test_it_is_noted_before_a_byte_goes_out_and_rendered_before_it_is_noted(self) -> None:
         (job,) = self.put(USUAL["second"])
         seen = []
         write = devices.Wire.write
 
-        def looks(wire, data):
+        def looks(wire: devices.Wire, data: bytes) -> None:
             if len(data) > 100:
                 with contextlib.closing(
                     sqlite3.connect(self.spool.folder / "papers.db")
@@ -351,17 +360,22 @@ class AtAPrinter(unittest.TestCase):
             self.turn()
         self.assertEqual("waits", self.state(job)[0])
 
-    def test_a_text_that_was_changed_where_it_waits_is_not_printed(self):
+    def test_a_text_that_was_changed_where_it_waits_is_not_printed(self) -> None:
         self.put(USUAL["second"])
         with contextlib.closing(sqlite3.connect(self.spool.folder / "papers.db")) as database:
             database.execute("UPDATE paper SET letters = replace(letters, '10200', '10220')")
             database.commit()
-        for look in (self.turn, lambda: self.spool.jobs("waits"), lambda: self.spool.text_of(2)):
+        looks: tuple[Callable[[], object], ...] = (
+            self.turn,
+            lambda: self.spool.jobs("waits"),
+            lambda: self.spool.text_of(2),
+        )
+        for look in looks:
             with self.assertRaisesRegex(OSError, "a text that was changed"):
                 look()
         self.assertEqual([], self.played.printed)
 
-    def test_the_same_number_of_another_journal_is_another_paper(self):
+    def test_the_same_number_of_another_journal_is_another_paper(self) -> None:
         other = Sample("second", first=18320)
         self.put(USUAL["second"], other)
         self.assertTrue(self.turn() and self.turn())
@@ -369,7 +383,7 @@ class AtAPrinter(unittest.TestCase):
 
 
 class EscPos(unittest.TestCase):
-    def test_no_letter_that_a_page_has_is_a_question_mark(self):
+    def test_no_letter_that_a_page_has_is_a_question_mark(self) -> None:
         for pages, text in (
             ((("cp858", 19),), "äöüßÄÖÜéèêëàâçîïôûùœ ñÑ¿¡ áíóú €º·"),
             ((("cp858", 19), ("cp852", 18)), "Łódź Żółć ěščřž äöü"),
@@ -377,7 +391,7 @@ class EscPos(unittest.TestCase):
         ):
             self.assertNotIn(b"?", escpos.Letters(pages).of(text), text)
 
-    def test_a_letter_is_read_back_by_the_page_that_stands_before_it(self):
+    def test_a_letter_is_read_back_by_the_page_that_stands_before_it(self) -> None:
         text, at, now, found = "Łódź für Щ", 0, "ascii", ""
         data = escpos.Letters((("cp858", 19), ("cp852", 18), ("cp866", 17))).of(text)
         while at < len(data):
@@ -389,7 +403,7 @@ class EscPos(unittest.TestCase):
             at += 1
         self.assertEqual(text, found)
 
-    def test_what_no_page_has_is_alike_or_a_question_mark(self):
+    def test_what_no_page_has_is_alike_or_a_question_mark(self) -> None:
         self.assertEqual(
             b"Zolc - EUR ?",
             escpos.Letters((("cp437", 0),))
@@ -398,12 +412,12 @@ class EscPos(unittest.TestCase):
             .replace(b"\xa2", b"o"),
         )
 
-    def test_a_picture_begins_at_its_left(self):
+    def test_a_picture_begins_at_its_left(self) -> None:
         self.assertEqual(
             b"\x1dv0\x00\x02\x00\x01\x00\x80\x80", escpos.raster([[True] + [False] * 7 + [True]])
         )
 
-    def test_the_status_says_what_is_wrong(self):
+    def test_the_status_says_what_is_wrong(self) -> None:
         for name, answers in ANSWERS.items():
             self.assertEqual(
                 None if name in ("", "paper_low") else name,
@@ -415,7 +429,7 @@ class EscPos(unittest.TestCase):
             [escpos.is_low(dict(zip((1, 2, 3, 4), ANSWERS[it]))) for it in ("", "paper_low")],
         )
 
-    def test_nothing_is_wider_than_the_roll(self):
+    def test_nothing_is_wider_than_the_roll(self) -> None:
         for columns in (30, 32, 42, 48):
             for language in words.LANGUAGES:
                 template = layout.Template(
@@ -439,7 +453,7 @@ class EscPos(unittest.TestCase):
 
 
 class TheCode(unittest.TestCase):
-    def test_its_path_has_each_dark_module_once(self):
+    def test_its_path_has_each_dark_module_once(self) -> None:
         rows = modules_of("2 " + "a" * 64)
         self.assertEqual(QUIET, rows[QUIET].index(True))
         runs = path_of(rows).removesuffix("z").split("z")
@@ -447,7 +461,7 @@ class TheCode(unittest.TestCase):
             sum(map(sum, rows)), sum(int(it.partition("h")[2].partition("v")[0]) for it in runs)
         )
 
-    def test_the_page_gets_the_legal_text_whole(self):
+    def test_the_page_gets_the_legal_text_whole(self) -> None:
         blocks = page_of(layout.blocks_of(layout.Paper(read_text(USUAL["second"].text)), TEMPLATE))
         self.assertEqual(
             [USUAL["second"].text], [it["text"] for it in blocks if it["is"] == "legal"]
@@ -455,7 +469,7 @@ class TheCode(unittest.TestCase):
 
 
 class Pdf(unittest.TestCase):
-    def test_the_same_paper_is_the_same_bytes(self):
+    def test_the_same_paper_is_the_same_bytes(self) -> None:
         for form in FORMS:
             blocks = layout.blocks_of(layout.Paper(read_text(USUAL["second"].text)), TEMPLATE)
             paper = layout.Paper(read_text(USUAL["second"].text))
@@ -464,7 +478,7 @@ class Pdf(unittest.TestCase):
             )
             self.assertEqual(one, other)
 
-    def test_it_says_what_it_is_and_when_and_in_which_language(self):
+    def test_it_says_what_it_is_and_when_and_in_which_language(self) -> None:
         for sample, language, title in (
             ("second", "en", "Ticket 2, WB01, AB-12"),
             ("second", "de", "Wiegeschein 2, WB01, AB-12"),
@@ -479,21 +493,21 @@ class Pdf(unittest.TestCase):
             for name, value in (("Title", title), ("CreationDate", moment), ("Lang", language)):
                 self.assertTrue(f"/{name} ({value})".encode() in data, f"{name}: {value}")
 
-    def test_a_reader_at_100_dots_per_inch_can_read_the_code(self):
+    def test_a_reader_at_100_dots_per_inch_can_read_the_code(self) -> None:
         self.assertGreaterEqual(min(it.module for it in FORMS.values()) / 72 * 100, 2.5)
 
-    def test_figures_of_the_legal_text_are_two_millimetres_high(self):
+    def test_figures_of_the_legal_text_are_two_millimetres_high(self) -> None:
         self.assertGreaterEqual(min(it.legal for it in FORMS.values()) * 0.729 * 25.4 / 72, 2.0)
 
 
 class TheSetup(unittest.TestCase):
-    def read(self, text):
+    def read(self, text: str) -> Papers:
         with tempfile.NamedTemporaryFile("w", suffix=".toml") as file:
             file.write(text)
             file.flush()
             return read_papers(Path(file.name))
 
-    def test_little_is_enough(self):
+    def test_little_is_enough(self) -> None:
         papers = self.read(
             'spool = "/tmp/x"\n[[printer]]\nname = "yard"\nto = "tcp:192.0.2.50:9100"\n'
         )
@@ -503,7 +517,7 @@ class TheSetup(unittest.TestCase):
             (papers.by_itself, printer.form, printer.columns, printer.pages, printer.has_status),
         )
 
-    def test_each_way(self):
+    def test_each_way(self) -> None:
         for to, way, place, detail in (
             ("tcp:yard.example:9100", "tcp", "yard.example", "9100"),
             ("usb:/dev/usb/lp0", "usb", "/dev/usb/lp0", ""),
@@ -517,7 +531,7 @@ class TheSetup(unittest.TestCase):
             ).printers[0]
             self.assertEqual((way, place, detail), (printer.way, printer.place, printer.detail))
 
-    def test_each_mistake_is_named(self):
+    def test_each_mistake_is_named(self) -> None:
         yard = 'spool = "x"\n[[printer]]\nname = "yard"\nto = "tcp:192.0.2.50:9100"\n'
         rows = [
             ("", "spool: it is missing"),
@@ -555,7 +569,7 @@ class TheSetup(unittest.TestCase):
             self.assertIn(wanted, str(caught.exception))
             self.assertIn(".toml: ", str(caught.exception))
 
-    def test_all_mistakes_are_named_at_once(self):
+    def test_all_mistakes_are_named_at_once(self) -> None:
         with self.assertRaises(SetupFault) as caught:
             self.read(
                 'language = "it"\nby_itself = "x"\n[[printer]]\nname = "a"\nto = 5\nform = "a4"\ncolumns = 1\n'
@@ -582,7 +596,7 @@ class TheSetup(unittest.TestCase):
 
 
 class TheCommand(unittest.TestCase):
-    def setUp(self):
+    def setUp(self) -> None:
         folder = tempfile.TemporaryDirectory()
         self.addCleanup(folder.cleanup)
         self.folder = Path(folder.name)
@@ -592,7 +606,7 @@ class TheCommand(unittest.TestCase):
             f'spool = "{folder.name}/spool"\n[[printer]]\nname = "box"\nto = "file:{folder.name}/out"\nform = "escpos80"\n'
         )
 
-    def run_with(self, letters, *words_given):
+    def run_with(self, letters: str, *words_given: str) -> tuple[int, str, str]:
         given = mock.Mock(isatty=lambda: False, buffer=io.BytesIO(letters.encode()))
         with mock.patch("sys.stdin", given), contextlib.redirect_stdout(
             io.StringIO()
@@ -600,7 +614,7 @@ class TheCommand(unittest.TestCase):
             status = main(["--setup", str(self.setup), *words_given])
         return status, out.getvalue(), err.getvalue()
 
-    def test_a_text_is_printed_and_again_as_a_duplicate(self):
+    def test_a_text_is_printed_and_again_as_a_duplicate(self) -> None:
         it = USUAL["second"]
         self.assertEqual(0, self.run_with(it.text, "--printer", "box", "--goods", "Kies")[0])
         self.assertEqual(0, self.run_with("", "--printer", "box", "--reprint", "2")[0])
@@ -609,7 +623,7 @@ class TheCommand(unittest.TestCase):
             ([0, 2], [1, 1]), ([marks(it) for it in made], [it.count(b"Kies\n") for it in made])
         )
 
-    def test_what_is_refused_is_not_printed(self):
+    def test_what_is_refused_is_not_printed(self) -> None:
         it, keys = USUAL["second"], {1: "K1", 2: "K2"}
         export = self.folder / "journal.csv"
         header = "number,key,kind,plate,moment,gross_kg,preset_kg,interval_kg,max_kg,serial,digest,previous\n"
@@ -643,7 +657,7 @@ class TheCommand(unittest.TestCase):
         self.assertEqual((0, ""), (found[0], found[2]))
         self.assertIn("can't be made again", self.run_with(it.text, "--printer", "box")[2])
 
-    def test_what_waits_is_listed_dropped_and_printed_by_the_next_call(self):
+    def test_what_waits_is_listed_dropped_and_printed_by_the_next_call(self) -> None:
         (self.folder / "out").rename(self.folder / "away")
         status, out, err = self.run_with(USUAL["second"].text, "--printer", "box", "--within", "0")
         self.assertEqual(1, status)
@@ -655,31 +669,31 @@ class TheCommand(unittest.TestCase):
         self.assertEqual(2, self.run_with("", "--drop", "1")[0])
         self.assertEqual((0, ""), self.run_with("", "--list")[:2])
 
-    def test_what_a_killed_command_left_is_printed_by_the_next_call(self):
+    def test_what_a_killed_command_left_is_printed_by_the_next_call(self) -> None:
         spool = Spool(self.folder / "spool")
-        job = spool.job(spool.put(spool.take(read_text(USUAL["second"].text)), "box"))
+        job = job_of(spool, spool.put(spool.take(read_text(USUAL["second"].text)), "box"))
         spool.begin(job, True)
         self.assertEqual(0, self.run_with("", "--printer", "box")[0])
         self.assertEqual([2], [marks(it.read_bytes()) for it in (self.folder / "out").iterdir()])
         self.assertEqual(3, self.run_with("", "--printer", "box")[0])
 
-    def test_what_fails_is_no_success(self):
+    def test_what_fails_is_no_success(self) -> None:
         spool = Spool(self.folder / "spool")
         job = spool.put(spool.take(read_text(USUAL["second"].text)), "box")
         for _ in range(2):
-            spool.begin(spool.job(job), False)
+            spool.begin(job_of(spool, job), False)
             spool.was_cut(job, "cut")
-        spool.begin(spool.job(job), False)
+        spool.begin(job_of(spool, job), False)
         status, _, err = self.run_with("", "--printer", "box")
         self.assertEqual(
             (1, True), (status, "failed at box: the program ended in the middle" in err)
         )
 
-    def test_nobody_s_modules_are_taken_but_the_system_s(self):
+    def test_nobody_s_modules_are_taken_but_the_system_s(self) -> None:
         (self.folder / "qrcode.py").write_text("raise SystemExit('another module')")
         (self.folder / "sitecustomize.py").write_text("raise SystemExit('another module')")
         for name in ("weighbridge-paper", "weighbridge-counter"):
-            words = [Path(__file__).resolve().parents[1] / name, "--help"]
+            words = [str(Path(__file__).resolve().parents[1] / name), "--help"]
             found = subprocess.run(
                 words,
                 cwd=self.folder,
@@ -689,7 +703,7 @@ class TheCommand(unittest.TestCase):
             )
             self.assertEqual((0, ""), (found.returncode, found.stderr))
 
-    def test_words_that_are_refused(self):
+    def test_words_that_are_refused(self) -> None:
         self.assertEqual(2, self.run_with(USUAL["second"].text, "--printer", "none")[0])
         with self.assertRaises(SystemExit) as caught:
             self.run_with("")
@@ -697,7 +711,7 @@ class TheCommand(unittest.TestCase):
 
 
 class Words(unittest.TestCase):
-    def test_each_trouble_that_can_be_told_has_words_on_the_page(self):
+    def test_each_trouble_that_can_be_told_has_words_on_the_page(self) -> None:
         import json
 
         for path in (Path(__file__).resolve().parent.parent / "web" / "lang").glob("*.json"):

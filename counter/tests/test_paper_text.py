@@ -3,6 +3,7 @@
 import datetime
 import unittest
 import zoneinfo
+from collections.abc import Mapping
 
 from weighbridge_paper import catalogue, layout, words
 from weighbridge_paper.text import NoText, check_digests, read_text
@@ -28,7 +29,7 @@ N      10200 kg
 """
 
 
-def other(letter):
+def other(letter: str) -> str:
     return (
         "7"
         if letter == "8"
@@ -42,7 +43,7 @@ def other(letter):
     )
 
 
-def is_taken(sample, changed):
+def is_taken(sample: Sample, changed: str) -> bool:
     """Whether a text is taken, and nothing is said of its digests."""
     try:
         return check_digests(read_text(changed), sample.keys, sample.digests) == []
@@ -51,7 +52,7 @@ def is_taken(sample, changed):
 
 
 class TheText(unittest.TestCase):
-    def test_each_kind_is_read(self):
+    def test_each_kind_is_read(self) -> None:
         for it in ALL:
             text = read_text(it.text)
             self.assertEqual(
@@ -63,14 +64,14 @@ class TheText(unittest.TestCase):
             [10200, 9999998], [read_text(it["second"].text).net for it in (USUAL, LONGEST)]
         )
 
-    def test_a_pair_that_leaves_loaded_has_its_net_too(self):
+    def test_a_pair_that_leaves_loaded_has_its_net_too(self) -> None:
         for first, own, net in ((8140, 18340, 10200), (18340, 8140, 10200), (9000, 9000, 0)):
             self.assertEqual(net, read_text(Sample("second", first=first, own=own).text).net)
 
-    def test_that_of_the_formats_page_by_its_keys_alone(self):
+    def test_that_of_the_formats_page_by_its_keys_alone(self) -> None:
         self.assertEqual([], check_digests(read_text(TICKET), {1: "K1", 2: "K2"}, {}))
 
-    def test_each_single_letter_that_is_another_one_is_refused(self):
+    def test_each_single_letter_that_is_another_one_is_refused(self) -> None:
         count = 0
         for it in ALL:
             for at, letter in enumerate(it.text):
@@ -81,7 +82,7 @@ class TheText(unittest.TestCase):
                 count += 1
         self.assertGreater(count, 2000)
 
-    def test_each_single_letter_more_or_less_is_refused(self):
+    def test_each_single_letter_more_or_less_is_refused(self) -> None:
         for it in ALL:
             for at in range(len(it.text)):
                 for changed in (
@@ -90,7 +91,7 @@ class TheText(unittest.TestCase):
                 ):
                     self.assertFalse(is_taken(it, changed), f"{it.kind}: letter {at}")
 
-    def test_a_line_more_or_less_or_elsewhere_is_refused_by_its_form(self):
+    def test_a_line_more_or_less_or_elsewhere_is_refused_by_its_form(self) -> None:
         for it in ALL:
             lines = it.text.removesuffix("\n").split("\n")
             for at, line in enumerate(lines):
@@ -102,7 +103,7 @@ class TheText(unittest.TestCase):
                     with self.assertRaises(NoText, msg=f"{it.kind}: line {at}"):
                         read_text("\n".join(changed) + "\n")
 
-    def test_what_is_none(self):
+    def test_what_is_none(self) -> None:
         for changed in (
             "",
             "refused 7 unstable\n",
@@ -116,7 +117,7 @@ class TheText(unittest.TestCase):
             with self.assertRaises(NoText):
                 read_text(changed)
 
-    def test_weights_that_no_service_stores(self):
+    def test_weights_that_no_service_stores(self) -> None:
         rows = [
             (
                 TICKET.replace("8140", "8141").replace("10200", "10199"),
@@ -144,9 +145,9 @@ class TheText(unittest.TestCase):
                 read_text(changed)
             self.assertIn(wanted, str(caught.exception))
 
-    def test_where_a_digest_can_not_be_made_again_it_is_said(self):
+    def test_where_a_digest_can_not_be_made_again_it_is_said(self) -> None:
         far = Sample("second", number=9)
-        rows = [
+        rows: list[tuple[Mapping[int, str], Mapping[int, str], list[str]]] = [
             (
                 {},
                 {},
@@ -162,25 +163,28 @@ class TheText(unittest.TestCase):
             for one, part in zip(said, wanted):
                 self.assertIn(part, one)
 
-    def test_another_key_or_digest_before_is_refused(self):
+    def test_another_key_or_digest_before_is_refused(self) -> None:
         it = USUAL["second"]
-        for keys, digests in (
+        rows: tuple[tuple[dict[int, str], dict[int, str]], ...] = (
             (it.keys | {2: "K3"}, {}),
             (it.keys, {1: "3" * 64}),
             ({}, {2: "3" * 64}),
-        ):
+        )
+        for keys, digests in rows:
             with self.assertRaises(NoText):
                 check_digests(read_text(it.text), keys, digests)
 
 
 class TheLayout(unittest.TestCase):
-    def blocks(self, sample, language="en", is_original=True, **given):
+    def blocks(
+        self, sample: Sample, language: str = "en", is_original: bool = True, **given: str
+    ) -> list[layout.Block]:
         template = layout.Template(("Kieswerk",), ("Thanks",), language, BERLIN)
         return layout.blocks_of(
             layout.Paper(read_text(sample.text), layout.given_of(given), is_original), template
         )
 
-    def test_what_is_large_is_of_the_legal_text_alone(self):
+    def test_what_is_large_is_of_the_legal_text_alone(self) -> None:
         for language in words.LANGUAGES:
             for it in ALL:
                 made = self.blocks(it, language, goods="LARGE 9,999 kg", driver="X")
@@ -199,7 +203,7 @@ class TheLayout(unittest.TestCase):
                     ],
                 )
 
-    def test_a_further_print_is_marked_at_both_ends_and_an_original_nowhere(self):
+    def test_a_further_print_is_marked_at_both_ends_and_an_original_nowhere(self) -> None:
         for kind, mark in (
             ("first", "COPY"),
             ("second", "DUPLICATE"),
@@ -211,23 +215,25 @@ class TheLayout(unittest.TestCase):
             self.assertEqual(
                 [], [it for it in self.blocks(USUAL[kind]) if isinstance(it, layout.Mark)]
             )
-        self.assertEqual("DUPLIKAT · DUPLICATE", self.blocks(USUAL["void"], "de", False)[0].text)
+        self.assertEqual(
+            layout.Mark("DUPLIKAT · DUPLICATE"), self.blocks(USUAL["void"], "de", False)[0]
+        )
 
-    def test_a_played_paper_says_so_at_both_ends_and_a_true_one_nowhere(self):
+    def test_a_played_paper_says_so_at_both_ends_and_a_true_one_nowhere(self) -> None:
         for serial, is_original in (("DEMO", True), ("DEMO", False), ("WB01", True)):
             made = self.blocks(Sample("single", serial=serial), is_original=is_original)
             half = len(made) // 2
             for blocks in (made[:half], made[half:]):
                 self.assertEqual(serial == "DEMO", layout.Mark("DEMO") in blocks, serial)
 
-    def test_the_legal_text_is_wrapped_between_characters_and_put_together_again(self):
+    def test_the_legal_text_is_wrapped_between_characters_and_put_together_again(self) -> None:
         for it in ALL:
             for columns in range(30, 97):
                 lines = layout.wrapped(it.text, columns)
                 self.assertEqual(it.text, layout.joined(lines))
                 self.assertLessEqual(max(map(len, lines)), columns)
 
-    def test_free_lines_are_one_line_each_and_harmless(self):
+    def test_free_lines_are_one_line_each_and_harmless(self) -> None:
         given = layout.given_of(
             {"goods": "  Kies\n0/16\x1b@ ", "order": "", "driver": "x" * 99, "key": "K1"}
         )
@@ -235,7 +241,7 @@ class TheLayout(unittest.TestCase):
         given = layout.given_of({"goods": "N" + "\u0335\u0336" * 29, "driver": "Zu\u0308rich"})
         self.assertEqual((("goods", "N\u0335\u0336"), ("driver", "Zürich")), given)
 
-    def test_numbers_and_moments_as_the_language_writes_them(self):
+    def test_numbers_and_moments_as_the_language_writes_them(self) -> None:
         self.assertEqual(
             ["9,999,999 kg", "9.999.999 kg", "9\u202f999\u202f999 kg", "9.999.999 kg"],
             [words.kg(9999999, it) for it in words.LANGUAGES],
@@ -251,7 +257,7 @@ class TheLayout(unittest.TestCase):
         )
         self.assertEqual("2025-10-26 00:30:00 UTC", words.utc(at))
 
-    def test_each_word_is_in_each_language(self):
+    def test_each_word_is_in_each_language(self) -> None:
         keys = set(catalogue.read(catalogue.FOLDER / "en.json")) - {"name", "place"}
         self.assertLess({"slip", "ticket", "given_by_clerk", "legal_text", "copy"}, keys)
         for key in keys:
@@ -260,7 +266,7 @@ class TheLayout(unittest.TestCase):
 
 
 class Kinds(unittest.TestCase):
-    def test_the_samples_have_each_kind(self):
+    def test_the_samples_have_each_kind(self) -> None:
         self.assertEqual(
             ["SLIP", "TICKET", "TICKET", "SLIP"], [USUAL[it].text.split()[1] for it in KINDS]
         )

@@ -11,6 +11,7 @@ import zoneinfo
 from collections import Counter
 from pathlib import Path
 from types import SimpleNamespace
+from typing import Any
 from unittest import mock
 
 from aiohttp import web
@@ -22,18 +23,21 @@ from weighbridge_counter.routes import MOST_ASKING, Routes
 from .test_lists import DIGEST, ROW, export
 
 
-def routes_over(office):
+def routes_over(office: object) -> Any:
     setup = SimpleNamespace(listen=("127.0.0.1", 1), hosts=())
-    return Routes(SimpleNamespace(office=office, setup=setup), Path("."))
+    counter: Any = SimpleNamespace(office=office, setup=setup)
+    return Routes(counter, Path("."))
 
 
 class SlowOffice:
     """Takes a twentieth of a second for each answer, and counts how many it makes at once."""
 
-    def __init__(self):
+    def __init__(self) -> None:
         self.now = self.most = self.all = 0
 
-    async def ask(self, method, target, body=None, within=15.0):
+    async def ask(
+        self, method: str, target: str, body: bytes | None = None, within: float = 15.0
+    ) -> Answer:
         self.all, self.now = self.all + 1, self.now + 1
         self.most = max(self.most, self.now)
         await asyncio.sleep(0.05)
@@ -42,7 +46,7 @@ class SlowOffice:
 
 
 class ManyAskers(unittest.IsolatedAsyncioTestCase):
-    async def test_few_have_a_place_at_the_office_at_once(self):
+    async def test_few_have_a_place_at_the_office_at_once(self) -> None:
         office = SlowOffice()
         routes = routes_over(office)
         await asyncio.gather(
@@ -50,9 +54,14 @@ class ManyAskers(unittest.IsolatedAsyncioTestCase):
         )
         self.assertEqual((40, MOST_ASKING), (office.all, office.most))
 
-    async def test_many_searches_hold_up_no_value(self):
-        done = []
-        lists = SimpleNamespace(search=lambda words: done.append(words) or ([], 0))
+    async def test_many_searches_hold_up_no_value(self) -> None:
+        done: list[str] = []
+
+        def search(words: str) -> tuple[list[object], int]:
+            done.append(words)
+            return [], 0
+
+        lists = SimpleNamespace(search=search)
         routes = routes_over(SlowOffice())
         routes.counter.books = SimpleNamespace(lists=lists, is_whole=lambda: True)
         searches = asyncio.gather(
@@ -64,7 +73,7 @@ class ManyAskers(unittest.IsolatedAsyncioTestCase):
             most, before = max(most, len(done) - before), len(done)
         self.assertEqual((60, 1), (len(done), most), "between two looks at what came")
 
-    async def test_one_export_is_for_all_who_wait_and_none_comes_upon_the_other(self):
+    async def test_one_export_is_for_all_who_wait_and_none_comes_upon_the_other(self) -> None:
         office = SlowOffice()
         books, began = Books(office, zoneinfo.ZoneInfo("UTC"), Counter()), time.monotonic()
         first = [asyncio.ensure_future(books.export_of_now()) for _ in range(20)]
@@ -74,7 +83,7 @@ class ManyAskers(unittest.IsolatedAsyncioTestCase):
         self.assertEqual((2, 1), (office.all, office.most))
         self.assertGreater(time.monotonic() - began, (1 + REST + 1) * 0.05)
 
-    async def test_lists_that_are_always_to_be_read_anew_leave_the_office_time(self):
+    async def test_lists_that_are_always_to_be_read_anew_leave_the_office_time(self) -> None:
         office = SlowOffice()
         books = Books(office, zoneinfo.ZoneInfo("UTC"), Counter())
         books.is_empty = lambda: True
@@ -91,10 +100,12 @@ class ManyAskers(unittest.IsolatedAsyncioTestCase):
 
 
 class AKey(unittest.IsolatedAsyncioTestCase):
-    under_way: frozenset = frozenset()
+    under_way: set[asyncio.Task[None]] = set()
 
-    async def asked(self, key, *answers):
-        async def ask(method, target, body=None, within=15.0):
+    async def asked(self, key: str, *answers: Any) -> tuple[int, Any]:
+        async def ask(
+            method: str, target: str, body: bytes | None = None, within: float = 15.0
+        ) -> Answer:
             if (answer := answers[0]) is None:
                 raise NoAnswer("cut")
             return Answer(answer[0], "text/csv", answer[1].encode())
@@ -107,29 +118,31 @@ class AKey(unittest.IsolatedAsyncioTestCase):
         )
         return answer.status, json.loads(answer.text)
 
-    async def test_the_column_of_keys_is_asked_and_nothing_else(self):
+    async def test_the_column_of_keys_is_asked_and_nothing_else(self) -> None:
         rows = export(ROW)
         self.assertEqual((200, {"found": True}), await self.asked("K1", (200, rows)))
         for key in ("20", "WB01", "first", "AB-12", "1", "k1", "K", "60000", DIGEST[:32]):
             self.assertEqual((200, {"found": False}), await self.asked(key, (200, rows)), key)
 
-    async def test_if_it_is_not_known_the_answer_says_so(self):
+    async def test_if_it_is_not_known_the_answer_says_so(self) -> None:
         self.assertEqual((502, {"found": None}), await self.asked("K1", None))
         self.assertEqual((503, {"found": None}), await self.asked("K1", (503, "store 2 disk\n")))
         for text in ("", "number,key\n1,K1\n", export(ROW)[:-40]):
             self.assertEqual((502, {"found": None}), await self.asked("K1", (200, text)), text)
 
-    async def test_a_request_on_its_way_comes_to_its_end_before(self):
-        rows = [200, export()]
+    async def test_a_request_on_its_way_comes_to_its_end_before(self) -> None:
+        rows: list[int | str] = [200, export()]
 
-        async def store():
+        async def store() -> None:
             await asyncio.sleep(0.05)
             rows[1] = export(ROW)
 
         self.under_way = {asyncio.ensure_future(store())}
         self.assertEqual((200, {"found": True}), await self.asked("K1", rows))
 
-    async def test_if_it_does_not_come_to_its_end_the_answer_says_that_it_is_not_known(self):
+    async def test_if_it_does_not_come_to_its_end_the_answer_says_that_it_is_not_known(
+        self,
+    ) -> None:
         self.under_way = {asyncio.ensure_future(asyncio.sleep(60))}
         with mock.patch("weighbridge_counter.routes.UNDER_WAY_FOR", 0.05):
             self.assertEqual((503, {"found": None}), await self.asked("K1", (200, export())))
@@ -138,10 +151,10 @@ class AKey(unittest.IsolatedAsyncioTestCase):
 
 
 class AtTheOffice(unittest.IsolatedAsyncioTestCase):
-    async def asyncSetUp(self):
+    async def asyncSetUp(self) -> None:
         self.came: list[bytes] = []
 
-        async def answer(reader, writer):
+        async def answer(reader: asyncio.StreamReader, writer: asyncio.StreamWriter) -> None:
             self.came.append(await reader.read(1000))
             writer.write(
                 b"HTTP/1.1 404 X\r\nContent-Type: text/plain\r\nContent-Length: 2\r\n\r\nno"
@@ -152,7 +165,7 @@ class AtTheOffice(unittest.IsolatedAsyncioTestCase):
         self.addCleanup(listener.close)
         self.office = Office(listener.sockets[0].getsockname())
 
-    async def test_an_end_of_a_line_in_a_target_begins_no_request(self):
+    async def test_an_end_of_a_line_in_a_target_begins_no_request(self) -> None:
         for target in (
             "/tickets/1 HTTP/1.1\r\n\r\nPOST /purge",
             "/tickets/1\n",
@@ -163,8 +176,8 @@ class AtTheOffice(unittest.IsolatedAsyncioTestCase):
                 await self.office.ask("GET", target)
         self.assertEqual([], self.came)
 
-    async def test_what_a_request_breaks_is_one_line_without_control_characters(self):
-        async def breaks(request):
+    async def test_what_a_request_breaks_is_one_line_without_control_characters(self) -> None:
+        async def breaks(request: web.Request) -> web.StreamResponse:
             raise ValueError("\x1b[2J\n" * 1000)
 
         routes = routes_over(self.office)
@@ -178,10 +191,10 @@ class AtTheOffice(unittest.IsolatedAsyncioTestCase):
         )
         self.assertLess(len(said.getvalue()), 400)
 
-    async def test_a_request_of_before_a_standstill_changes_nothing(self):
+    async def test_a_request_of_before_a_standstill_changes_nothing(self) -> None:
         handled = []
 
-        async def handle(request):
+        async def handle(request: web.Request) -> web.StreamResponse:
             handled.append(request.method)
             return web.Response()
 
@@ -198,12 +211,12 @@ class AtTheOffice(unittest.IsolatedAsyncioTestCase):
             self.assertEqual(status, answer.status, (is_in_doubt, method))
         self.assertEqual(["GET", "POST"], handled)
 
-    async def test_a_tare_nested_too_deep_is_none(self):
+    async def test_a_tare_nested_too_deep_is_none(self) -> None:
         request = make_mocked_request("PUT", "/tares/AB-1", match_info={"plate": "AB-1"})
         request._read_bytes = b"[" * 2000
         self.assertEqual(422, (await routes_over(self.office).keep_tare(request)).status)
 
-    async def test_a_target_goes_on_as_it_was_written(self):
+    async def test_a_target_goes_on_as_it_was_written(self) -> None:
         routes = routes_over(self.office)
         target = "/tickets/1%20HTTP%2F1.1%0D%0A%0D%0APOST%20%2Fpurge"
         self.assertEqual(404, (await routes.hand_on(make_mocked_request("GET", target))).status)
@@ -214,11 +227,13 @@ class AtTheOffice(unittest.IsolatedAsyncioTestCase):
 class ProbeTest(unittest.IsolatedAsyncioTestCase):
     """A ticket that another client stored at the office, after a First that the lists lack too, asks for an export."""
 
-    async def test_asks_for_numbers_after_the_newest_in_turn(self):
-        asked = []
+    async def test_asks_for_numbers_after_the_newest_in_turn(self) -> None:
+        asked: list[str] = []
 
         class PlayedOffice:
-            async def ask(self, method, target, within):
+            async def ask(
+                self, method: str, target: str, body: bytes | None = None, within: float = 15.0
+            ) -> Answer:
                 asked.append(target)
                 return Answer(200 if target == "/tickets/2" else 404, "text/plain", b"")
 

@@ -9,13 +9,15 @@ import tempfile
 import unittest
 from pathlib import Path
 from types import SimpleNamespace
+from typing import Any
 from unittest import mock
 
 from weighbridge_counter import boards
 from weighbridge_counter.boards import Line, Listener, Sender
 from weighbridge_counter.scoreboard import FORMS, NOTHING, Shown, shown_of
-from weighbridge_counter.setup import Board, SetupFault, read_setup
+from weighbridge_counter.setup import Board, read_setup
 from weighbridge_counter.values import Value
+from weighbridge_paper.reader import SetupFault
 
 WEB = Path(__file__).resolve().parent.parent / "web"
 # A weight, and the lines of toledo, sma and condec for it.
@@ -61,53 +63,54 @@ ROWS = [
 
 
 class TheForms(unittest.TestCase):
-    def test_each_byte(self):
+    def test_each_byte(self) -> None:
         for shown, *frames in ROWS:
             found = [FORMS[it](shown) for it in ("toledo", "sma", "condec")]
             self.assertEqual(frames, found, shown)
 
-    def test_the_check_character_makes_the_sum_zero(self):
+    def test_the_check_character_makes_the_sum_zero(self) -> None:
         for shown, toledo, *_ in ROWS:
             frame = FORMS["toledo_with_sum"](shown)
             self.assertEqual(toledo, frame[:17])
             self.assertEqual(0, sum(frame) % 128)
 
-    def test_the_greatest_weight_has_its_place(self):
+    def test_the_greatest_weight_has_its_place(self) -> None:
         for form, length in (("toledo", 17), ("sma", 20), ("condec", 14)):
             for kg, tare in ((500000, 0), (-499980, 499980)):
                 self.assertEqual(length, len(FORMS[form](Shown("S", kg, tare, 20))), form)
 
-    def test_without_a_value_or_a_known_tare_there_is_no_weight(self):
+    def test_without_a_value_or_a_known_tare_there_is_no_weight(self) -> None:
         value = Value("S", 9000, 1.0)
         self.assertEqual(Shown("S", 9000, 0, 20), shown_of(value, 0, 20))
         self.assertEqual(NOTHING, shown_of(None, 0, 20))
         self.assertEqual(NOTHING, shown_of(value, None, 20))
 
 
-def terminal(value, is_fresh=True, is_in_doubt=False):
+def terminal(value: Value | None, is_fresh: bool = True, is_in_doubt: bool = False) -> Any:
     fanout = SimpleNamespace(value=value, tare=0, is_fresh=lambda within: is_fresh)
     return SimpleNamespace(fanout=fanout, is_in_doubt=lambda: is_in_doubt, clock=lambda: 0.0)
 
 
-def board(device=None, form="condec"):
+def board(device: str | None = None, form: str = "condec") -> Board:
     return Board("yard", form, None if device else ("127.0.0.1", 0), device, 9600)
 
 
 class TheSender(unittest.IsolatedAsyncioTestCase):
-    def sent(self, *given, form="condec", **more):
-        frames = []
+    def sent(self, value: Value | None, form: str = "condec", **more: Any) -> list[bytes]:
+        frames: list[bytes] = []
         way = SimpleNamespace(send=lambda frame, at: frames.append(frame))
-        Sender(terminal(*given, **more), board(form=form), 20, way).turn()
+        Sender(terminal(value, **more), board(form=form), 20, way).turn()
         return frames
 
-    async def test_no_weight_that_is_old_is_sent(self):
+    async def test_no_weight_that_is_old_is_sent(self) -> None:
         value = Value("S", 9000, 0.0)
         self.assertEqual([b"\x02    9000KG \r\n"], self.sent(value))
-        for more in ({"is_fresh": False}, {"is_in_doubt": True}):
+        old: tuple[dict[str, Any], ...] = ({"is_fresh": False}, {"is_in_doubt": True})
+        for more in old:
             self.assertEqual([b"\x02       0KGI\r\n"], self.sent(value, **more))
             self.assertEqual([], self.sent(value, form="toledo", **more))
 
-    async def test_each_client_gets_it_and_one_too_many_none(self):
+    async def test_each_client_gets_it_and_one_too_many_none(self) -> None:
         listener = Listener()
         server = await asyncio.start_server(listener.serve, "127.0.0.1", 0)
         address = server.sockets[0].getsockname()
@@ -126,7 +129,7 @@ class TheSender(unittest.IsolatedAsyncioTestCase):
         server.close()
         clients[0][1].close()
 
-    async def test_a_client_that_takes_nothing_is_hung_up_and_holds_up_nobody(self):
+    async def test_a_client_that_takes_nothing_is_hung_up_and_holds_up_nobody(self) -> None:
         listener = Listener()
         server = await asyncio.start_server(listener.serve, "127.0.0.1", 0)
         reader, writer = await asyncio.open_connection(*server.sockets[0].getsockname(), limit=1)
@@ -142,7 +145,7 @@ class TheSender(unittest.IsolatedAsyncioTestCase):
 
 
 class TheLine(unittest.TestCase):
-    def test_a_serial_line_gets_each_frame_and_never_waits(self):
+    def test_a_serial_line_gets_each_frame_and_never_waits(self) -> None:
         ours, theirs = pty.openpty()
         self.addCleanup(os.close, ours)
         line = Line(board(os.ttyname(theirs)))
@@ -153,7 +156,7 @@ class TheLine(unittest.TestCase):
         os.close(line.port)
         os.close(theirs)
 
-    def test_a_line_that_is_not_there_is_told_once_and_opened_again(self):
+    def test_a_line_that_is_not_there_is_told_once_and_opened_again(self) -> None:
         with tempfile.TemporaryDirectory() as folder:
             path = f"{folder}/line"
             line = Line(board(path))
@@ -175,7 +178,7 @@ class TheLine(unittest.TestCase):
 
 
 class TheSetup(unittest.TestCase):
-    def read(self, *tables):
+    def read(self, *tables: str) -> tuple[Board, ...]:
         with tempfile.TemporaryDirectory() as folder:
             path = Path(folder) / "counter.toml"
             path.write_text(
@@ -183,7 +186,7 @@ class TheSetup(unittest.TestCase):
             )
             return read_setup(path, WEB).boards
 
-    def test_a_board_by_tcp_and_one_by_a_line(self):
+    def test_a_board_by_tcp_and_one_by_a_line(self) -> None:
         self.assertEqual(
             (
                 Board("yard", "sma", ("127.0.0.1", 885), None, 0),
@@ -197,7 +200,7 @@ class TheSetup(unittest.TestCase):
             ),
         )
 
-    def test_each_mistake_is_named(self):
+    def test_each_mistake_is_named(self) -> None:
         good = 'name = "yard"\nform = "sma"\nlisten = "127.0.0.1:885"'
         for tables, told in (
             (('form = "sma"\nlisten = "127.0.0.1:885"',), "scoreboard 1: name: it is missing"),

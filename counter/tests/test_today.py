@@ -9,6 +9,7 @@ import tempfile
 import unittest
 import zoneinfo
 from pathlib import Path
+from typing import Any
 from unittest import mock
 
 from weighbridge_counter.counter import Counter
@@ -38,10 +39,10 @@ DAY = (
 
 
 class ALocalDay(unittest.TestCase):
-    def setUp(self):
+    def setUp(self) -> None:
         self.lists = Lists.of_export(BERLIN, export(*DAY))
 
-    def test_sums_are_of_all_entries_with_in_and_out_apart(self):
+    def test_sums_are_of_all_entries_with_in_and_out_apart(self) -> None:
         found = day_of(self.lists, NOON)
         self.assertEqual(list(range(11, 1, -1)), [it["number"] for it in found["today"]])
         self.assertEqual(
@@ -55,7 +56,7 @@ class ALocalDay(unittest.TestCase):
             found["sums"],
         )
 
-    def test_more_entries_than_are_listed_are_summed_all_the_same(self):
+    def test_more_entries_than_are_listed_are_summed_all_the_same(self) -> None:
         count = 2 * MOST_LISTED
         rows = [row(it, "single", f"P{it}", 20000, 8000) for it in range(1, count + 1)]
         found = day_of(Lists.of_export(BERLIN, export(*rows)), NOON)
@@ -70,24 +71,24 @@ class ALocalDay(unittest.TestCase):
         )
         self.assertEqual(count, found["today"][0]["number"])
 
-    def test_an_entry_of_a_text_counts_too(self):
+    def test_an_entry_of_a_text_counts_too(self) -> None:
         self.lists.entries[12] = self.lists.entries[6].__class__(
             12, "single", "LATE", NOON.astimezone(datetime.timezone.utc), 20000, 8000
         )
         self.assertEqual(24000, day_of(self.lists, NOON)["sums"]["net_with_tare"])
 
-    def test_an_old_entry_that_comes_late_hides_nothing(self):
+    def test_an_old_entry_that_comes_late_hides_nothing(self) -> None:
         self.lists.entries[1] = self.lists.entries.pop(1)
         self.assertEqual(10, day_of(self.lists, NOON)["sums"]["entries"])
 
-    def test_a_first_is_named_only_by_lists_that_lack_nothing(self):
+    def test_a_first_is_named_only_by_lists_that_lack_nothing(self) -> None:
         self.assertEqual(7, self.lists.first_of(8))
         for lack in ("is_whole", "is_of_export"):
             setattr(self.lists, lack, False)
             self.assertIsNone(self.lists.first_of(8))
             setattr(self.lists, lack, True)
 
-    def test_a_day_begins_at_local_midnight_also_where_the_clock_is_put(self):
+    def test_a_day_begins_at_local_midnight_also_where_the_clock_is_put(self) -> None:
         for zone, day, begin, hours in (
             ("Europe/Berlin", (2025, 3, 30), "2025-03-29T23:00", 23),
             ("Europe/Berlin", (2025, 10, 26), "2025-10-25T22:00", 25),
@@ -99,7 +100,7 @@ class ALocalDay(unittest.TestCase):
             self.assertEqual(f"{begin}:00+00:00", first.isoformat(), zone)
             self.assertEqual(datetime.timedelta(hours=hours), last - first, zone)
 
-    def test_midnight_belongs_to_the_new_day(self):
+    def test_midnight_belongs_to_the_new_day(self) -> None:
         lists = Lists.of_export(
             BERLIN,
             export(
@@ -113,7 +114,7 @@ class ALocalDay(unittest.TestCase):
             now = datetime.datetime(2025, 3, day, 12, tzinfo=BERLIN)
             self.assertEqual(wanted, "".join(it["plate"] for it in day_of(lists, now)["today"]))
 
-    def test_the_table_has_all_of_the_day_the_oldest_first(self):
+    def test_the_table_has_all_of_the_day_the_oldest_first(self) -> None:
         rows = list(csv.DictReader(io.StringIO(table_of(self.lists, NOON))))
         self.assertEqual([str(it) for it in range(2, 12)], [it["number"] for it in rows])
         self.assertEqual(
@@ -136,7 +137,7 @@ class ALocalDay(unittest.TestCase):
         )
         self.assertEqual(("7", ""), (rows[6]["first"], rows[6]["gross_in_kg"]))
 
-    def test_the_whole_day_is_the_table_for_a_page(self):
+    def test_the_whole_day_is_the_table_for_a_page(self) -> None:
         found = whole_day_of(self.lists, NOON)
         self.assertEqual(("2025-03-10", 10), (found["day"], found["sums"]["entries"]))
         self.assertEqual(
@@ -146,16 +147,19 @@ class ALocalDay(unittest.TestCase):
 
 
 class BeforeAWeight(unittest.IsolatedAsyncioTestCase):
-    async def test_a_page_knows_whose_a_tare_is_and_what_stood_there_before_it_has_the_weight(self):
+    async def test_a_page_knows_whose_a_tare_is_and_what_stood_there_before_it_has_the_weight(
+        self,
+    ) -> None:
         folder = tempfile.TemporaryDirectory()
         self.addCleanup(folder.cleanup)
-        counter = Counter(Setup(Path(folder.name), zone=BERLIN))
-        told, fanout = [], counter.terminal.fanout
+        counter: Any = Counter(Setup(Path(folder.name), zone=BERLIN))
+        fanout = counter.terminal.fanout
+        told: list[tuple[Any, ...]] = []
         counter.pages.tell = lambda name, what: told.append((name, what["tare"], what["off_zero"]))
         counter.pages.tell_weight = lambda what: told.append(("weight", what["tare"]))
         at = 1000.0
 
-        def comes(kg, tare, seconds=1.0):
+        def comes(kg: int, tare: int, seconds: float = 1.0) -> list[tuple[Any, ...]]:
             nonlocal at
             at += seconds
             told.clear()
@@ -173,7 +177,7 @@ class BeforeAWeight(unittest.IsolatedAsyncioTestCase):
 
 
 class Midnight(unittest.IsolatedAsyncioTestCase):
-    async def test_lists_that_are_read_again_bring_the_last_empty_weights(self):
+    async def test_lists_that_are_read_again_bring_the_last_empty_weights(self) -> None:
         folder = tempfile.TemporaryDirectory()
         self.addCleanup(folder.cleanup)
         counter, page = Counter(Setup(Path(folder.name), zone=BERLIN)), Page([], lambda: None)
@@ -185,14 +189,14 @@ class Midnight(unittest.IsolatedAsyncioTestCase):
         self.assertIn("event: tares", told)
         self.assertIn('"empty":12000', told)
 
-    async def test_an_open_page_begins_the_new_day_once(self):
+    async def test_an_open_page_begins_the_new_day_once(self) -> None:
         folder = tempfile.TemporaryDirectory()
         self.addCleanup(folder.cleanup)
         counter, now = Counter(Setup(Path(folder.name), zone=BERLIN)), [NOON]
         page, counter.day = Page([], lambda: None), NOON.date()
         counter.pages.add(page)
 
-        def told():
+        def told() -> list[str]:
             return re.findall(r"event: (lists|tares)", b"".join(page.frames).decode())
 
         with (

@@ -19,7 +19,7 @@ from .bodies import bad_field
 from .fanout import Turn
 from .files import Files, NoFile, tell
 from .once import Once, Withdrawal
-from .office import Answer, NoAnswer, Office
+from .office import Answer, Answers, NoAnswer
 from .refusals import Refusal, refusal_in
 from .repeats import Repeats
 from .terminal import NotSent, Terminal, Unanswered
@@ -92,7 +92,7 @@ class Acts:
     def __init__(
         self,
         terminal: Terminal,
-        office: Office,
+        office: Answers,
         files: Files,
         interval: int,
         counts: Counter[str],

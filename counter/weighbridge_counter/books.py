@@ -15,7 +15,7 @@ from . import repeats
 from .given import Given
 from .journal import SHORTER, Journal, Known, changed_by, why_another
 from .lists import Lists
-from .office import Answer, NoAnswer, Office
+from .office import Answer, Answers, NoAnswer
 from .slips import Entry
 
 LOOK_EVERY = 0.25  # seconds
@@ -32,7 +32,7 @@ REST = 4  # times as long as an export took the office does other things before 
 class Books:
     def __init__(
         self,
-        office: Office,
+        office: Answers,
         zone: zoneinfo.ZoneInfo,
         counts: Counter[str],
         journal: Journal | None = None,

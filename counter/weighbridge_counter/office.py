@@ -4,7 +4,7 @@ import asyncio
 import re
 import socket
 from dataclasses import dataclass
-from typing import Any
+from typing import Any, Protocol
 
 import aiohttp
 import yarl
@@ -45,6 +45,15 @@ class OneConnection(aiohttp.TCPConnector):
             raise aiohttp.ClientConnectionError("the request was sent once")
         self.is_used = True
         return await super().connect(*given, **more)
+
+
+class Answers(Protocol):
+    """What answers requests as the office does: the office, or one that a test plays."""
+
+    async def ask(
+        self, method: str, target: str, body: bytes | None = None, within: float = WITHIN
+    ) -> Answer:
+        ...
 
 
 class Office:
