@@ -33,6 +33,13 @@ class Unit(Check):
 
     @case.skip_without("mypy")
     def test_types(self) -> None:
-        words = ["mypy", "--strict", "--cache-dir", "/dev/null", *PACKAGES]
+        words = [
+            "mypy",
+            "--config-file",
+            "../pyproject.toml",
+            "--cache-dir",
+            "/dev/null",
+            *PACKAGES,
+        ]
         it = subprocess.run(words, cwd=TOP / "counter", capture_output=True, text=True)
         self.same("mypy --strict", (0, ""), (it.returncode, it.stdout if it.returncode else ""))

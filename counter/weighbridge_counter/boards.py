@@ -89,7 +89,7 @@ class Line:
 
 def opened(board: Board) -> int:
     """Return a descriptor of the board's serial line, which never waits. Raises OSError."""
-    import serial  # type: ignore[import]  # python3-serial, which only a serial line needs
+    import serial  # python3-serial, which only a serial line needs
 
     assert board.device is not None
     with contextlib.closing(

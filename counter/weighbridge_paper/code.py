@@ -8,9 +8,9 @@ QUIET = 4  # modules around the code, as ISO/IEC 18004 asks for
 @functools.lru_cache(maxsize=8)
 def modules_of(text: str) -> tuple[tuple[bool, ...], ...]:
     """The modules of a code with its quiet zone, row by row; True is dark."""
-    import qrcode  # type: ignore[import]  # it takes memory: only once there is something to print
-    import qrcode.constants  # type: ignore[import]
-    import qrcode.util  # type: ignore[import]
+    import qrcode  # it takes memory: only once there is something to print
+    import qrcode.constants
+    import qrcode.util
 
     code = qrcode.QRCode(error_correction=qrcode.constants.ERROR_CORRECT_M, border=QUIET)
     code.add_data(qrcode.util.QRData(text.encode("ascii"), qrcode.util.MODE_8BIT_BYTE))

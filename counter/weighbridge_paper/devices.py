@@ -170,7 +170,7 @@ def wire_to(printer: Printer) -> Iterator[Wire]:
             yield Wire(line.fileno(), printer.has_status)
     elif printer.way == "serial":
         try:
-            import serial  # type: ignore[import]
+            import serial
         except ImportError:
             raise Trouble("no_module", False) from None
         try:

@@ -7,9 +7,9 @@ from collections.abc import Callable, Sequence
 from dataclasses import dataclass
 from pathlib import Path
 
-from reportlab.pdfbase import pdfmetrics  # type: ignore[import]
-from reportlab.pdfbase.ttfonts import TTFont  # type: ignore[import]
-from reportlab.pdfgen.canvas import Canvas  # type: ignore[import]
+from reportlab.pdfbase import pdfmetrics
+from reportlab.pdfbase.ttfonts import TTFont
+from reportlab.pdfgen.canvas import Canvas
 
 from . import layout
 from .code import modules_of
