@@ -5,6 +5,7 @@
 import hashlib
 import subprocess
 import sys
+from collections.abc import Sequence
 
 import station_model
 
@@ -22,10 +23,17 @@ JOURNAL_HEAD = (
     "number,key,kind,plate,moment,gross_kg,preset_kg,interval_kg,max_kg,serial,digest,previous"
 )
 TICKETS_HEAD = "ticket,kind,plate,first,at,gross_kg,tare_kg,net_kg"
-HISTORIES = []
+HISTORIES: list[tuple[str, str, bytes, str, str, int]] = []
 
 
-def history(name, trace, wanted, options="", complaint="", status=0):
+def history(
+    name: str,
+    trace: Sequence[str | bytes],
+    wanted: Sequence[str],
+    options: str = "",
+    complaint: str = "",
+    status: int = 0,
+) -> None:
     """Adds a history; the trace's and output's lines are given as lists of texts or bytes."""
     data = b"".join((line if isinstance(line, bytes) else line.encode()) + b"\n" for line in trace)
     HISTORIES.append(
@@ -33,44 +41,55 @@ def history(name, trace, wanted, options="", complaint="", status=0):
     )
 
 
-def digest(number, key, kind, plate, moment, gross="-", preset="-", previous=ZEROS):
+def digest(
+    number: int,
+    key: str,
+    kind: str,
+    plate: str,
+    moment: int,
+    gross: int | str = "-",
+    preset: int | str = "-",
+    previous: str = ZEROS,
+) -> str:
     return hashlib.sha256(
         ENTRY_TEXT.format(number, key, kind, plate, moment, gross, preset, previous).encode()
     ).hexdigest()
 
 
-def weighing(moment, key, kind, plate):
+def weighing(moment: int, key: str, kind: str, plate: str) -> str:
     return f"o {moment} POST /weighings key={key}&kind={kind}&plate={plate}"
 
 
-def void(moment, key, plate):
+def void(moment: int, key: str, plate: str) -> str:
     return f"o {moment} POST /voids key={key}&plate={plate}"
 
 
-def raw(moment, data):
+def raw(moment: int, data: bytes) -> str:
     return f"x {moment} {data.hex()}"
 
 
-def answer(status, *body):
+def answer(status: int, *body: str) -> list[str]:
     return [f"o {status}"] + ["| " + line for line in body]
 
 
-def kg(value):
+def kg(value: int) -> str:
     return f"{value:>10} kg"
 
 
-def block(word, number, at, seal, gross=None, preset=None):
+def block(
+    word: str, number: int, at: str, seal: str, gross: int | None = None, preset: int | None = None
+) -> list[str]:
     lines = [f"{word} NO {number}", f"AT {at}"]
     lines += [f"G {kg(gross)}"] if gross is not None else []
     lines += [f"PT {kg(preset)}"] if preset is not None else []
     return lines + [PLATE_LINE, f"DIGEST {seal}"]
 
 
-def slip(number, plate, *lines):
+def slip(number: int, plate: str, *lines: str) -> list[str]:
     return answer(201, f"WEIGHING SLIP {number}", f"PLATE {plate}", *lines)
 
 
-def ticket(number, plate, lines, net, status=201):
+def ticket(number: int, plate: str, lines: Sequence[str], net: int, status: int = 201) -> list[str]:
     return answer(status, f"WEIGHING TICKET {number}", f"PLATE {plate}", *lines, f"N {kg(net)}")
 
 
@@ -1246,7 +1265,9 @@ history(
 )
 
 
-def differences(name, source, got, wanted):
+def differences(
+    name: str, source: str, got: tuple[str, str, int], wanted: tuple[str, str, int]
+) -> int:
     if got == wanted:
         return 0
     print(f"--- {name}: {source} differs")
@@ -1256,7 +1277,7 @@ def differences(name, source, got, wanted):
     return 1
 
 
-def main():
+def main() -> None:
     program = sys.argv[1]
     failures = 0
     for name, options, trace, output, complaint, status in HISTORIES:
@@ -1268,8 +1289,8 @@ def main():
             name, "program", (run.stdout.decode(), run.stderr.decode(), run.returncode), wanted
         )
         setup = station_model.setup_of_words(options.split())
-        if setup.first_fault():
-            number, part = setup.first_fault()
+        if fault := setup.first_fault():
+            number, part = fault
             got = ("", f"setup refused: {number} {part}\n", 2)
         else:
             model_output, model_complaint, model_status = station_model.replay(setup, trace)

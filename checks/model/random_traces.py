@@ -7,6 +7,7 @@ still do.
 import random
 import subprocess
 import sys
+from typing import Any
 
 import station_model
 
@@ -85,7 +86,7 @@ class Maker:
         pick = self.random.choice
         self.interval = pick([1, 2, 5, 10, 20, 20, 50])
         count = pick([500, 501, 502, 503, 504, 1000, 3000, 3000, 3001, 9999, 10000])
-        self.options = {
+        self.options: dict[str, Any] = {
             "interval": self.interval,
             "max": self.interval * count,
             "window": pick([4, 4, 4, 5, 7, 64]),
@@ -105,13 +106,13 @@ class Maker:
             self.interval, count = 20, 3000
         self.top = 10 * count
         self.limit = count // 5
-        self.window = self.options.get("window", 4)
+        self.window: int = self.options.get("window", 4)
         self.moment = M
         self.zero = 0
         self.level = 0
         self.calm = self.random.random() < 0.7
 
-    def load(self):
+    def load(self) -> int:
         """A load near one of the bounds that matter, or anywhere."""
         pick, whole = self.random.choice, self.random.randint
         base = pick(
@@ -140,7 +141,7 @@ class Maker:
         )
         return base + whole(-6, 6)
 
-    def readings(self):
+    def readings(self) -> list[str]:
         pick, whole = self.random.choice, self.random.randint
         chance = self.random.random()
         if chance < 0.04:
@@ -171,7 +172,7 @@ class Maker:
             f"r {self.level} {pick([1, 2, self.window - 1, self.window, self.window, self.window, self.window + 3])}"
         ]
 
-    def drift(self):
+    def drift(self) -> list[str]:
         """Small loads about a zero, with commands between them and questions that show the zero and the tare to a tenth."""
         pick, whole = self.random.choice, self.random.randint
         lines, here = [], self.zero
@@ -221,7 +222,7 @@ class Maker:
         self.zero = here
         return lines
 
-    def terminal(self):
+    def terminal(self) -> list[str]:
         pick, whole = self.random.choice, self.random.randint
         chance = self.random.random()
         text = pick(COMMANDS)
@@ -240,7 +241,7 @@ class Maker:
             lines = ["b " + self.random.randbytes(whole(1, 6)).hex()]
         return lines
 
-    def clock(self):
+    def clock(self) -> int:
         pick, whole = self.random.choice, self.random.randint
         chance = self.random.random()
         if chance < 0.1:
@@ -253,7 +254,7 @@ class Maker:
             self.moment = self.moment // DAY * DAY + pick([0, -1, 1]) + DAY
         return self.moment + whole(0, 1)
 
-    def weighing(self):
+    def weighing(self) -> list[str]:
         pick = self.random.choice
         key, plate, kind = pick(KEYS), pick(PLATES), pick(["first", "second", "second", "single"])
         lines = []
@@ -275,7 +276,7 @@ class Maker:
             )
         return lines
 
-    def office(self):
+    def office(self) -> list[str]:
         pick = self.random.choice
         chance = self.random.random()
         moment = self.clock()
@@ -293,7 +294,7 @@ class Maker:
             f"x {moment} {(self.http() if self.random.random() < 0.5 else self.tidy_http()).hex()}"
         ]
 
-    def form(self):
+    def form(self) -> str:
         pick, whole = self.random.choice, self.random.randint
         pieces = [
             f"key={pick(KEYS)}",
@@ -331,7 +332,7 @@ class Maker:
             )
         return text
 
-    def tidy_http(self):
+    def tidy_http(self) -> bytes:
         """A right request but for its length or its form."""
         pick = self.random.choice
         body = pick(
@@ -364,7 +365,7 @@ class Maker:
             + body
         )
 
-    def http(self):
+    def http(self) -> bytes:
         """A request that is right, with some rubbish put in."""
         pick, whole = self.random.choice, self.random.randint
         method = pick(["GET", "POST", "POST", "get", "HEAD", "PUT", "P", "G@T", "POST "])
@@ -501,7 +502,7 @@ class Maker:
 class Compared:
     """What the program and the model print of a random trace."""
 
-    def __init__(self, program, source):
+    def __init__(self, program: str, source: random.Random) -> None:
         maker = Maker(source)
         self.trace = maker.trace()
         self.words = [
@@ -513,7 +514,10 @@ class Compared:
         self.printed = run.stdout, run.stderr.decode(), run.returncode
         self.model = station_model.replay(station_model.setup_of_words(self.words), self.trace)
 
-    def show(self, title):
+    def differs(self) -> bool:
+        return bool(self.printed != self.model)
+
+    def show(self, title: str) -> None:
         got, wanted = self.printed[0].split(b"\n"), self.model[0].split(b"\n")
         place = next(
             (i for i, (a, b) in enumerate(zip(got, wanted)) if a != b), min(len(got), len(wanted))
@@ -524,7 +528,7 @@ class Compared:
         print(self.trace.decode("latin-1"))
 
 
-def show_smallest(program):
+def show_smallest(program: str) -> None:
     """Prints a small trace over which the two differ, if hypothesis is there and finds one."""
     try:
         from hypothesis import HealthCheck, Phase, find, settings, strategies
@@ -541,22 +545,22 @@ def show_smallest(program):
     )
     traces = strategies.randoms(use_true_random=False).map(lambda source: Compared(program, source))
     try:
-        find(traces, lambda both: both.printed != both.model, settings=rules).show("a small one")
+        find(traces, Compared.differs, settings=rules).show("a small one")
     except NoSuchExample:
         print("no smaller trace was found")
 
 
-def main():
+def main() -> None:
     program, count, seed = sys.argv[1], int(sys.argv[2]), int(sys.argv[3])
     different = 0
-    seen = {}
+    seen: dict[bytes, int] = {}
     for number in range(seed, seed + count):
         both = Compared(program, random.Random(number))
         for line in both.model[0].split(b"\n"):
             kind = line[2:12] if line.startswith(b"t ") else line[:24]
             if line.startswith((b"t ", b"o ", b"| refused", b"| fault", b"| PURGED")):
                 seen[kind] = seen.get(kind, 0) + 1
-        if both.printed != both.model:
+        if both.differs():
             different += 1
             if different <= 10:
                 both.show(f"seed {number}")
