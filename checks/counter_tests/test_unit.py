@@ -8,6 +8,13 @@ from checks.lib.case import Check
 from checks import TOP
 
 
+STRICT = (
+    "--allowJs --checkJs --noEmit --strict --target es2022 --module es2022 --moduleResolution node"
+)
+# The scripts of a page, and the shapes that their comments name.
+SCRIPTS = (("web", "page.d.ts"), ("weighbridge_demo/web", "demo.d.ts"))
+
+
 class Unit(Check):
     """Tests that need no built program."""
 
@@ -28,3 +35,13 @@ class Unit(Check):
             it.returncode == 0 and "# fail 0" in said and "# pass 0" not in said,
             "; ".join(said) or it.stderr[-2000:],
         )
+
+    @case.skip_without("tsc")
+    def test_types_of_the_scripts(self) -> None:
+        for folder, shapes in SCRIPTS:
+            scripts = sorted(map(str, (TOP / "counter" / folder).glob("*.js")))
+            words = ["tsc", *STRICT.split(), "--lib", "dom,dom.iterable,es2022"]
+            it = subprocess.run(
+                [*words, str(TOP / "counter" / shapes), *scripts], capture_output=True, text=True
+            )
+            self.same(f"types of counter/{folder}, by tsc", (0, ""), (it.returncode, it.stdout))

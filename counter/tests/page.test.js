@@ -621,3 +621,14 @@ test('one of each thing that is counted has no plural in any language', async ()
     assert.deepEqual([1, 2].map(it => t('tickets', { number: it })), [one, many]);
   }
 });
+
+const KIND_OF = { a: 'HTMLAnchorElement', input: 'HTMLInputElement', select: 'HTMLSelectElement', button: 'HTMLButtonElement', dialog: 'HTMLDialogElement', form: 'HTMLFormElement' };
+
+test('the shapes of a page name each of its parts, and no other', () => {
+  for (const [shapes, page, name] of [['page', 'web', 'Parts'], ['demo', 'weighbridge_demo/web', 'DemoParts']]) {
+    const read = path => readFileSync(new URL(`../${path}`, import.meta.url), 'utf8');
+    const has = [...read(`${page}/index.html`).matchAll(/<(\w+)\b[^>]*\bid="([^"]+)"/g)].map(([, tag, id]) => `${id}: ${KIND_OF[tag] ?? 'HTMLElement'}`);
+    const named = read(`${shapes}.d.ts`).split(`interface ${name} {`)[1].split('}')[0].split('\n').map(it => it.trim().replaceAll(/[';]/g, '')).filter(Boolean);
+    assert.deepEqual(named.sort(), has.sort());
+  }
+});

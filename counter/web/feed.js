@@ -6,18 +6,23 @@ const AGAIN_AFTER = 1000;
 const COMPARE_EVERY = 60000;
 const ROUND_TRIPS = 4;
 
+/** @param {number} time */
 const pause = time => new Promise(done => setTimeout(done, time));
 const now = () => performance.now();
 
 export class Feed {
   constructor() {
+    /** @type {(name: string, what: any) => void} */
     this.hear = () => {};            // called with the name of an event and what it says
+    /** @type {Weight | null} */
     this.weight = null;
     this.heardAt = -Infinity;
+    /** @type {number | null} */
     this.offset = null;              // this browser's clock less the counter's
     this.trip = Infinity;
     this.apart = Date.now() - now();
     this.comparedAt = now();
+    /** @type {EventSource | null} */
     this.source = null;
   }
 
@@ -46,6 +51,7 @@ export class Feed {
     this.weight = null;
   }
 
+  /** @param {string} name @param {any} what */
   take(name, what) {
     this.heardAt = now();
     if (name === 'hello') this.compareClocks();
@@ -54,7 +60,8 @@ export class Feed {
   }
 
   // This moment by the counter's clock, in milliseconds; nothing while the distance of the clocks isn't known.
-  moment() { return this.offset === null ? {} : { at: Math.round(now() - this.offset) }; }
+  /** @returns {{ at?: string }} */
+  moment() { return this.offset === null ? {} : { at: `${Math.round(now() - this.offset)}` }; }
 
   isGone() { return now() - this.heardAt > SILENT_AFTER; }
 

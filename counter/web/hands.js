@@ -8,8 +8,10 @@ export const HAMMERED_WITHIN = 250;  // milliseconds at most between two presses
 // Nor does the key that answered a question, so a key that is pressed too often doesn't answer the next one. Nor does any such key if one of them changed its plate.
 export class Deafness {
   until = -Infinity;
+  /** @type {string | null} */
   #key = null;
 
+  /** @param {number} at @param {string | null} key */
   begin(at, key = null) {
     this.until = Math.max(this.until, at + DEAF_FOR);
     this.#key = key;
@@ -18,26 +20,33 @@ export class Deafness {
   // Letters were typed in between, so the key isn't hammered.
   typed() { this.#key = null; }
 
+  /** @param {number} at */
   keyAt(at) { return this.isDeaf(at) ? this.#key : null; }
 
+  /** @param {number} at */
   pressed(at) { if (this.isDeaf(at)) this.until = Math.max(this.until, at + HAMMERED_WITHIN); }
 
+  /** @param {number} at */
   isDeaf(at) { return at < this.until; }
 }
 
 // With Alt, because each other key is a letter of the plate or has its use.
 export const SPEAK_KEY = 'KeyW';
 
+/** @type {{ [code: string]: 'zero' | 'last' | 'find' }} */
 export const PAGE_KEYS = { F9: 'zero', F8: 'last', F4: 'find' };
 
 // Each question has keys of its own, so that a key pressed too often answers no other question. Chromium and Firefox leave these keys to the page.
 export const ANSWER_KEYS = { on_site: ['F1', 'F2', 'F3'], spelling: ['F2', 'F3'], another: 'F6', small_net: 'F7', odd_tare: 'F3', off_zero: 'F10' };
 const ANSWERING = new Set(Object.values(ANSWER_KEYS).flat());
 
+/** @type {Deed} */
 const LEAVE = { is: 'left' };        // to the browser
+/** @type {Deed} */
 const STOP = { is: 'stopped' };      // it does nothing, here or in the browser
 
 // `key` is a keydown event, `on` where it came: plate, answer, field or other. `page` has the answers to its question, whether a dialog is open, and what doesn't react.
+/** @param {KeyboardEvent} key @param {string} on @param {{ answers: Pressed[], isDialog: boolean, isDeaf: boolean, deafKey?: string | null }} page @returns {Deed} */
 export function deedOf(key, on, { answers, isDialog, isDeaf, deafKey = null }) {
   if (key.altKey && !key.ctrlKey && !key.metaKey && !key.shiftKey && key.code === SPEAK_KEY) return { is: 'spoken' };
   const isPlain = !key.ctrlKey && !key.altKey && !key.metaKey && !key.shiftKey;

@@ -34,12 +34,14 @@ feed.hear = (name, what) => {
   if (name === 'weight') scheduleExpiry();
 };
 
+/** @type {number | undefined} */
 let expiry;
 function scheduleExpiry() {
   clearTimeout(expiry);
   expiry = setTimeout(show, Math.max(0, OLDEST_WEIGHT - feed.age()) + 5);
 }
 
+/** @param {Hello & { company: string, languages: { [name: string]: string } }} hello */
 function takeHello(hello) {
   known.hello = hello;
   useZone(hello.zone);
@@ -50,6 +52,7 @@ function takeHello(hello) {
   if (wish !== language) change(wish);
 }
 
+/** @param {{ entry: Entry, sums: Sums, on_site: First[], weighed_near: string[] }} told */
 function takeEntry({ entry, sums, on_site: onSite, weighed_near: weighedNear }) {
   Object.assign(known, { sums, onSite, weighedNear });
   clerk.newest = entry.number;
@@ -57,12 +60,14 @@ function takeEntry({ entry, sums, on_site: onSite, weighed_near: weighedNear }) 
   if (!known.today.some(it => it.number === entry.number)) known.today.unshift(entry);
 }
 
+/** @param {{ number: number, given: Given }} told */
 function takeGiven({ number: of, given }) {
   for (const it of [...known.onSite, ...known.today]) if (it.number === of) it.given = given;
 }
 
+/** @param {{ [plate: string]: Kept | null }} tares */
 function takeTares(tares) {
-  known.tares = Object.fromEntries(Object.entries(tares).filter(([, it]) => it !== null));
+  known.tares = Object.fromEntries(Object.entries(tares).flatMap(([of, it]) => it === null ? [] : [[of, it]]));
   if (part('keeping').open) showKept();
 }
 
@@ -70,8 +75,10 @@ function takeTares(tares) {
 
 async function setZero() {
   const answer = await askJson('POST', '/zero');
+  /** @type {{ [said: string]: [string, string] }} */
   const words = { 'Z A': ['ok', 'zero_set'], 'Z I': ['bad', 'zero_moves'], 'Z +': ['bad', 'zero_too_much'], 'Z -': ['bad', 'zero_too_little'] };
-  tell(...(words[answer?.said] ?? (answer?.why === 'not_sent' ? ['bad', 'zero_not_sent'] : ['bad', 'zero_unknown_now'])));
+  const [look, word] = words[answer?.said] ?? ['bad', answer?.why === 'not_sent' ? 'zero_not_sent' : 'zero_unknown_now'];
+  tell(look, word);
   focusPlate();
 }
 
@@ -86,6 +93,7 @@ async function closeJournalBar() {
   focusPlate();
 }
 
+/** @param {number} number */
 async function printNumber(number, byBrowser = false) {
   const isAtPrinter = await print(number, known.papers.printers, byBrowser);
   if (isAtPrinter === null) tell('bad', 'not_printed');
@@ -93,7 +101,7 @@ async function printNumber(number, byBrowser = false) {
   focusPlate();
 }
 
-const printResult = () => printNumber(clerk.result.number);
+const printResult = () => clerk.result && printNumber(clerk.result.number);
 
 async function printLast() {
   const last = clerk.result?.number ?? known.today[0]?.number;
@@ -109,6 +117,7 @@ async function printToday() {
   focusPlate();
 }
 
+/** @param {Papers} papers */
 function takePapers(papers) {
   known.papers = papers;
   if (part('printing').open) showPapers();
@@ -121,6 +130,7 @@ function openPapers() {
   part('printing').showModal();
 }
 
+/** @param {{ plate: string, kg: number }} tare */
 async function keepTareOf({ plate: of, kg: value }) {
   const isKept = (await keepTare(of, value))?.status === 200;
   if (isKept && clerk.result?.tare?.plate === of) clerk.result.tare = null;
@@ -129,12 +139,14 @@ async function keepTareOf({ plate: of, kg: value }) {
 }
 
 // The tare is used once in any case. A clerk who ticked that it is kept must know if it isn't.
+/** @param {string} of @param {number} value */
 async function keepTyped(of, value) {
   const answer = await keepTare(of, value);
   if (answer?.status !== 200) tell('bad', 'tare_not_kept', `${of}: ${kg(value)}`);
 }
 
 // Once the clerk has typed a plate, the counter tells what it knows of it.
+/** @type {number | undefined} */
 let asking;
 function askPlate() {
   clearTimeout(asking);
@@ -143,6 +155,7 @@ function askPlate() {
   if (isPlate(of) && clerk.ofPlate === null) asking = setTimeout(() => lookUp(of), TYPED_FOR);
 }
 
+/** @param {string} of */
 async function lookUp(of) {
   const answer = await askJson('GET', `/plates/${of}`);
   if (plate() !== of || answer?.status !== 200) return;
@@ -211,6 +224,7 @@ const isTouched = () => matchMedia('(pointer: coarse)').matches;
 const focusPlate = () => { if (!isAsking() && !isTouched()) part('plate').focus(); };
 
 // The clerk must see what was taken from a list or answered before it is weighed.
+/** @param {string} [key] */
 function beDeaf(key) {
   clerk.deafness.begin(performance.now(), key);
   showDeafness();
@@ -229,17 +243,20 @@ function askGiven() {
   part('giving').showModal();
 }
 
+/** @param {Given} given @param {boolean} isTyped */
 function fillGiven(given, isTyped) {
   for (const it of GIVEN) part(it).value = given[it] ?? '';
   clerk.isGivenTyped = isTyped;
 }
 
 // Letters that a printer would print as a question mark or as an empty box. Without an answer nothing is said.
+/** @param {Given} given @returns {Promise<string>} */
 async function unprintable(given) {
   const answer = await askJson('GET', `/printable?${new URLSearchParams(given)}`);
   return answer?.status === 200 ? answer.unprintable : '';
 }
 
+/** @param {Event} event */
 async function useGiven(event) {
   event.preventDefault();
   if (isOver()) {
@@ -254,12 +271,13 @@ async function useGiven(event) {
 const clearGiven = () => fillGiven({}, false);
 
 function giveAsBefore() {
-  fillGiven(clerk.ofPlate.given, true);
+  fillGiven(clerk.ofPlate?.given ?? {}, true);
   show();
   focusPlate();
 }
 
 // Free lines of a weighing that is stored already.
+/** @param {Entry} entry @param {Given} given */
 async function giveLater(entry, given) {
   const answer = await askJson('PUT', `/entries/${entry.number}/given`, JSON.stringify(given));
   if (answer?.status === 200) tell('ok', 'lines_saved');
@@ -267,8 +285,10 @@ async function giveLater(entry, given) {
 }
 
 // What the clerk typed for one vehicle.
+/** @returns {Form} */
 const formNow = () => ({ plate: plate(), oneTare: clerk.oneTare, isFirstInstead: clerk.isFirstInstead, isOnce: clerk.isOnce, isGivenTyped: clerk.isGivenTyped, given: givenTyped() });
 
+/** @param {Form} form */
 function fillForm({ plate: of, given, isGivenTyped, ...choice }) {
   part('plate').value = of;
   fillGiven(given, isGivenTyped);
@@ -290,6 +310,7 @@ function clearPlate() {
 }
 
 // The load has left for which the plate was typed, or may have. A clerk whose vehicle is still there gets the plate back by one press.
+/** @param {string} of @param {boolean} wasUnseen */
 function plateLeft(of, wasUnseen) {
   clerk.formThatLeft = formNow();
   emptyForm();
@@ -309,7 +330,7 @@ function isOver() {
 }
 
 function plateAgain() {
-  fillForm(clerk.formThatLeft);
+  if (clerk.formThatLeft) fillForm(clerk.formThatLeft);
   clerk.answered = {};
   clerk.result = clerk.told = null;
   beDeaf();
@@ -318,6 +339,7 @@ function plateAgain() {
 
 // What the clerk typed for one vehicle leaves the form with its request, so that letters typed before the answer are the next vehicle's plate, whole. If
 // nothing was stored, it comes back, unless the next plate has been begun or the load has left. If the same load moved, the press waits for it.
+/** @param {string} subject @param {number} since @returns {GiveBack} */
 function takeForm(subject, since) {
   const loads = clerk.plateOfLoad.loads, held = formNow();
   clearPlate();
@@ -336,11 +358,13 @@ function takeForm(subject, since) {
 }
 
 // Another vehicle: what was typed for the paper of the one before isn't for its paper. A part of a plate is no other vehicle.
+/** @param {string} of */
 function takeVehicle(of) {
   if (!bare(of).includes(bare(plate()))) clearGiven();
   take(of);
 }
 
+/** @param {string} of @param {string} [key] */
 function take(of, key) {
   part('plate').value = of;
   typed();
@@ -348,20 +372,22 @@ function take(of, key) {
   focusPlate();
 }
 
+/** @param {Pressed} it */
 function answer(it) {
   if (it.plate !== undefined) {
     take(it.plate, it.key);
     return;
   }
-  clerk.answered = { ...clerk.answered, [it.question]: it.subject };
+  clerk.answered = { ...clerk.answered, [it.question ?? '']: it.subject };
   beDeaf(it.key);
   focusPlate();
 }
 
+/** @param {Event} [event] */
 function typed(event) {
-  const field = part('plate'), text = plateOf(event?.inputType === 'insertFromPaste' ? field.value.trimEnd() : field.value);
+  const field = part('plate'), text = plateOf(event instanceof InputEvent && event.inputType === 'insertFromPaste' ? field.value.trimEnd() : field.value);
   if (text !== field.value) {
-    const at = field.selectionStart + text.length - field.value.length;
+    const at = (field.selectionStart ?? 0) + text.length - field.value.length;
     field.value = text;
     field.setSelectionRange(at, at);
   }
@@ -377,9 +403,10 @@ function typed(event) {
 Object.assign(acts, {
   set_zero: setZero, clear_tare: clearTare, journal_seen: closeJournalBar, print: printResult, print_number: printNumber, show_papers: openPapers, keep_tare: keepTareOf, tare_from_papers: askTare, given_lines: askGiven, given_as_before: giveAsBefore, give_later: giveLater, first_instead: weighFirstInstead, weigh_once: weighOnce,
   plate_left: plateLeft, plate_again: plateAgain, weigh, disarm, armed_over: armedOver, choice_changed: () => beDeaf(ALL_KEYS),
-  withdraw: ({ plate: of, number: first }) => begin('/voids', { plate: of }, undefined, { first }), take: takeVehicle, answer, clear: clearPlate, focus: focusPlate,
+  withdraw: (/** @type {Entry} */ { plate: of, number: first }) => begin('/voids', { plate: of }, undefined, { first }), take: takeVehicle, answer, clear: clearPlate, focus: focusPlate,
 });
 
+/** @param {Event} event */
 function press(event) {
   event.preventDefault();
   show();
@@ -390,6 +417,7 @@ function press(event) {
   show();
 }
 
+/** @param {Now} now */
 function arm(now) {
   clerk.told = null;                 // that an earlier press is over
   clerk.arming.begin(subjectOf(now.plate, choiceOf(now)), performance.now());
@@ -414,11 +442,13 @@ function disarm() {
   focusPlate();
 }
 
+/** @param {Element} target */
 function placeOf(target) {
   if (target === part('plate')) return 'plate';
   return target.closest?.('.answer') ? 'answer' : ['INPUT', 'SELECT'].includes(target.tagName) ? 'field' : 'other';
 }
 
+/** @param {KeyboardEvent} event */
 function keyed(event) {
   if (clerk.arming.isArmed && !isAsking() && event.key === 'Escape') {
     event.preventDefault();
@@ -428,7 +458,7 @@ function keyed(event) {
   if (event.key.length === 1 && !isAsking()) clerk.arming.end();
   show();                            // what is asked now
   const at = performance.now();
-  const deed = deedOf(event, placeOf(event.target), { answers: clerk.answers, isDialog: isAsking(), isDeaf: clerk.deafness.isDeaf(at), deafKey: clerk.deafness.keyAt(at) });
+  const deed = deedOf(event, placeOf(/** @type {Element} */ (event.target)), { answers: clerk.answers, isDialog: isAsking(), isDeaf: clerk.deafness.isDeaf(at), deafKey: clerk.deafness.keyAt(at) });
   if (!['left', 'typed', 'closing'].includes(deed.is)) event.preventDefault();
   if (deed.is === 'answered') answer(deed.answer);
   if (deed.is === 'clicked') part(deed.part).click();
@@ -441,7 +471,7 @@ function keyed(event) {
 
 // A screen reader reads what is new in this part. The blank makes the same weight new again.
 function speakWeight() {
-  const said = ['state', 'kind', 'weight'].map(it => part(it).textContent).filter(Boolean).join(' ');
+  const said = [part('state'), part('kind'), part('weight')].map(it => it.textContent).filter(Boolean).join(' ');
   part('spoken').textContent = part('spoken').textContent === said ? `${said}\u00a0` : said;
 }
 
@@ -453,19 +483,25 @@ function closed() {
 }
 
 // The form has just changed, so the second of two quick clicks finds another button where the first one was.
+/** @param {MouseEvent} event */
 function clicked(event) {
   const isDeaf = clerk.deafness.isDeaf(performance.now()), isByHand = event.detail > 0;
-  if (!isDeaf || !isByHand || !(event.detail > 1 || part('weigh').contains(event.target))) return;
+  if (!isDeaf || !isByHand || !(event.detail > 1 || part('weigh').contains(/** @type {Node} */ (event.target)))) return;
   event.preventDefault();
   event.stopImmediatePropagation();
 }
 
+// The parts whose text, label or region is a word.
+/** @param {'word' | 'region' | 'label'} what */
+const having = what => /** @type {NodeListOf<HTMLElement>} */ (document.querySelectorAll(`[data-${what}]`));
+
+/** @param {string} to */
 async function change(to, isChosen = false) {
   if (!await speak(to, isChosen)) return false;
   part('language').value = to;
-  for (const it of document.querySelectorAll('[data-word]')) it.textContent = t(it.dataset.word);
-  for (const it of document.querySelectorAll('[data-region]')) it.setAttribute('aria-label', t(it.dataset.region));
-  for (const it of document.querySelectorAll('[data-label]')) { it.title = t(it.dataset.label); it.setAttribute('aria-label', t(it.dataset.label)); }
+  for (const it of having('word')) it.textContent = t(it.dataset.word ?? '');
+  for (const it of having('region')) it.setAttribute('aria-label', t(it.dataset.region ?? ''));
+  for (const it of having('label')) { it.title = t(it.dataset.label ?? ''); it.setAttribute('aria-label', it.title); }
   showLists();
   show();
   return true;
@@ -496,7 +532,7 @@ function listenToHands() {
   part('language').addEventListener('change', () => change(part('language').value, true).then(focusPlate));
   part('theme').addEventListener('click', turnTheme);
   part('serial').addEventListener('click', showRuns);
-  for (const it of document.querySelectorAll('.close')) it.addEventListener('click', () => it.closest('dialog').close());
+  for (const it of document.querySelectorAll('.close')) it.addEventListener('click', () => it.closest('dialog')?.close());
   for (const it of document.querySelectorAll('dialog')) it.addEventListener('close', closed);
   document.addEventListener('keydown', keyed, { capture: true });
   document.addEventListener('click', clicked, { capture: true });
@@ -511,7 +547,7 @@ function showMoments() {
 }
 
 async function main() {
-  try { if (localStorage.getItem(THEME)) document.documentElement.dataset.theme = localStorage.getItem(THEME); } catch { /* the system's */ }
+  try { if (localStorage.getItem(THEME)) document.documentElement.dataset.theme = localStorage.getItem(THEME) ?? ''; } catch { /* the system's */ }
   listenToHands();
   while (!await change(wantedLanguage('en')) && !await change('en')) await new Promise(done => setTimeout(done, 1000));
   feed.begin();

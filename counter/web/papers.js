@@ -8,7 +8,9 @@ import { ask, askJson } from './request.js';
 import { dayOf, has, kg, paperOf, t, timeOf } from './words.js';
 
 // Papers come in the order in which they were pressed: so the first one is the original.
+/** @type {Promise<unknown>} */
 let before = Promise.resolve();
+/** @param {[number: number, printers: string[], byBrowser?: boolean]} paper @returns {Promise<boolean | null>} */
 export function print(...paper) {
   const mine = before.then(() => printOne(...paper));
   before = mine.catch(() => null);
@@ -16,6 +18,7 @@ export function print(...paper) {
 }
 
 // By a printer that the counter has; without one the browser prints. Whether it is the original is the counter's to say. True: a printer has it; false: the browser.
+/** @param {number} number @param {string[]} printers @returns {Promise<boolean | null>} */
 async function printOne(number, printers, byBrowser = false) {
   if (printers.length && !byBrowser) return (await askJson('POST', `/papers/${number}`, ''))?.status === 202 ? true : null;
   const paper = await askJson('POST', `/papers/${number}/browser`, '');
@@ -25,6 +28,7 @@ async function printOne(number, printers, byBrowser = false) {
   return false;
 }
 
+/** @param {number} number @returns {Promise<{ text?: string, from?: string, why?: string }>} */
 export async function textAgain(number) {
   const answer = await askJson('GET', `/entries/${number}`);
   if (answer?.text !== undefined) return { text: answer.text, from: answer.from };
@@ -36,16 +40,17 @@ let opened = 0;
 
 // Opens the text of an entry; of two presses only the newer one's. `press` prints its paper, `isOpenFirst` says whether it is an open first weighing now, `withdraw` begins its void,
 // `give` changes its free lines.
+/** @param {Entry} entry @param {string[]} printers @param {(number: number, byBrowser: boolean) => void} press @param {() => boolean} isOpenFirst @param {(entry: Entry) => void} withdraw @param {Give} give */
 export async function openEntry(entry, printers, press, isOpenFirst, withdraw, give) {
   const mine = ++opened, { text, from, why } = await textAgain(entry.number);
   if (mine !== opened) return;
   part('entry-title').textContent = `${paperOf(entry)} ${entry.number} · ${entry.plate}`;
   part('entry-sub').textContent = [t(`kind_${entry.kind}`), `${dayOf(entry.at)} ${timeOf(entry.at)}`, ...moreOf(entry)].join(' · ');
-  part('entry-text').textContent = text ?? why;
+  part('entry-text').textContent = text ?? why ?? '';
   part('entry-from').textContent = text === undefined ? '' : `${t(`from_${from}`)} ${t('in_utc')}`;
   const tools = [];
   // the dialog is closed first: it would take the letters of the next plate
-  const prints = byBrowser => () => { part('entry').close(); press(entry.number, byBrowser); };
+  const prints = (/** @type {boolean} */ byBrowser) => () => { part('entry').close(); press(entry.number, byBrowser); };
   if (text !== undefined) tools.push(button(t('print_again'), prints(false), { autofocus: true }));
   if (text !== undefined && printers.length) tools.push(button(t('print_by_browser'), prints(true)));
   if (text !== undefined && entry.kind !== 'void') tools.push(button(t('give_lines'), () => openGiven(entry, give)));
@@ -56,7 +61,9 @@ export async function openEntry(entry, printers, press, isOpenFirst, withdraw, g
 }
 
 // Free lines of a weighing that is stored. `give` returns the answer.
+/** @param {Entry} entry @param {Give} give */
 function openGiven(entry, give) {
+  /** @type {[string, HTMLInputElement][]} */
   const fields = GIVEN.map(name => [name, make('input', { className: 'free', maxLength: 60, value: entry.given[name] ?? '' })]);
   const why = make('p', { role: 'alert' });
   const save = button(t('save_lines'), async () => {
@@ -70,6 +77,7 @@ function openGiven(entry, give) {
   part('changing').showModal();
 }
 
+/** @param {Entry} entry */
 function moreOf(entry) {
   const by = withdrawnBy().get(entry.number);
   return [
@@ -80,7 +88,9 @@ function moreOf(entry) {
 
 // The clerk must press it twice. A double click isn't enough. A void names the plate, not the entry. So if the plate has another open first weighing by now, or
 // none, the button refuses. It does so too while the page can't know that, or has a request under way.
+/** @param {Entry} entry @param {() => boolean} isOpenFirst @param {(entry: Entry) => void} withdraw */
 function voidButton(entry, isOpenFirst, withdraw) {
+  /** @type {number | null} */
   let askedAt = null;
   const made = button(t('withdraw'), () => {
     if (linkNow() === 'off' || clerk.waiting) {
@@ -105,9 +115,11 @@ function voidButton(entry, isOpenFirst, withdraw) {
   return made;
 }
 
+/** @param {string} plate @param {number} value */
 export const keepTare = (plate, value) => ask('PUT', `/tares/${plate}`, JSON.stringify({ kg: value }));
 
 // What waits for a printer and what failed, each with its reason.
+/** @param {Papers} papers @param {(method: string, target: string) => void} again */
 export function showJobs(papers, again) {
   part('jobs').replaceChildren(...papers.jobs.map(it => make('li', {}, make('b', { textContent: `${paperOf(it)} ${it.number} · ${it.plate}` }),
     make('p', { textContent: `${it.printer}: ${t(`job_${it.state}`)}${it.why ? ` ${t(`trouble_${it.why}`)}` : ''}` }),

@@ -4,6 +4,7 @@ import { make, part } from './parts.js';
 import { askJson } from './request.js';
 import { dayOf, number, t, timeOf } from './words.js';
 
+/** @param {string} word @param {(string | undefined)[]} texts */
 const rows = (word, ...texts) => [make('dt', { textContent: t(word) }), ...texts.filter(Boolean).map(textContent => make('dd', { textContent }))];
 
 export async function showRuns() {
@@ -12,6 +13,7 @@ export async function showRuns() {
   part('running').showModal();
 }
 
+/** @param {Runs} runs */
 function factsOf({ service, newest }) {
   const journal = rows('runs_newest', newest ? number(newest.number) : t('runs_no_entry'), newest?.digest);
   if (service === null) return [make('dt', { className: 'bad', textContent: t('runs_unseen') }), ...journal];

@@ -8,9 +8,11 @@ import { button, make, onlyChanged, part } from './parts.js';
 import { dateOf, has, kg, language, number, t, whenOf } from './words.js';
 
 const RESULT_AFTER_LEAVING = 2500;   // milliseconds that a result stays once the vehicle has left
+/** @type {{ [look: string]: string }} */
 const SIGNS = { ok: '✔', wait: '◔', bad: '⚠', calm: '▷', do: '➜' };
 
 // What may be pressed, by its word. Whoever does it puts it in here.
+/** @type {any} */
 export const acts = {};
 
 export const isAsking = () => document.querySelector('dialog[open]') !== null;
@@ -43,6 +45,7 @@ export function show() {
 }
 
 // While a press waits for the load to stand still, good news waits too. Returns true if the press is over, and what follows from that is shown.
+/** @param {Now} now @param {Told} told */
 function goesOn(now, told) {
   if (!clerk.arming.isArmed) return false;
   const asked = isAsking() ? { word: 'one_moment' } : told.look === 'ok' || isPast(told) ? step({ ...now, told: null }) : told;
@@ -52,9 +55,11 @@ function goesOn(now, told) {
   return outcome === 'fires' || outcome === 'over';
 }
 
+/** @param {string} plate @returns {Told} */
 const armed = plate => ({ look: 'wait', word: 'armed', values: { plate }, choices: ['disarm'] });
 
 // What came of a press stays until the vehicle has left for a while, and goes when the next one comes.
+/** @param {Now} now */
 function forgetResult(now) {
   const result = clerk.result, gross = grossOf(now.weight);
   if (!result || gross === null) return;
@@ -63,13 +68,15 @@ function forgetResult(now) {
 }
 
 // Another load may be on the bridge: neither answers nor what came of an older press are of it, unless the counter saw that it is the load that was weighed.
+/** @param {Now} now */
 function forgetLoad(now) {
   clerk.answered = {};
-  const isItsLoad = now.state.bridge === 'weighed' && now.newest?.number === clerk.result?.number;
+  const isItsLoad = now.state?.bridge === 'weighed' && now.newest?.number === clerk.result?.number;
   if (!now.isResultNew && !isItsLoad) clerk.result = null;
 }
 
 // Whether the plate in the form, or a key, now means another weighing or vehicle than the clerk saw last, by what a colleague did or by the time.
+/** @param {Now} now @param {Told} told */
 function isOtherChoice(now, told) {
   const shown = clerk.choice, plates = Object.fromEntries((told.answers ?? []).filter(it => it.plate).map(it => [it.key, it.plate]));
   const choice = clerk.choice = { plate: now.plate, weighing: weighingOf(choiceOf(now)), plates };
@@ -78,60 +85,76 @@ function isOtherChoice(now, told) {
 }
 
 // An answer is for one vehicle. Once the bridge is empty, the page asks again for the next one.
+/** @param {Now} now */
 function forgetAnswers(now) {
   const gross = grossOf(now.weight);
   if (gross !== null && gross < now.min) clerk.answered = {};
 }
 
+/** @type {{ [state: string]: string[] }} */
+const STATES = { S: ['ok', 'stable'], D: ['wait', 'moves'] };
+/** @type {{ [state: string]: string }} */
+const SHORT = { '+': 'overload_short', '-': 'below_short', I: 'no_weight_short' };
+
+/** @param {Now} now */
 function showScale({ link, weight }) {
   const hasWeight = weight !== null && weight.net !== null, isNet = hasWeight && Boolean(weight.tare);
-  part('scale').dataset.look = hasWeight ? { S: 'ok', D: 'wait' }[weight.state] : 'bad';
-  part('state').textContent = t(hasWeight ? { S: 'stable', D: 'moves' }[weight.state] : 'none');
+  const [look, word] = hasWeight ? STATES[weight.state] : ['bad', 'none'];
+  part('scale').dataset.look = look;
+  part('state').textContent = t(word);
   part('kind').textContent = hasWeight ? t(isNet ? 'net' : 'gross') : '';
-  part('parts').textContent = isNet ? t('net_parts', { tare: kg(weight.tare), gross: kg(grossOf(weight)) }) : '';
+  part('parts').textContent = isNet ? t('net_parts', { tare: kg(weight.tare ?? 0), gross: kg(grossOf(weight) ?? 0) }) : '';
   part('weight').classList.toggle('words', !hasWeight);
-  if (hasWeight) part('weight').replaceChildren(number(weight.net), make('small', { textContent: ' kg' }));
-  else part('weight').textContent = t({ '+': 'overload_short', '-': 'below_short', I: 'no_weight_short' }[weight?.state] ?? (link === 'off' || link === 'down' ? 'no_connection_short' : 'no_weight_short'));
+  if (hasWeight) part('weight').replaceChildren(number(weight.net ?? 0), make('small', { textContent: ' kg' }));
+  else part('weight').textContent = t(SHORT[weight?.state ?? ''] ?? (link === 'off' || link === 'down' ? 'no_connection_short' : 'no_weight_short'));
 }
 
-const showGuide = onlyChanged(told => {
+const showGuide = onlyChanged((/** @type {Told & { language: string }} */ told) => {
   part('guide').dataset.look = told.look;
-  part('sign').textContent = SIGNS[told.look];
+  part('sign').textContent = SIGNS[told.look ?? ''];
   const values = inWords(told.values ?? {});
   part('words').textContent = t(told.word, values);
   part('more').textContent = told.more ?? (has(`${told.word}_more`) ? t(`${told.word}_more`, values) : '');
   part('choices').replaceChildren(...(told.choices ?? []).map(choiceButton));
 });
 
+/** @param {HTMLElement} made @param {string | undefined} key */
 function withKey(made, key) {
   if (key) made.append(' ', make('kbd', { textContent: key }));
   return made;
 }
 
+/** @type {{ [act: string]: string | undefined }} */
 const KEY_OF = { set_zero: Object.keys(PAGE_KEYS).find(it => PAGE_KEYS[it] === 'zero'), disarm: 'Esc' };
+/** @param {string} it */
 const choiceButton = it => withKey(button(t(it), acts[it], { className: 'choice' }), KEY_OF[it]);
-const answerButton = it => withKey(button(it.plate ?? t(it.word), () => acts.answer(it), { className: 'answer' }), it.key);
+/** @param {Pressed} it */
+const answerButton = it => withKey(button(it.plate ?? t(it.word ?? ''), () => acts.answer(it), { className: 'answer' }), it.key);
 
 // Weights among values are written as such.
+/** @param {Values} values @returns {Values} */
 function inWords(values) {
   return Object.fromEntries(Object.entries(values).map(([name, it]) => [name, typeof it === 'number' && name !== 'number' ? kg(it) : it]));
 }
 
+/** @param {Now} now @param {Told} told @returns {Shown} */
 function formOf(now, told) {
   const choice = choiceOf(now), isReady = Boolean(told.isReady) && !clerk.waiting, net = netOf(choice, grossOf(now.weight));
   const isArmable = Boolean(told.isArmable) && !clerk.waiting;
-  return { plate: now.plate, choice, isReady, isArmable, isArmed: clerk.arming.isArmed, net: isReady && net > 0 ? net : null, kept: now.tares[now.plate], answers: clerk.answers, tareOf: clerk.result?.tare, given: linesOf(givenOf(choice)), before: givenBefore(now.plate, choice), language };
+  return { plate: now.plate, choice, isReady, isArmable, isArmed: clerk.arming.isArmed, net: isReady && net !== null && net > 0 ? net : null, kept: now.tares[now.plate], answers: clerk.answers, tareOf: clerk.result?.tare, given: linesOf(givenOf(choice)), before: givenBefore(now.plate, choice), language };
 }
 
+/** @param {Choice} choice */
 const weighs = ({ kind, tare, isOnce }) => isOnce ? t('weigh_once') : t(`weigh_${kind}`, { tare: tare ? kg(tare) : '' });
 
 // What was given for the plate's last paper, if the clerk has given nothing for this one.
+/** @param {string} plate @param {Choice} choice @returns {string} */
 function givenBefore(plate, choice) {
   const { ofPlate } = clerk;
   return ofPlate?.plate === plate && !linesOf(givenOf(choice)) && !clerk.isGivenTyped ? linesOf(ofPlate.given) : '';
 }
 
-const showForm = onlyChanged(form => {
+const showForm = onlyChanged((/** @type {Shown} */ form) => {
   const { choice } = form;
   part('go').disabled = !form.isReady && (!form.isArmable || form.isArmed);
   part('go').dataset.look = form.isReady ? 'weighs' : form.isArmable ? 'arms' : '';
@@ -141,17 +164,20 @@ const showForm = onlyChanged(form => {
   part('others').replaceChildren(...othersOf(form));
 });
 
+/** @param {Shown} form */
 function hintsOf(form) {
   const about = form.answers.some(it => it.plate) ? [make('b', { textContent: t('one_of_these') })] : form.answers.length ? [] : aboutPlate(form);
   return [...about, ...form.answers.map(answerButton)];
 }
 
+/** @param {Shown} form */
 function aboutPlate({ plate, choice, kept }) {
   if (choice.first) return [make('b', { textContent: t('on_site_since', { time: whenOf(choice.first.at), kg: kg(choice.first.gross) }) })];
   if (kept) return [make('b', { textContent: t(kept.is_over ? 'tare_is_over' : kept.by ? 'tare_is_kept_by' : 'tare_is_kept', { kg: kg(kept.kg), day: dateOf(kept.until), by: kept.by }) })];
   return plate ? [make('span', { textContent: t('not_on_site') })] : [];
 }
 
+/** @param {Shown} form */
 function othersOf({ plate, choice, tareOf, given, before }) {
   const others = [];
   if (choice.kind === 'single') others.push(button(t('first_instead'), acts.first_instead));
@@ -163,6 +189,7 @@ function othersOf({ plate, choice, tareOf, given, before }) {
   return others;
 }
 
+/** @param {Now} now @returns {Alarm[]} */
 function alarmsOf({ link, state, papers }) {
   if (state === null || link === 'off') return [];
   const alarms = [];
@@ -182,6 +209,7 @@ function alarmsOf({ link, state, papers }) {
 }
 
 // One bar for each printer at which papers wait with a reason, or failed.
+/** @param {Papers} papers @returns {Alarm[]} */
 function papersInTrouble({ jobs }) {
   const printers = [...new Set(jobs.filter(it => it.why || it.state === 'failed').map(it => it.printer))];
   return printers.map(printer => {
@@ -190,12 +218,12 @@ function papersInTrouble({ jobs }) {
   });
 }
 
-const showAlarms = onlyChanged(alarms => {
+const showAlarms = onlyChanged((/** @type {Alarm[]} */ alarms) => {
   part('alarms').replaceChildren(...alarms.map(it => make('div', { className: it.look }, make('span', { textContent: it.text }), ...(it.choice ? [button(t(it.choice), acts[it.choice])] : []))));
 });
 
 // The bar stays if the counter is gone, because what was weighed before is no weighing for all that.
-const showDemo = onlyChanged(({ demo, company }) => {
+const showDemo = onlyChanged((/** @type {{ demo: { page: string | null } | null, company: string | undefined, language: string }} */ { demo, company }) => {
   part('demo').hidden = demo === null;
   if (company) document.title = demo ? `DEMO · ${company}` : company;
   if (!demo) return;
@@ -204,4 +232,4 @@ const showDemo = onlyChanged(({ demo, company }) => {
   part('demo').replaceChildren(make('strong', { textContent: 'DEMO' }), ` ${t('demo')}`, ...link);
 });
 
-const showNote = onlyChanged(text => { part('note').textContent = text; });
+const showNote = onlyChanged((/** @type {string} */ text) => { part('note').textContent = text; });

@@ -8,7 +8,9 @@ import { dateOf, kg, number, t } from './words.js';
 
 const MOST_ROWS = 200;
 const NOBODY = { plate: null, at: 0 };
+/** @type {{ plate: string | null, at: number }} */
 let asked = NOBODY;                  // which one the clerk was asked about, and when
+/** @type {string | null} */
 let failed = null;                   // the plate whose tare couldn't be dropped
 
 export function forgetPress() {
@@ -17,6 +19,7 @@ export function forgetPress() {
 }
 
 // `drop` drops the tare of a plate, and returns whether that was done. The counter then tells the page, which shows the others.
+/** @param {{ [plate: string]: Kept }} tares @param {Drop} drop */
 export function showTares(tares, drop) {
   const query = part('kept-query').value.toUpperCase().replace(/[^A-Z0-9]/g, '');
   const plates = Object.keys(tares).filter(it => it.replaceAll('-', '').includes(query)).sort();
@@ -26,6 +29,7 @@ export function showTares(tares, drop) {
     ...(plates.length ? [] : [make('li', { className: 'none', textContent: t('none_kept') })]));
 }
 
+/** @param {string} plate @param {Kept} tare @param {() => void} act */
 function rowOf(plate, { kg: value, until, by, used, is_over: isOver }, act) {
   const says = [t(isOver ? 'kept_over' : 'kept_until', { day: dateOf(until) }), ...(by ? [t('kept_by', { by })] : []), used ? t('kept_used', { day: dateOf(used) }) : t('kept_unused')];
   const row = make('div', {}, make('b', { textContent: `${plate} · ${kg(roundedTare(value, known.hello.interval))}` }), make('p', { textContent: says.join(' · ') }));
@@ -35,6 +39,7 @@ function rowOf(plate, { kg: value, until, by, used, is_over: isOver }, act) {
 }
 
 // The clerk must press it twice. A double click isn't enough.
+/** @param {string} plate @param {{ [plate: string]: Kept }} tares @param {Drop} drop */
 function press(plate, tares, drop) {
   const now = performance.now();
   if (asked.plate !== plate) asked = { plate, at: now };

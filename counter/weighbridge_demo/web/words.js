@@ -1,8 +1,10 @@
 // The words of the page in each language.
 
+/** @type {{ [language: string]: string }} */
 const PLACES = { en: 'en-GB', de: 'de-DE', fr: 'fr-FR', es: 'es-ES' };
 export const NAMES = { en: 'English', de: 'Deutsch', fr: 'Français', es: 'Español' };
 
+/** @type {{ [key: string]: string[] }} */
 const WORDS = {
   language: ['Language', 'Sprache', 'Langue', 'Idioma'],
   demo: ['The weights are simulated. Nothing here is a weighing.', 'Die Gewichte sind simuliert. Nichts hier ist eine Wägung.', 'Les poids sont simulés. Rien ici n’est une pesée.', 'Los pesos son simulados. Nada de esto es una pesada.'],
@@ -51,12 +53,16 @@ const WORDS = {
 const LANGUAGES = Object.keys(NAMES);
 export let language = 'en';
 
+/** @param {string} name */
 export function speak(name) {
   language = LANGUAGES.includes(name) ? name : 'en';
   document.documentElement.lang = language;
 }
 
-export const wanted = () => [new URLSearchParams(location.search).get('lang'), ...navigator.languages.map(it => it.slice(0, 2))].find(it => LANGUAGES.includes(it)) ?? 'en';
-export const t = (key, values = {}) => WORDS[key][LANGUAGES.indexOf(language)].replace(/\{(\w+)\}/g, (_, name) => values[name] ?? '');
-export const number = (value, digits = 0) => new Intl.NumberFormat(PLACES[language], { minimumFractionDigits: digits, maximumFractionDigits: digits, useGrouping: 'always' }).format(value);
+export const wanted = () => [new URLSearchParams(location.search).get('lang'), ...navigator.languages.map(it => it.slice(0, 2))].find(it => it && LANGUAGES.includes(it)) ?? 'en';
+/** @param {string} key @param {{ [name: string]: string | number }} values */
+export const t = (key, values = {}) => WORDS[key][LANGUAGES.indexOf(language)].replace(/\{(\w+)\}/g, (_, name) => `${values[name] ?? ''}`);
+/** @param {number} value @returns {string} */
+export const number = (value, digits = 0) => new Intl.NumberFormat(PLACES[language], { minimumFractionDigits: digits, maximumFractionDigits: digits, useGrouping: /** @type {any} */ ('always') }).format(value);
+/** @param {number} value */
 export const kg = value => `${number(value)} kg`;
