@@ -48,7 +48,7 @@ class OneConnection(aiohttp.TCPConnector):
 
 
 class Answers(Protocol):
-    """What answers requests as the office does: the office, or one that a test plays."""
+    """An office, or one that a test plays. It answers requests."""
 
     async def ask(
         self, method: str, target: str, body: bytes | None = None, within: float = WITHIN
