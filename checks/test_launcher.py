@@ -26,7 +26,7 @@ CRATES = {
     "weighbridge": "left right",
     "weighbridge_converter": "low",
 }
-BUILT = """// The program tells both.
+BUILT = """// The program prints both.
 KIT = "a kit that isn't named, since ./weighbridge didn't build it"
 SOURCES = "not counted, since ./weighbridge didn't build it"
 """
@@ -231,12 +231,12 @@ class Launcher(Check):
             digest.update(f"{its}  {path}\n".encode())
         counted = (crates / "weighbridge/out/counted/src/built.rt").read_text()
         wanted = (
-            f'// The program tells both.\nKIT = "{KIT_LINE}"\nSOURCES = "{digest.hexdigest()}"\n'
+            f'// The program prints both.\nKIT = "{KIT_LINE}"\nSOURCES = "{digest.hexdigest()}"\n'
         )
         self.same("the copy that is proved", wanted, counted)
         self.same("the source", BUILT, self.source("weighbridge", "built.rt").read_text())
         self.later()
-        self.source("weighbridge", "built.rt").write_text("// Nothing is told.\n")
+        self.source("weighbridge", "built.rt").write_text("// It has no place.\n")
         status, said, reported = self.ran()
         self.same("a source without a place for them", (1, ""), (status, said))
         self.holds("why", "src/built.rt has no place for" in reported, reported)
