@@ -9,5 +9,5 @@ Each module is a part, and `-k test_PART.` picks it. `checks/head_office_functio
 - rights, backups, versions: roles, certificates, a German server, copies that are restored, a full disk, and offices of versions 1, 2 and 4.
 - functions, inputs, scripts, upgrade: each SQL function by pgTAP, exports by chance, and each script with programs in its place that fail.
 
-All run on a PostgreSQL cluster of their own, and each test in a copy of a new office.
+All run on a PostgreSQL cluster of their own, and each test in a copy of a new office. With HEAD_OFFICE_LOCALE=de_DE.UTF-8 server and clients speak German.
 """

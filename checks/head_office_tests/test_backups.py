@@ -50,6 +50,7 @@ class Copies(OfficeCheck):
     """Copies of an office with entries of several years."""
 
     needs = ("PostgreSQL", "sqitch")
+    slow = True
     seconds = 90
     settings = (
         "fsync = off",
@@ -228,6 +229,7 @@ class FullDisk(Check):
     """A head office on a disk of its own, which becomes full in a load."""
 
     needs = ("PostgreSQL", "sqitch", "root", "mount")
+    slow = True
     seconds = 60
 
     @staticmethod

@@ -473,6 +473,7 @@ class Costs(OfficeCheck):
 
     needs = ("PostgreSQL", "sqitch")
     alone = True
+    slow = True
     seconds = 60
 
     def reading(self, statements: str, tables: str) -> int:

@@ -345,7 +345,7 @@ class Newest(OfficeCheck):
         self.refused("of version 1", unchained, wanted)
         self.same("and nothing was changed by that", before, office.state())
         self.load("once more", name, newest(60, 15), EXPORT.format(name, 15, 10))
-        restored = newest(55, 10, is_of_now=True)
+        restored = newest(54, 10, is_of_now=True)
         self.load("after a backup was restored", name, restored, "^shorter 55-60: ", 1)
         what = "the same not declared to be only the newest"
         part = newest(60, 15, is_of_now=True)

@@ -71,7 +71,8 @@ def login_of(bridge: str) -> str:
 
 
 def processes_of(group: int, name: str) -> list[int]:
-    """Return the processes of a session whose command begins with this name."""
+    """Return the processes of a session whose command has this name. That of sqitch is a script of Perl."""
+    names = ("sqitch", "perl") if name == "sqitch" else (name,)
     found = []
     for path in glob.glob("/proc/[0-9]*/stat"):
         try:
@@ -80,7 +81,7 @@ def processes_of(group: int, name: str) -> list[int]:
         except OSError:
             continue
         number, _, command = before.partition(" (")
-        if int(after.split()[3]) == group and command.startswith(name):
+        if int(after.split()[3]) == group and command in names:
             found.append(int(number))
     return found
 
@@ -597,9 +598,10 @@ class BesideOthers(UpgradeCheck):
             first = office.start_upgrade()
             self.soon("the first waits", office.waits)
             psql = processes_of(first.pid, "psql")
+            self.assertTrue(psql)
             for pid in psql:
                 os.kill(pid, signal.SIGSTOP)
-            for pid in processes_of(first.pid, "perl"):
+            for pid in processes_of(first.pid, "sqitch"):
                 os.kill(pid, signal.SIGKILL)
         second = office.start_upgrade()
         self.soon("the second waits", lambda: office.waits("wait_event = 'PgSleep'"))
@@ -634,8 +636,7 @@ class Killed(UpgradeCheck):
         elif what == "upgrade":
             running.kill()
         else:
-            commands = {what, "perl"} if what == "sqitch" else {what}
-            for pid in (it for command in commands for it in processes_of(running.pid, command)):
+            for pid in processes_of(running.pid, what):
                 os.kill(pid, signal.SIGKILL)
 
     def test_killed(self) -> None:
