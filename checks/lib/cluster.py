@@ -1,7 +1,7 @@
 """A PostgreSQL cluster of its own in a new folder, reached by a socket there, and ended with all that it started.
 
-Run by root the server gets the user postgres, else it runs as whoever calls. The default collation isn't C, so that a column which was left
-without one shows. It needs PostgreSQL 15 and python3 alone.
+Run by root, the server gets the user postgres. The default collation isn't C, so that a column which was left
+without one shows. It needs PostgreSQL 15 and python3.
 
 HEAD_OFFICE_LOCALE names a locale for server and clients, such as de_DE.UTF-8. Their messages are turned back into English for the cases, by PostgreSQL's own
 catalogue.
@@ -28,6 +28,12 @@ def folder_of_programs() -> str:
 
 BIN = folder_of_programs()
 LOCALE = os.environ.get("HEAD_OFFICE_LOCALE", "")
+
+
+def has_extension(name: str) -> bool:
+    return bool(glob.glob(f"/usr/share/postgresql/*/extension/{name}.control"))
+
+
 # Parts of the server's messages that the cases look for.
 MESSAGES: tuple[str, ...] = (
     "permission denied",
@@ -180,6 +186,8 @@ class Cluster:
         return {
             **os.environ,
             **language,
+            # Debian's psql is a script that looks for a cluster
+            "PATH": f"{BIN}:{os.environ['PATH']}",
             "PGHOST": self.folder,
             "PGPORT": str(self.port),
             "PGDATABASE": database,
@@ -205,7 +213,7 @@ class Cluster:
     def ask(
         self, *statements: str, user: str = OWNER, database: str = "head_office"
     ) -> tuple[int, str]:
-        """The status of statements, and their rows or refusals."""
+        """Return the status of statements, and their rows or refusals."""
         words = ["psql", "-X", "-q", "-A", "-t", "-v", "ON_ERROR_STOP=1"]
         for it in statements:
             words += ["-c", it]
@@ -213,10 +221,10 @@ class Cluster:
         return status, said.strip()
 
     def told(self, *statements: str, user: str = OWNER, database: str = "head_office") -> str:
-        """The rows of statements that are answered."""
+        """Return the rows of statements that are answered."""
         status, said = self.ask(*statements, user=user, database=database)
         if status:
-            raise SystemExit(f"head_office: {statements}: {said}")
+            raise RuntimeError(f"{statements}: {said}")
         return said
 
     def end(self) -> None:

@@ -6,10 +6,10 @@ checks/data/head_office_former.tar.gz has the `schema`, `functions.sql`, `upgrad
 import os
 import tarfile
 
+from checks import TOP
 from checks.lib import cluster as clusters
 
-TOP = os.path.dirname(os.path.dirname(os.path.dirname(os.path.abspath(__file__))))
-ARCHIVE = os.path.join(TOP, "checks", "data", "head_office_former.tar.gz")
+ARCHIVE = TOP / "checks" / "data" / "head_office_former.tar.gz"
 PACKAGES = {8: "2.1.1", 9: "9"}
 
 
@@ -28,22 +28,28 @@ def make(cluster: clusters.Cluster, folder: str, version: int, database: str) ->
     if version in PACKAGES:
         status, said = cluster.run([f"{packages}/{PACKAGES[version]}/upgrade"], database=database)
         if status:
-            raise SystemExit(f"former_office: {version}: {said}")
+            raise RuntimeError(f"version {version}: {said}")
         return
     words = ["psql", "-X", "-q", "-v", "ON_ERROR_STOP=1", "--single-transaction", "-f"]
     for number in range(1, version + 1):
         file = f"{packages}/9/schema/{number}.sql"
         status, said = cluster.run([*words, file], database=database)
         if status:
-            raise SystemExit(f"former_office: {version}: {said}")
+            raise RuntimeError(f"version {version}: {said}")
 
 
 def load(
-    cluster: clusters.Cluster, bridge: str, export: str, user: str, database: str
+    cluster: clusters.Cluster,
+    bridge: str,
+    export: str,
+    user: str,
+    database: str,
+    is_chained: bool = True,
 ) -> tuple[int, str]:
-    """Load an export as the bridges of versions 2 to 4 did. Return the status, and what was printed."""
-    columns = "number, key, kind, plate, moment, gross_kg, preset_kg, interval_kg, max_kg, serial, digest, previous"
-    texts = "key, kind, plate, serial, digest, previous"
+    """Load an export as the bridges of versions 2 to 4 did, or those of version 1 if it isn't chained. Return the status, and what was printed."""
+    more = ", previous" if is_chained else ""
+    columns = f"number, key, kind, plate, moment, gross_kg, preset_kg, interval_kg, max_kg, serial, digest{more}"
+    texts = f"key, kind, plate, serial, digest{more}"
     words = [
         *["psql", "-X", "-q", "-A", "-t", "-v", "ON_ERROR_STOP=1", "-c", "BEGIN"],
         "-c",

@@ -5,7 +5,7 @@ import re
 from dataclasses import dataclass
 from pathlib import Path
 
-from checks.lib.running import Counts, names_of_checks
+from checks.lib.running import Counts, names_of_checks, names_of_parts
 
 from checks import TOP
 
@@ -14,8 +14,6 @@ NO_CHECKS = {"all", "gate"}
 # They run only with --slow.
 SLOW = {
     "same_package",
-    "head_office",
-    "head_office_inputs",
     "units_in_trouble",
     "wrong_bodies",
     "year",
@@ -33,7 +31,6 @@ QUICK = {
 }
 # About how many seconds the others take, if it is more than a minute.
 SECONDS = {
-    "head_office_upgrade": 1200,
     "release": 400,
     "units": 250,
 }
@@ -53,7 +50,7 @@ class Program:
 
 def programs() -> list[Program]:
     """Return those in checks/ that can be run, and are no check of the package."""
-    classes = {*NO_CHECKS, *names_of_checks()}
+    classes = {*NO_CHECKS, *names_of_checks(), *names_of_parts()}
     names = (
         it.name
         for it in sorted((TOP / "checks").iterdir())

@@ -3,6 +3,8 @@
 A check that another check runs adds its own mark to the other's, and ends only what has its own.
 """
 
+import atexit
+import contextlib
 import os
 import signal
 import time
@@ -10,6 +12,9 @@ import uuid
 from types import FrameType
 
 MARKS = "CHECKS_MARKS"
+# Servers and folders that the classes of a process share. They end with the process, even if a signal stops it.
+until_the_end = contextlib.ExitStack()
+atexit.register(until_the_end.close)
 
 
 def new_mark() -> str:

@@ -14,7 +14,7 @@ from types import ModuleType, TracebackType
 
 from checks.lib import showing
 from checks.lib.case import KEEP, TIMES, Check
-from checks.lib.leftovers import Stopped, end_marked, new_mark, stop_on_signals
+from checks.lib.leftovers import Stopped, end_marked, new_mark, stop_on_signals, until_the_end
 
 HERE = Path(__file__).resolve().parent.parent
 # Debian's own Python, for which the packages of the distribution are.
@@ -113,8 +113,23 @@ def names_of_checks() -> list[str]:
     return sorted(files | folders)
 
 
+def names_of_parts() -> dict[str, str]:
+    """Return the modules that a file of checks/ runs without the rest of their folder, by its name. `NAME_PART` runs `NAME_tests/test_PART.py`."""
+    modules = {
+        f"{it.parent.name.removesuffix('_tests')}_{it.stem.removeprefix('test_')}": it
+        for it in HERE.glob("*_tests/test_*.py")
+    }
+    return {
+        name: f"checks.{it.parent.name}.{it.stem}"
+        for name, it in modules.items()
+        if (HERE / name).is_file()
+    }
+
+
 def modules_of(name: str) -> list[ModuleType]:
     """Import a check: the module that says what it shows, and then those of its folder. Raise SkipTest if this machine lacks something that a head imports."""
+    if module := names_of_parts().get(name):
+        return [importlib.import_module(module)]
     folder = HERE / f"{name}_tests"
     if not folder.is_dir():
         return [importlib.import_module(f"checks.test_{name}")]
@@ -198,7 +213,9 @@ def alone(name: str) -> int:
     options = arguments(f"checks/{name}", modules[0].__doc__)
     options.add_argument("--failfast", action="store_true", help="stop at the first failure")
     asked = options.parse_args()
-    classes = [it for it in classes_of(modules) if asked.slow or not it.slow]
+    there = classes_of(modules)
+    # a check of which all classes are slow runs without --slow
+    classes = [it for it in there if asked.slow or not it.slow] or there
     if asked.list:
         print("\n".join(name_of(it) for each in classes for it in chosen(each, asked.k)))
         return 0
@@ -211,6 +228,7 @@ def alone(name: str) -> int:
         print(f"{name}: stopped by {why}", flush=True)
         return why.status
     finally:
+        until_the_end.close()
         if left := end_marked(mark):
             print(f"{name}: {left} processes were left, and killed", flush=True)
     if path := os.environ.get(COUNTS):
