@@ -16,9 +16,7 @@ SLOW = {
     "same_package",
     "head_office",
     "head_office_inputs",
-    "units_in_trouble",
     "wrong_bodies",
-    "year",
 }
 # They measure how late something comes, or change what the launcher built.
 ALONE = {
