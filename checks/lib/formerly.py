@@ -13,7 +13,6 @@ from checks import TOP
 NO_CHECKS = {"all", "gate"}
 # They run only with --slow.
 SLOW = {
-    "same_package",
     "head_office",
     "head_office_inputs",
     "wrong_bodies",
@@ -21,8 +20,6 @@ SLOW = {
 # They measure how late something comes, or change what the launcher built.
 ALONE = {
     "converters",
-    "same_package",
-    "serve_bad_clients",
     "wrong_bodies",
 }
 QUICK = {
