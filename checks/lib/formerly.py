@@ -23,7 +23,6 @@ ALONE = {
     "wrong_bodies",
 }
 QUICK = {
-    "python_form",
     "conformity",
 }
 # About how many seconds the others take, if it is more than a minute.
