@@ -133,6 +133,10 @@ class Machine:
         """Return the number of a unit's main process there, or 0."""
         return int(self.shown(unit, "MainPID") or 0)
 
+    def tries_of(self, unit: str) -> int:
+        """Return how often a unit was started again automatically."""
+        return int(self.shown(unit, "NRestarts") or 0)
+
     def seen_from_here(self, process: int) -> int:
         """Return the number that this machine gives to a process there."""
         space = os.readlink(f"/proc/{self.first}/ns/pid")

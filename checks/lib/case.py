@@ -29,6 +29,9 @@ OTHERS: dict[str, tuple[str, Callable[[], bool]]] = {
     "the kit": ("the kit is not installed", lambda: shutil.which("rt") is not None),
 }
 
+# The values of all options of this run, by their names without dashes.
+given: dict[str, Any] = {}
+
 
 def many(usual: int) -> int:
     """Return how many trials to make in place of the usual number."""
@@ -62,6 +65,8 @@ class Check(unittest.TestCase):
     """No other runs meanwhile, because it measures time or changes what others use."""
     seconds: ClassVar[int] = 10
     """About how long it takes on a quiet machine. Only the order depends on it."""
+    options: ClassVar[dict[str, str]] = {}
+    """Options of its check's file, such as `--report`, each with the name of its value, or with "" if it has none. `given` has their values."""
     maxDiff = None
 
     def __init_subclass__(cls, **more: Any) -> None:

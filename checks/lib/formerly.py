@@ -13,20 +13,14 @@ from checks import TOP
 NO_CHECKS = {"all", "gate"}
 # They run only with --slow.
 SLOW = {
-    "same_package",
-    "units_in_trouble",
     "wrong_bodies",
-    "year",
 }
 # They measure how late something comes, or change what the launcher built.
 ALONE = {
     "converters",
-    "same_package",
-    "serve_bad_clients",
     "wrong_bodies",
 }
 QUICK = {
-    "python_form",
     "conformity",
 }
 # About how many seconds the others take, if it is more than a minute.

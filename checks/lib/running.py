@@ -13,8 +13,10 @@ from pathlib import Path
 from types import ModuleType, TracebackType
 
 from checks.lib import showing
-from checks.lib.case import KEEP, TIMES, Check
+from checks.lib.case import KEEP, TIMES, Check, given
 from checks.lib.leftovers import Stopped, end_marked, new_mark, stop_on_signals, until_the_end
+
+from checks import FOLDERS, TOP
 
 HERE = Path(__file__).resolve().parent.parent
 # Debian's own Python, for which the packages of the distribution are.
@@ -127,14 +129,28 @@ def names_of_parts() -> dict[str, str]:
 
 
 def modules_of(name: str) -> list[ModuleType]:
-    """Import a check: the module that says what it shows, and then those of its folder. Raise SkipTest if this machine lacks something that a head imports."""
-    if module := names_of_parts().get(name):
-        return [importlib.import_module(module)]
+    """Import a check: the module that says what it shows, and then those of its folder. Raise SkipTest if this machine lacks a module that one of them imports."""
     folder = HERE / f"{name}_tests"
-    if not folder.is_dir():
-        return [importlib.import_module(f"checks.test_{name}")]
-    parts = [f"checks.{folder.name}.{it.stem}" for it in sorted(folder.glob("test_*.py"))]
-    return [importlib.import_module(it) for it in [f"checks.{folder.name}", *parts]]
+    names = [f"checks.test_{name}"]
+    if folder.is_dir():
+        parts = [f"checks.{folder.name}.{it.stem}" for it in sorted(folder.glob("test_*.py"))]
+        names = [f"checks.{folder.name}", *parts]
+    if part := names_of_parts().get(name):
+        names = [part]
+    try:
+        return [importlib.import_module(it) for it in names]
+    except ModuleNotFoundError as error:
+        missing = (error.name or "").partition(".")[0]
+        if is_ours(missing):
+            raise
+        raise unittest.SkipTest(f"{missing} is not installed") from error
+
+
+def is_ours(name: str) -> bool:
+    """Return whether a module of this name belongs to the repository, so that it can't be missing."""
+    return any(
+        (TOP / folder / it).exists() for folder in (".", *FOLDERS) for it in (name, f"{name}.py")
+    )
 
 
 def classes_of(modules: list[ModuleType]) -> list[type[Check]]:
@@ -212,10 +228,16 @@ def alone(name: str) -> int:
         return 0
     options = arguments(f"checks/{name}", modules[0].__doc__)
     options.add_argument("--failfast", action="store_true", help="stop at the first failure")
+    classes = classes_of(modules)
+    for option, value in (it for each in classes for it in each.options.items()):
+        if value:
+            options.add_argument(option, metavar=value)
+        else:
+            options.add_argument(option, action="store_true")
     asked = options.parse_args()
-    there = classes_of(modules)
+    given.update(vars(asked))
     # a check of which all classes are slow runs without --slow
-    classes = [it for it in there if asked.slow or not it.slow] or there
+    classes = [it for it in classes if asked.slow or not it.slow] or classes
     if asked.list:
         print("\n".join(name_of(it) for each in classes for it in chosen(each, asked.k)))
         return 0
