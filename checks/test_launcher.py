@@ -87,9 +87,9 @@ class Launcher(Check):
         for name in CRATES:
             for part in ("src", "specs", "proofs"):
                 (self.top / "crates" / name / part).mkdir(parents=True)
-            for path in ("src/lib.rt", "specs/one.antt", "proofs/one/two.antt"):
-                (self.top / "crates" / name / path).parent.mkdir(exist_ok=True)
-                (self.top / "crates" / name / path).write_text(f"fn of_{name}\n")
+            for file in ("src/lib.rt", "specs/one.antt", "proofs/one/two.antt"):
+                (self.top / "crates" / name / file).parent.mkdir(exist_ok=True)
+                (self.top / "crates" / name / file).write_text(f"fn of_{name}\n")
             if name.startswith("weighbridge"):
                 self.source(name, "built.rt").write_text(BUILT)
         self.environment = {"PATH": f"{tools}:/usr/bin:/bin", "HOME": str(folder)}
