@@ -4,20 +4,9 @@ nothing is stored twice. It takes ten minutes.
 It builds a small program in a temporary folder, in minutes if the gate has run here.
 """
 
-from checks import TOP
 from checks.lib.built_over import build_over
 from checks.lib.case import Check
 from checks.lib.refusing import Refusing, last_lines
-
-LIBRARIES = [
-    "wb_instrument",
-    "wb_journal",
-    "wb_office",
-    "wb_scale",
-    "wb_store",
-    "wb_window",
-    "sqlite",
-]
 
 
 class OfficeWithoutMemory(Check):
@@ -29,8 +18,7 @@ class OfficeWithoutMemory(Check):
 
     def test_each_allocation(self) -> None:
         folder = self.folder()
-        source = TOP / "checks" / "lib" / "office_days.text"
-        program = build_over("office_days", folder, source, LIBRARIES)
+        program = build_over("office_days", folder)
         counts = last_lines(Refusing(folder), program)
         print(counts)
         self.holds("a request answered 15", counts.get("done after a refusal"), counts)

@@ -8,12 +8,10 @@ import re
 import sqlite3
 import subprocess
 
-from checks import TOP
 from checks.lib.built_over import folder_with
 from checks.lib.case import Check
 from checks.lib.journal import PAIR, change, write_rows
 
-LIBRARIES = ["wb_instrument", "wb_journal", "wb_store", "sqlite"]
 # The lines that the program prints of the pair.
 SHOWN = "".join(
     f"{row[0]} {row[1]} {row[3]} {kind} Some({row[5]}) {row[10]} true\n"
@@ -37,8 +35,7 @@ class StoreInSqlite3(Check):
 
     def setUp(self) -> None:
         self.box = self.folder()
-        source = TOP / "checks" / "lib" / "store_shell.text"
-        self.crate = folder_with("store_shell", self.box, source, LIBRARIES)
+        self.crate = folder_with("store_shell", self.box)
 
     def run_program(self, *words: str) -> str:
         """Return what the program prints."""

@@ -4,12 +4,9 @@ the next call.
 It builds a small program in a temporary folder, in minutes if the gate has run here.
 """
 
-from checks import TOP
 from checks.lib.built_over import build_over
 from checks.lib.case import Check
 from checks.lib.refusing import Refusing, last_lines
-
-LIBRARIES = ["wb_instrument", "wb_journal", "wb_store", "sqlite"]
 
 
 class StoreWithoutMemory(Check):
@@ -20,8 +17,7 @@ class StoreWithoutMemory(Check):
 
     def test_each_allocation(self) -> None:
         folder = self.folder()
-        source = TOP / "checks" / "lib" / "store_calls.text"
-        program = build_over("store_calls", folder, source, LIBRARIES)
+        program = build_over("store_calls", folder)
         counts = last_lines(Refusing(folder), program)
         print(counts)
         self.holds("a call that answered `Memory`", counts.get("done after a refusal"), counts)
