@@ -99,6 +99,7 @@ class Followers(JournalCheck):
 
     def test_unchanged(self) -> None:
         office, name = self.office, "MOVED"
+        office.register("NORTH")
         old = self.former(name)
         old_export = exported_1(old)
         self.known("a journal of version 1", name, old_export, added=60)
@@ -135,11 +136,9 @@ class Followers(JournalCheck):
         office = self.office
         office.follow("MOVED")
         office.told("INSERT INTO head_office.journal (bridge, note) VALUES ('MOVED', 'by mistake')")
-        first, follower, newest = office.rows(
+        other, first, follower, newest = office.rows(
             "SELECT journal FROM head_office.journal ORDER BY journal"
         )
-        office.register("NORTH")
-        other = office.reads("SELECT max(journal) FROM head_office.journal")
         unique = "duplicate key value violates unique constraint"
         for what, bridge, its, former, words in (
             ("registered twice", "MOVED", follower, first, f'{unique} "follower_pkey"'),
@@ -152,12 +151,12 @@ class Followers(JournalCheck):
             ),
             (
                 "of another bridge's journal",
-                "NORTH",
+                "MOVED",
+                newest,
                 other,
-                follower,
                 'violates foreign key constraint "follower_former_bridge_fkey"',
             ),
-            ("for another bridge", "NORTH", newest, first, "violates foreign key constraint"),
+            ("for another bridge", "NORTH", newest, follower, "violates foreign key constraint"),
             ("of a journal that was registered after it", "MOVED", first, newest, "comes_after"),
             ("of itself", "MOVED", newest, newest, "comes_after"),
         ):

@@ -405,7 +405,9 @@ class Scripts(OfficeCheck):
         office = self.office
         self.help_and_words("restore", f"{office.folder}/none")
         book = self.book("BACK")
-        book.add("first", "A-1", 9_000).add("second", "A-1", 20_000).add("single", "B-2", 18_000)
+        book.moment = moment_of(time.gmtime().tm_year - 1, 6, 1)  # each year has a file
+        book.add("first", "A-1", 9_000).add("second", "A-1", 20_000)
+        book.add("single", "B-2", 18_000, moment=int(time.time()) - 60)
         office.load("BACK", book)
         kept = f"{office.folder}/copies"
         os.makedirs(kept)
