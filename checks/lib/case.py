@@ -66,7 +66,8 @@ class Check(unittest.TestCase):
     seconds: ClassVar[int] = 10
     """About how long it takes on a quiet machine. Only the order depends on it."""
     options: ClassVar[dict[str, str]] = {}
-    """Options of its check's file, such as `--report`, each with the name of its value, or with "" if it has none. `given` has their values."""
+    """Options of its check's file, such as `--report`, each with the name of its value, or with "" if it has none. `given` has their values. `PROGRAM` isn't an option, but
+    a built program that is named in place of the launcher."""
     maxDiff = None
 
     def __init_subclass__(cls, **more: Any) -> None:

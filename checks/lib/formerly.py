@@ -20,9 +20,6 @@ ALONE = {
     "converters",
     "wrong_bodies",
 }
-QUICK = {
-    "conformity",
-}
 # About how many seconds the others take, if it is more than a minute.
 SECONDS = {
     "release": 400,
@@ -50,10 +47,7 @@ def programs() -> list[Program]:
         for it in sorted((TOP / "checks").iterdir())
         if it.is_file() and not it.suffix and it.name not in classes and os.access(it, os.X_OK)
     )
-    return [
-        Program(it, it in SLOW, it in ALONE, SECONDS.get(it, 5 if it in QUICK else 60))
-        for it in names
-    ]
+    return [Program(it, it in SLOW, it in ALONE, SECONDS.get(it, 60)) for it in names]
 
 
 def counts_of(log: Path, status: int | OSError) -> Counts:

@@ -1,31 +1,35 @@
-"""What a document's page names in this repository: rules of docs/rules.md, definitions, tests, traces, wrong bodies, and clauses of public calls.
+"""Finds what a page names in this repository: rules of docs/rules.md, definitions, tests, traces, mutants, and clauses of public calls.
 
-The public calls, and which of their clauses are promised, are those of the READMEs of the crates; what clauses a call has stands in its source. It needs
-python3 alone.
+The public calls, and which of their clauses are promised, are those of the READMEs of the crates; what clauses a call has is in its source. It needs
+only python3.
 """
+
 import functools
 import glob
 import os
 import re
+from collections.abc import Iterable, Iterator
+from dataclasses import dataclass
 
+from checks import TOP
 from checks.lib import traces
 
-TOP = os.path.dirname(os.path.dirname(os.path.dirname(os.path.abspath(__file__))))
 PLAIN = "the clause"
+# A clause that is promised: its crate, the call with its type, and its name.
+Clause = tuple[str, str, str]
 
 
-def read(path):
-    with open(os.path.join(TOP, path), encoding="utf-8") as file:
-        return file.read()
+def read(path: str) -> str:
+    return (TOP / path).read_text(encoding="utf-8")
 
 
-def paths(pattern):
+def paths(pattern: str) -> list[str]:
     return sorted(glob.glob(pattern, root_dir=TOP, recursive=True))
 
 
-def page_missing(name, section):
-    """Why a page of docs/, or a section of it, isn't there; None if it is."""
-    if not os.path.exists(os.path.join(TOP, "docs", name)):
+def page_missing(name: str, section: str) -> str | None:
+    """Say why a page of docs/, or a section of it, isn't there. Return None if it is."""
+    if not (TOP / "docs" / name).exists():
         return f"there is no page {name}"
     if section and section not in re.findall(r"(?m)^#+ (.*)$", read(f"docs/{name}")):
         return f"docs/{name} has no section {section}"
@@ -36,13 +40,14 @@ def page_missing(name, section):
 
 
 @functools.cache
-def rules():
-    """The places of docs/rules.md: the words in bold at the head of a paragraph or of a point, each with its section; a section that has none; and
+def rules() -> list[str]:
+    """Return the places of docs/rules.md: the words in bold at the head of a paragraph or of a point, each with its section; a section that has none; and
     the rows of the tables of commands and of refusals."""
-    found, section, lead = [], None, None
+    found: list[str] = []
+    section = lead = ""
     for line in read("docs/rules.md").splitlines():
         if heading := re.match(r"(##+) (.*)", line):
-            section, lead = re.sub(r" \(own\)$", "", heading[2]), None
+            section, lead = re.sub(r" \(own\)$", "", heading[2]), ""
             found += [section] if heading[1] == "###" else []
         elif bold := re.match(r"(?:- )?\*\*(.+?)\*\*", line):
             lead = bold[1]
@@ -54,24 +59,23 @@ def rules():
     return list(dict.fromkeys(found))
 
 
-# Definitions, tests, traces and wrong bodies
+# Definitions, tests, traces and mutants
 
 
-def definition_missing(name):
+def definition_missing(name: str) -> str | None:
     crate, _, rest = name.partition(".")
     module, _, what = rest.rpartition(".")
     path = f"crates/{crate}/specs/{module.replace('.', '/')}.antt"
-    if not what or not os.path.exists(os.path.join(TOP, path)):
+    if not what or not (TOP / path).exists():
         return f"no definitions are in {path}"
-    if not re.search(
-        rf"(?m)^ *(abbrev |unfoldable )?pub (record |data )?{re.escape(what)}[ :]", read(path)
-    ):
+    begin = r"(?m)^ *(abbrev |unfoldable )?pub (record |data )?"
+    if not re.search(rf"{begin}{re.escape(what)}[ :]", read(path)):
         return f"{path} has no definition {what}"
     return None
 
 
 @functools.cache
-def tests():
+def tests() -> set[str]:
     return {
         name
         for path in paths("crates/*/src/**/*.rt")
@@ -79,51 +83,53 @@ def tests():
     }
 
 
-def test_missing(name):
+def test_missing(name: str) -> str | None:
     if name.startswith("checks/"):
-        return None if os.access(os.path.join(TOP, name), os.X_OK) else f"there is no check {name}"
+        return None if os.access(TOP / name, os.X_OK) else f"there is no check {name}"
     is_trace = name in traces.names() or name in traces.folders()
     return None if is_trace or name in tests() else f"there is no test or trace {name}"
 
 
-def wrong_body_missing(name):
-    """Whether the wrong body is gone, or can't be planted any more: each line that it replaces has to stand there once."""
+def wrong_body_missing(name: str) -> str | None:
+    """Say why a mutant is gone, or can't be made any more: each line that it replaces must be there once. Return None if it can."""
     path = f"crates/{name}.edit"
-    if not re.fullmatch(r"\w+/(must-fail|wrong-bodies)/\w+", name) or not os.path.exists(
-        os.path.join(TOP, path)
-    ):
-        return f"there is no wrong body {name}"
-    text, of = None, None
+    is_name = re.fullmatch(r"\w+/(must-fail|wrong-bodies)/\w+", name)
+    if not is_name or not (TOP / path).exists():
+        return f"there is no mutant {name}"
+    text = of = ""
     for line in read(path).splitlines():
         if line.startswith("file: "):
             of = f"crates/{name.split('/')[0]}/{line[6:]}"
-            if not os.path.exists(os.path.join(TOP, of)):
+            if not (TOP / of).exists():
                 return f"{path} is of {of}, which isn't there"
             text = read(of)
         elif line.startswith("old: "):
-            if text is None or text.count(line[5:]) != 1:
-                return f"{path} can't be planted: what it replaces isn't once in {of}"
+            if text.count(line[5:]) != 1:
+                return f"{path} can't be made: what it replaces isn't once in {of}"
     return None if text else f"{path} names no file"
 
 
 # Clauses
 
 
+@dataclass(frozen=True)
 class Call:
     """A function of a crate, with the type or trait that it belongs to, and its clauses."""
 
-    def __init__(self, crate, owner, name, is_public, clauses):
-        self.crate, self.owner, self.name, self.is_public, self.clauses = (
-            crate,
-            owner,
-            name,
-            is_public,
-            clauses,
-        )
+    owner: str | None
+    name: str
+    is_public: bool
+    clauses: frozenset[str]
+
+    @property
+    def shown(self) -> str:
+        return f"{self.owner}::{self.name}" if self.owner else self.name
 
 
-def calls_of(crate, text):
-    found, owner, is_trait = [], None, False
+def calls_of(text: str) -> Iterator[Call]:
+    """Return the functions of a source."""
+    owner: str | None = None
+    is_trait = False
     lines = text.splitlines()
     for place, line in enumerate(lines):
         if line == "}":
@@ -132,63 +138,51 @@ def calls_of(crate, text):
             bare = block[2]
             while "<" in bare and bare != (less := re.sub(r"<[^<>]*>", "", bare)):
                 bare = less
-            owner, is_trait = (
-                re.split(r"[\s:{]", bare.rpartition(" for ")[2].strip())[0],
-                block[1] == "trait",
-            )
+            owner = re.split(r"[\s:{]", bare.rpartition(" for ")[2].strip())[0]
+            is_trait = block[1] == "trait"
         elif function := re.match(
             r' *(pub |pub\(crate\) )?(?:unsafe )?(?:extern "C" )?fn (\w+)', line
         ):
-            head = []
-            for later in lines[place:]:
-                head.append(later)
-                if (
-                    re.search(r"(;|^ *\{|^\{\}|\{\})$", later)
-                    or later.endswith("{")
-                    and "ensures" not in later
-                    and "requires" not in later
-                ):
-                    break
-            clauses = [
-                it.strip() or PLAIN for it in re.findall(r"ensures\*? (\w+ )?\{", "\n".join(head))
-            ]
-            found.append(
-                Call(crate, owner, function[2], function[1] == "pub " or is_trait, set(clauses))
-            )
-    return found
+            named = re.findall(r"ensures\*? (\w+ )?\{", "\n".join(head_of(lines[place:])))
+            clauses = frozenset(it.strip() or PLAIN for it in named)
+            yield Call(owner, function[2], function[1] == "pub " or is_trait, clauses)
 
 
-def laws_of(crate, text):
-    """The laws of a crate's theorems: each has one clause, what it states."""
-    return [
-        Call(crate, None, name, True, {PLAIN})
-        for name in re.findall(r"(?m)^pub (law_of_\w+) :", text)
-    ]
+def head_of(lines: list[str]) -> Iterator[str]:
+    """Return the lines of a function to the beginning of its body."""
+    for line in lines:
+        yield line
+        has_clause = "ensures" in line or "requires" in line
+        if re.search(r"(;|^ *\{|^\{\}|\{\})$", line) or line.endswith("{") and not has_clause:
+            return
+
+
+def theorems_of(text: str) -> Iterator[Call]:
+    """Return the theorems of a crate, as calls with one clause, which is what they state."""
+    for name in re.findall(r"(?m)^pub (law_of_\w+) :", text):
+        yield Call(None, name, True, frozenset({PLAIN}))
 
 
 @functools.cache
-def calls():
-    """The public functions and the laws of each crate."""
-    found = {}
-    for path in paths("crates/*/src/**/*.rt"):
-        crate = path.split("/")[1]
-        found.setdefault(crate, []).extend(it for it in calls_of(crate, read(path)) if it.is_public)
-    for path in paths("crates/*/proofs/Theorems.antt"):
-        crate = path.split("/")[1]
-        found.setdefault(crate, []).extend(laws_of(crate, read(path)))
+def calls() -> dict[str, list[Call]]:
+    """Return the public functions and the theorems of each crate."""
+    found: dict[str, list[Call]] = {}
+    for pattern, read_from in (("src/**/*.rt", calls_of), ("proofs/Theorems.antt", theorems_of)):
+        for path in paths(f"crates/*/{pattern}"):
+            public = [it for it in read_from(read(path)) if it.is_public]
+            found.setdefault(path.split("/")[1], []).extend(public)
     return found
 
 
-def calls_named(crate, name):
-    """The public functions of this name; `Type::name` has those of one type."""
+def calls_named(crate: str, name: str) -> list[Call]:
+    """Return the public functions of this name; `Type::name` has those of one type."""
     owner, _, bare = name.rpartition("::")
-    return [
-        it for it in calls().get(crate, []) if it.name == bare and (not owner or it.owner == owner)
-    ]
+    of_crate = calls().get(crate, [])
+    return [it for it in of_crate if it.name == bare and (not owner or it.owner == owner)]
 
 
 @functools.cache
-def words_of_specs(crate):
+def words_of_specs(crate: str) -> set[str]:
     return {
         word
         for path in paths(f"crates/{crate}/specs/**/*.antt")
@@ -196,39 +190,34 @@ def words_of_specs(crate):
     }
 
 
-def promised_rows():
-    """Of each row of a crate's README that names calls: the crates that its title names, the calls, and the clauses."""
-    for path in sorted(paths("crates/*/README.md")):
-        yield from rows_of_promises(read(path))
-
-
-def rows_of_promises(page):
-    crates, is_table, named = (
-        re.findall(r"wb_\w+|weighbridge\w*", page.split("\n", 1)[0]),
-        False,
-        "",
-    )
-    for line in page.partition("\n## Promises\n")[2].partition("\n## ")[0].splitlines():
-        if line.startswith("|"):
+def promised_rows() -> Iterator[tuple[list[str], str, str]]:
+    """Return, of each row of a crate's README that names calls, the crates that its title names, the calls, and the clauses."""
+    for path in paths("crates/*/README.md"):
+        page = read(path)
+        crates = re.findall(r"wb_\w+|weighbridge\w*", page.split("\n", 1)[0])
+        is_table, named = False, ""
+        for line in page.partition("\n## Promises\n")[2].partition("\n## ")[0].splitlines():
+            if not line.startswith("|"):
+                is_table = False
+                continue
             cells = [it.strip() for it in line.strip("|").split("|")]
             if cells[0] in ("Call", "Law"):
                 is_table, named = True, ""
             elif is_table and len(cells) == 3 and set(cells[0]) != {"-"}:
                 named = cells[0] or named
                 yield crates, named, cells[2]
-        else:
-            is_table = False
 
 
-def owners_of(crate, names):
-    """The calls that a cell names: the type is said of the first of them alone, a type stands for its calls, and a cell that names none is of all
+def owners_of(crate: str, names: str) -> Iterator[str]:
+    """Return the calls that a cell names. Only the first of them has the type, a type names all its calls, and a cell that names none is of all
     calls of the crate."""
-    owner, of = None, re.findall(r"`([\w:]+)`", names)
-    for it in calls().get(crate, []) if not of else []:
-        yield shown(it.owner, it.name)
+    owner, of_crate = "", calls().get(crate, [])
+    of = re.findall(r"`([\w:]+)`", names)
+    if not of:
+        yield from (it.shown for it in of_crate)
     for name in of:
-        if any(it.owner == name for it in calls().get(crate, [])):
-            yield from (f"{name}::{it.name}" for it in calls()[crate] if it.owner == name)
+        if any(it.owner == name for it in of_crate):
+            yield from (it.shown for it in of_crate if it.owner == name)
         elif "::" in name:
             owner = name.split("::")[0]
             yield name
@@ -239,62 +228,39 @@ def owners_of(crate, names):
 
 
 @functools.cache
-def promised():
-    """The clauses that the READMEs of the crates promise, as crate, function's type and name, and clause."""
-    found = set()
+def public_clauses() -> frozenset[Clause]:
+    """Return the clauses that the READMEs of the crates promise."""
+    found: set[Clause] = set()
     for crates, names, cell in promised_rows():
         for crate in crates:
             clauses = set(re.findall(r"`([\w-]+)`", re.sub(r"\([^)]*\)|`\w+` of `\w+`", "", cell)))
-            for name in owners_of(crate, names):
-                for call in calls_named(crate, name):
-                    of_call = clauses & call.clauses
-                    if "clause" in re.sub(r"`[^`]*`", "", cell) and PLAIN in call.clauses:
-                        of_call.add(PLAIN)
-                    if call.clauses == {PLAIN} and re.search("`", names):
-                        of_call = {PLAIN}
-                    elif re.search("`", names):
-                        of_call |= {
-                            it
-                            for it in clauses - call.clauses
-                            if it in words_of_specs(crate) and is_alone(crate, names, it)
-                        }
-                    found |= {(crate, call.owner, call.name, it) for it in of_call}
-    return found
+            has_plain = "clause" in re.sub(r"`[^`]*`", "", cell)
+            for call in (it for name in owners_of(crate, names) for it in calls_named(crate, name)):
+                of_call = clauses & call.clauses
+                if has_plain and PLAIN in call.clauses:
+                    of_call.add(PLAIN)
+                if call.clauses == {PLAIN} and "`" in names:
+                    of_call = {PLAIN}
+                elif "`" in names:
+                    others = (clauses - call.clauses) & words_of_specs(crate)
+                    of_call |= {it for it in others if is_only_a_part(crate, names, it)}
+                found |= {(crate, call.shown, it) for it in of_call}
+    return frozenset(found)
 
 
-def is_alone(crate, names, clause):
-    """Whether no call of the cell has this clause, so that it is a part of a clause that a definition names."""
-    return not any(
-        clause in call.clauses
-        for name in owners_of(crate, names)
-        for call in calls_named(crate, name)
-    )
+def is_only_a_part(crate: str, names: str, clause: str) -> bool:
+    """Return whether no call of the cell has this clause, so that it is a part of a clause that a definition names."""
+    named = [call for name in owners_of(crate, names) for call in calls_named(crate, name)]
+    return not any(clause in call.clauses for call in named)
 
 
-def shown(owner, name):
-    return f"{owner}::{name}" if owner else name
-
-
-@functools.cache
-def public_clauses_kept():
-    return frozenset(
-        (crate, shown(owner, name), clause) for crate, owner, name, clause in promised()
-    )
-
-
-def public_clauses():
-    return set(public_clauses_kept())
-
-
-def clause_missing(crate, name, clauses):
-    """Why the call, or one of these clauses of it, isn't promised or isn't in the source; None if all are."""
-    owners = {shown(it.owner, it.name) for it in calls_named(crate, name)}
-    if len(owners) != 1:
-        return (
-            f"{crate} has no public call {name}"
-            if not owners
-            else f"of {crate} {name} is any of {', '.join(sorted(owners))}"
-        )
+def clause_missing(crate: str, name: str, clauses: list[str]) -> str | None:
+    """Say why the call, or one of these clauses of it, isn't promised or isn't in the source. Return None if all are."""
+    owners = {it.shown for it in calls_named(crate, name)}
+    if not owners:
+        return f"{crate} has no public call {name}"
+    if len(owners) > 1:
+        return f"of {crate} {name} is any of {', '.join(sorted(owners))}"
     if not clauses_named(crate, name, []) and not clauses:
         return (
             f"{crate}: {name} has no clause without a name that its README lists: name its clauses"
@@ -305,10 +271,8 @@ def clause_missing(crate, name, clauses):
     return None
 
 
-def clauses_named(crate, name, clauses):
-    """Those of the public clauses that these are; with no name, the clause without one."""
-    of = {shown(it.owner, it.name) for it in calls_named(crate, name)}
-    wanted = set(clauses) or {PLAIN}
-    return {
-        it for it in public_clauses_kept() if it[0] == crate and it[1] in of and it[2] in wanted
-    }
+def clauses_named(crate: str, name: str, clauses: Iterable[str]) -> set[Clause]:
+    """Return those of the public clauses that these are; with no name, the clause without one."""
+    of = {it.shown for it in calls_named(crate, name)}
+    wanted = {*clauses} or {PLAIN}
+    return {it for it in public_clauses() if it[0] == crate and it[1] in of and it[2] in wanted}

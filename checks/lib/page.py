@@ -233,22 +233,3 @@ def ports_of(ports: Iterable[int]) -> dict[str, str]:
         for port, it in free
         for parted in (":", " ")
     }
-
-
-def check_step(
-    name: str,
-    page: str,
-    step: Step,
-    shell: Shell,
-    names: dict[str, str],
-    is_told: bool = True,
-    is_exact: bool = False,
-) -> None:
-    """Run a command of the page, and fail unless it prints what the page shows."""
-    wanted, found = compared(step, shell, names, is_exact)
-    if wanted != found:
-        raise SystemExit(
-            f"{name}: {page}:{step.line}: {step.command}\nwanted:\n{wanted}\nfound:\n{found}"
-        )
-    if is_told:
-        print(f"{page}:{step.line}: ok", flush=True)

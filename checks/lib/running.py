@@ -193,6 +193,17 @@ def use_debians_python() -> None:
         os.execv(DEBIANS, [DEBIANS, *sys.orig_argv[1:]])
 
 
+def use_program(options: argparse.ArgumentParser, path: str) -> None:
+    """Begin again with a built program in place of the launcher. The converter is the one in its folder, or the one that was built."""
+    if not os.access(path, os.X_OK):
+        options.error(f"{path}: name one built program")
+    os.environ["WEIGHBRIDGE_PROGRAM"] = os.path.abspath(path)
+    converter = os.path.join(os.path.dirname(os.path.abspath(path)), "weighbridge-converter")
+    if os.path.exists(converter):
+        os.environ["WEIGHBRIDGE_CONVERTER_PROGRAM"] = converter
+    os.execv(sys.executable, [it for it in sys.orig_argv if it != path])
+
+
 def arguments(name: str, words: str | None) -> argparse.ArgumentParser:
     """Return the options that each check takes."""
     options = argparse.ArgumentParser(
@@ -230,11 +241,15 @@ def alone(name: str) -> int:
     options.add_argument("--failfast", action="store_true", help="stop at the first failure")
     classes = classes_of(modules)
     for option, value in (it for each in classes for it in each.options.items()):
-        if value:
+        if not option.startswith("-"):
+            options.add_argument(option.lower(), nargs="?", metavar=option)
+        elif value:
             options.add_argument(option, metavar=value)
         else:
             options.add_argument(option, action="store_true")
     asked = options.parse_args()
+    if path := vars(asked).get("program"):
+        use_program(options, path)
     given.update(vars(asked))
     # a check of which all classes are slow runs without --slow
     classes = [it for it in classes if asked.slow or not it.slow] or classes
