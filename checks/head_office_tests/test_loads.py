@@ -122,7 +122,7 @@ class Loads(JournalCheck):
         options = "-c datestyle=German,DMY -c timezone=Asia/Tokyo -c standard_conforming_strings=off -c search_path=pg_temp"
         more = {"PGCLIENTENCODING": "LATIN1", "PGOPTIONS": options}
         what, wanted = "under other settings of the session", EXPORT.format("NORTH", 60, 60)
-        self.loads(what, "NORTH", weighed()["journal"], wanted, **more)
+        self.loads(what, "NORTH", weighed()["journal"], wanted, 0, **more)
 
 
 class BrokenOff(OfficeCheck):

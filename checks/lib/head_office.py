@@ -6,6 +6,7 @@ import os
 import re
 import shutil
 import subprocess
+import tempfile
 import time
 from collections.abc import Callable, Collection, Iterator
 from contextlib import contextmanager
@@ -270,13 +271,13 @@ class OfficeCluster:
     """A cluster with a head office as a template, and logins of its roles. A test has a copy of it."""
 
     def __init__(self, settings: tuple[str, ...]) -> None:
-        self.cluster = Cluster(settings=settings)
+        folder = tempfile.mkdtemp(prefix="head_office.")
+        leftovers.until_the_end.callback(shutil.rmtree, folder, ignore_errors=True)
+        it = self.cluster = Cluster(folder, settings)
+        leftovers.until_the_end.callback(it.end)
         self.count = 0
         # the server's user may not read this repository
-        shutil.copy(f"{PARTS}/archive", f"{self.cluster.folder}/archive_log")
-
-    def __enter__(self) -> "OfficeCluster":
-        it = self.cluster
+        shutil.copy(f"{PARTS}/archive", f"{folder}/archive_log")
         it.start()
         it.told(f"CREATE DATABASE {TEMPLATE}", database="postgres")
         status, said = it.run([f"{PARTS}/upgrade"], database=TEMPLATE)
@@ -284,10 +285,6 @@ class OfficeCluster:
             raise RuntimeError(f"upgrade ended with status {status}: {said}")
         for login, role in LOGINS.items():
             it.told(f"CREATE ROLE {login} LOGIN CONNECTION LIMIT 9 IN ROLE head_office_{role}")
-        return self
-
-    def __exit__(self, *_: object) -> None:
-        self.cluster.end()
 
     def copy(self, database: str, template: str = TEMPLATE) -> str:
         """Make a database as a copy of another one, with its settings and rights."""
@@ -308,7 +305,7 @@ shared: dict[tuple[str, ...], OfficeCluster] = {}
 def cluster_with(settings: tuple[str, ...]) -> OfficeCluster:
     """Return the cluster with these settings that the classes of a process share. It ends with the process."""
     if settings not in shared:
-        shared[settings] = leftovers.until_the_end.enter_context(OfficeCluster(settings))
+        shared[settings] = OfficeCluster(settings)
     return shared[settings]
 
 
