@@ -28,16 +28,18 @@ HISTORIES: list[tuple[str, str, bytes, str, str, int]] = []
 
 def history(
     name: str,
-    trace: Sequence[str | bytes],
-    wanted: Sequence[str],
+    trace: str | Sequence[str | bytes],
+    wanted: str | Sequence[str],
     options: str = "",
     complaint: str = "",
     status: int = 0,
 ) -> None:
-    """Adds a history; the trace's and output's lines are given as lists of texts or bytes."""
-    data = b"".join((line if isinstance(line, bytes) else line.encode()) + b"\n" for line in trace)
+    """Add a history. The lines of the trace and of the output are lists, or texts that have a semicolon and a blank between two lines."""
+    given = trace.split("; ") if isinstance(trace, str) else trace
+    data = b"".join((line if isinstance(line, bytes) else line.encode()) + b"\n" for line in given)
+    printed = wanted.split("; ") if isinstance(wanted, str) else wanted
     HISTORIES.append(
-        (name, options, data, "".join(line + "\n" for line in wanted), complaint, status)
+        (name, options, data, "".join(line + "\n" for line in printed), complaint, status)
     )
 
 
@@ -58,6 +60,11 @@ def digest(
 
 def weighing(moment: int, key: str, kind: str, plate: str) -> str:
     return f"o {moment} POST /weighings key={key}&kind={kind}&plate={plate}"
+
+
+def driven(tenths: int, moment: int, key: str, kind: str, plate: str) -> list[str]:
+    """Return what happens if a vehicle drives onto the empty bridge, stands still and is weighed."""
+    return ["r 0", f"r {tenths} 4", weighing(moment, key, kind, plate)]
 
 
 def void(moment: int, key: str, plate: str) -> str:
@@ -99,308 +106,156 @@ D2 = digest(2, "K2", "second", "AB-12", LATER, 8140, previous=D1)
 FIRST_BLOCK = block("FIRST", 1, MORNING, D1, 18340)
 SLIP_1 = slip(1, "AB-12", *FIRST_BLOCK)
 TICKET_2 = ticket(2, "AB-12", FIRST_BLOCK + block("SECOND", 2, HALF_PAST_NINE, D2, 8140), 10200)
-PAIR = [
-    "r 0",
-    "r 9170 4",
-    weighing(M, "K1", "first", "AB-12"),
-    "r 0",
-    "r 4070 4",
-    weighing(LATER, "K2", "second", "AB-12"),
-]
+PAIR = [*driven(9170, M, "K1", "first", "AB-12"), *driven(4070, LATER, "K2", "second", "AB-12")]
 PAIR_PRINTED = SLIP_1 + TICKET_2
 
 # Terminal: indication.
-history("01 four equal loads", ["r 9170 4", "t SI"], ["t S S      18340 kg"])
-history("02 below the half", ["r 9163 3", "r 9164", "t SI"], ["t S S      18320 kg"])
-history("03 the half goes up", ["r 9163 3", "r 9165", "t SI"], ["t S S      18340 kg"])
+history("01 four equal loads", "r 9170 4; t SI", "t S S      18340 kg")
+history("02 below the half", "r 9163 3; r 9164; t SI", "t S S      18320 kg")
+history("03 the half goes up", "r 9163 3; r 9165; t SI", "t S S      18340 kg")
 history(
     "04 over and under",
-    ["r 30094 4", "t SI", "r 30095 4", "t SI", "r -205 4", "t SI", "r -206 4", "t SI"],
-    ["t S S      60180 kg", "t S +", "t S S       -400 kg", "t S -"],
+    "r 30094 4; t SI; r 30095 4; t SI; r -205 4; t SI; r -206 4; t SI",
+    "t S S      60180 kg; t S +; t S S       -400 kg; t S -",
 )
-history("05 nothing weighed", ["t SI", "t S", "r lost 20"], ["t S I", "t S I"])
+history("05 nothing weighed", "t SI; t S; r lost 20", "t S I; t S I")
 history(
     "06 lost starts the window again",
-    ["r 9170 4", "r lost", "t SI", "r 9170 3", "t SI", "r 9170", "t SI"],
-    ["t S I", "t S D      18340 kg", "t S S      18340 kg"],
+    "r 9170 4; r lost; t SI; r 9170 3; t SI; r 9170; t SI",
+    "t S I; t S D      18340 kg; t S S      18340 kg",
 )
 history(
     "07 numbers of readings",
-    [
-        "r 2000001",
-        "t SI",
-        "r 999999999999999999",
-        "t SI",
-        "r -2000000",
-        "t SI",
-        "r 000000000000000004 3",
-        "r -0",
-        "r 4",
-        "t SI",
-    ],
-    ["t S I", "t S I", "t S -", "t S D          0 kg"],
+    "r 2000001; t SI; r 999999999999999999; t SI; r -2000000; t SI; r 000000000000000004 3; r -0; "
+    "r 4; t SI",
+    "t S I; t S I; t S -; t S D          0 kg",
 )
 history(
     "08 the middle of the window counts",
-    ["r 9172 2", "r 9170 2", "r 9169", "t SI", "r 9170", "t SI"],
-    ["t S D      18340 kg", "t S S      18340 kg"],
+    "r 9172 2; r 9170 2; r 9169; t SI; r 9170; t SI",
+    "t S D      18340 kg; t S S      18340 kg",
 )
 # Zero.
 history(
     "09 zero setting at its bounds",
-    [
-        "r 600 4",
-        "t Z",
-        "t SI",
-        "r 601 4",
-        "t Z",
-        "t SI",
-        "r -601 4",
-        "t Z",
-        "t SI",
-        "r -600 4",
-        "t Z",
-        "t SI",
-    ],
-    [
-        "t Z A",
-        "t S S          0 kg",
-        "t Z +",
-        "t S S          0 kg",
-        "t Z -",
-        "t S -",
-        "t Z A",
-        "t S S          0 kg",
-    ],
+    "r 600 4; t Z; t SI; r 601 4; t Z; t SI; r -601 4; t Z; t SI; r -600 4; t Z; t SI",
+    "t Z A; t S S          0 kg; t Z +; t S S          0 kg; t Z -; t S -; t Z A; "
+    "t S S          0 kg",
 )
-history("10 two steps of tracking", ["r 3 7", "r 7", "t SI"], ["t S D         20 kg"])
-history("11 three steps of tracking", ["r 3 8", "r 7", "t SI"], ["t S D          0 kg"])
+history("10 two steps of tracking", "r 3 7; r 7; t SI", "t S D         20 kg")
+history("11 three steps of tracking", "r 3 8; r 7; t SI", "t S D          0 kg")
 history(
     "12 no step at a reading that sets zero",
-    ["r 3 3", "t Z", "r 3", "r 4", "r 8", "t SI"],
-    ["t Z A", "t S D          0 kg"],
+    "r 3 3; t Z; r 3; r 4; r 8; t SI",
+    "t Z A; t S D          0 kg",
 )
 history(
     "13 zero setting leaves the gap running",
-    ["r 3 4", "t Z", "r 4", "r 8", "t SI"],
-    ["t Z A", "t S D         20 kg"],
+    "r 3 4; t Z; r 4; r 8; t SI",
+    "t Z A; t S D         20 kg",
 )
 history(
     "14 a refused zero setting lets the step be made",
-    ["r 599 4", "t Z", "r 603 3", "t Z", "r 603", "r 604", "t SI"],
-    ["t Z A", "t Z +", "t S S          0 kg"],
+    "r 599 4; t Z; r 603 3; t Z; r 603; r 604; t SI",
+    "t Z A; t Z +; t S S          0 kg",
 )
-history(
-    "15 four steps in 43 readings",
-    ["r -5 43", "r -10", "t SI"],
-    ["t S D        -20 kg"],
-    "--pace 50",
-)
-history(
-    "16 five steps in 44 readings",
-    ["r -5 44", "r -10", "t SI"],
-    ["t S D          0 kg"],
-    "--pace 50",
-)
+history("15 four steps in 43 readings", "r -5 43; r -10; t SI", "t S D        -20 kg", "--pace 50")
+history("16 five steps in 44 readings", "r -5 44; r -10; t SI", "t S D          0 kg", "--pace 50")
 history(
     "17 the zero's limit stops tracking",
-    ["r 600 4", "t Z", "r 601 8", "r 605", "t SI"],
-    ["t Z A", "t S D         20 kg"],
+    "r 600 4; t Z; r 601 8; r 605; t SI",
+    "t Z A; t S D         20 kg",
 )
 history(
     "18 no tracking at a net zero",
-    ["r 9170 4", "t T", "r 9173 40", "t SI", "r 9175 4", "t SI"],
-    ["t T S      18340 kg", "t S S          0 kg", "t S S         20 kg"],
+    "r 9170 4; t T; r 9173 40; t SI; r 9175 4; t SI",
+    "t T S      18340 kg; t S S          0 kg; t S S         20 kg",
 )
 history(
     "19 a reply uses the zero after the step",
-    ["r 9179 4", "t T", "r 4 3", "t S", "r 4"],
-    ["t T S      18360 kg", "t S S     -18360 kg"],
+    "r 9179 4; t T; r 4 3; t S; r 4",
+    "t T S      18360 kg; t S S     -18360 kg",
 )
 # Tares.
 history(
     "20 weighed tare in tenths",
-    ["r 9173 4", "t T", "t TA", "r 9997 4", "t SI"],
-    ["t T S      18340 kg", "t TA A      18340 kg", "t S S       1640 kg"],
+    "r 9173 4; t T; t TA; r 9997 4; t SI",
+    "t T S      18340 kg; t TA A      18340 kg; t S S       1640 kg",
 )
 history(
     "21 preset rounded, bad, and before a weighed tare",
-    ["r 9170 4", "t TA 5003 kg", "t TA 5010 kg", "t TA 5 g", "t T"],
-    ["t TA A       5000 kg", "t TA A       5020 kg", "t TA L", "t T I"],
+    "r 9170 4; t TA 5003 kg; t TA 5010 kg; t TA 5 g; t T",
+    "t TA A       5000 kg; t TA A       5020 kg; t TA L; t T I",
 )
 history(
     "22 bounds and forms of a preset",
-    [
-        "t TA",
-        "t TA 9.999 kg",
-        "t TA 10 kg",
-        "t TA 60009.999 kg",
-        "t TA 60010 kg",
-        "t TA 0 kg",
-        "t TA 1234567.1 kg",
-        "t TA 12345678 kg",
-        "t TA 12. kg",
-        "t TA .5 kg",
-        "t TA 29.9999 kg",
-        "t TA 029.5 kg",
-        "t TA 30 kg",
-        "t TA 30 kg ",
-        "t TA 30 KG",
-        "t TA  30 kg",
-        "t TA ",
-        "t TA-5 kg",
-        "t TA",
-    ],
-    [
-        "t TA A          0 kg",
-        "t TA L",
-        "t TA A         20 kg",
-        "t TA A      60000 kg",
-        "t TA L",
-        "t TA L",
-        "t TA L",
-        "t TA L",
-        "t TA L",
-        "t TA L",
-        "t TA L",
-        "t TA A         20 kg",
-        "t TA A         40 kg",
-        "t TA L",
-        "t TA L",
-        "t TA L",
-        "t TA L",
-        "t ES",
-        "t TA A         40 kg",
-    ],
+    "t TA; t TA 9.999 kg; t TA 10 kg; t TA 60009.999 kg; t TA 60010 kg; t TA 0 kg; "
+    "t TA 1234567.1 kg; t TA 12345678 kg; t TA 12. kg; t TA .5 kg; t TA 29.9999 kg; "
+    "t TA 029.5 kg; t TA 30 kg; t TA 30 kg ; t TA 30 KG; t TA  30 kg; t TA ; t TA-5 kg; t TA",
+    "t TA A          0 kg; t TA L; t TA A         20 kg; t TA A      60000 kg; t TA L; t TA L; "
+    "t TA L; t TA L; t TA L; t TA L; t TA L; t TA A         20 kg; t TA A         40 kg; t TA L; "
+    "t TA L; t TA L; t TA L; t ES; t TA A         40 kg",
 )
 history(
     "23 weighed tare in force",
-    [
-        "r 9170 4",
-        "t T",
-        "t TA 100 kg",
-        "t TA 1 kg",
-        "t TA abc",
-        "r 5000 4",
-        "t T",
-        "t TA",
-        "t SI",
-        "t TAC",
-        "t TA",
-        "t SI",
-    ],
-    [
-        "t T S      18340 kg",
-        "t TA I",
-        "t TA I",
-        "t TA L",
-        "t T S      10000 kg",
-        "t TA A      10000 kg",
-        "t S S          0 kg",
-        "t TAC A",
-        "t TA A          0 kg",
-        "t S S      10000 kg",
-    ],
+    "r 9170 4; t T; t TA 100 kg; t TA 1 kg; t TA abc; r 5000 4; t T; t TA; t SI; t TAC; t TA; t SI",
+    "t T S      18340 kg; t TA I; t TA I; t TA L; t T S      10000 kg; t TA A      10000 kg; "
+    "t S S          0 kg; t TAC A; t TA A          0 kg; t S S      10000 kg",
 )
 history(
     "24 bounds of a weighed tare",
-    [
-        "r 0 4",
-        "t T",
-        "r 4 4",
-        "t T",
-        "r 5 4",
-        "t T",
-        "t TAC",
-        "r 30004 4",
-        "t T",
-        "r 30003 4",
-        "t T",
-    ],
+    "r 0 4; t T; r 4 4; t T; r 5 4; t T; t TAC; r 30004 4; t T; r 30003 4; t T",
     # The zero moves to 1 at the fourth 4, to 2 at the second 5 and to 3 at the fourth; 5 - 3 = 2 rounds to 0.
     # Then 30004 - 3 is above 30000 and 30003 - 3 isn't.
-    ["t T -", "t T -", "t T -", "t TAC A", "t T +", "t T S      60000 kg"],
+    "t T -; t T -; t T -; t TAC A; t T +; t T S      60000 kg",
 )
 history(
     "25 zero setting and @ clear a tare",
-    ["r 100 4", "t T", "r 300 4", "t Z", "t TA", "t SI", "t TA 500 kg", "t SI", "t @", "t SI"],
-    [
-        "t T S        200 kg",
-        "t Z A",
-        "t TA A          0 kg",
-        "t S S          0 kg",
-        "t TA A        500 kg",
-        "t S S       -500 kg",
-        't I4 A "WB01"',
-        "t S S          0 kg",
-    ],
+    "r 100 4; t T; r 300 4; t Z; t TA; t SI; t TA 500 kg; t SI; t @; t SI",
+    "t T S        200 kg; t Z A; t TA A          0 kg; t S S          0 kg; t TA A        500 kg; "
+    't S S       -500 kg; t I4 A "WB01"; t S S          0 kg',
 )
 # Waiting and lines.
 history(
     "26 stable at the last reading of the wait",
     ["t S"] + ["r 9100", "r 9200"] * 8 + ["r 9170 4"],
-    ["t S S      18340 kg"],
+    "t S S      18340 kg",
 )
 history(
     "27 not stable at the last reading",
     ["t S"] + ["r 9100", "r 9200"] * 8 + ["r 9100", "r 9170 3"],
-    ["t S I"],
+    "t S I",
 )
 history(
     "28 waits and other lines",
-    ["t S", "t SI", "t S", "t @", "t s", "t S 1", "t"],
-    ["t S I", "t S I", 't I4 A "WB01"', "t ES", "t ES", "t ES"],
+    "t S; t SI; t S; t @; t s; t S 1; t",
+    't S I; t S I; t I4 A "WB01"; t ES; t ES; t ES',
 )
 history(
     "29 each line ends the wait before it",
-    ["t Z", "t Z", "t T", "t S", "t x", "t T", "t I4", "t SR"],
-    ["t Z I", "t Z I", "t T I", "t S I", "t ES", "t T I", 't I4 A "WB01"', "t ES"],
+    "t Z; t Z; t T; t S; t x; t T; t I4; t SR",
+    't Z I; t Z I; t T I; t S I; t ES; t T I; t I4 A "WB01"; t ES',
 )
 history(
     "30 over and under answer a waiting S at once, Z and T wait",
-    ["t S", "r 40000", "t S", "t Z", "r -300", "r 40000 19", "t S", "t T", "r -300", "t S"],
+    "t S; r 40000; t S; t Z; r -300; r 40000 19; t S; t T; r -300; t S",
     # Z waits until the last four loads are 40000, then it is decided: above. T comes at a stable scale, so it is decided too.
-    ["t S +", "t S +", "t Z +", "t S +", "t T +", "t S -"],
+    "t S +; t S +; t Z +; t S +; t T +; t S -",
 )
 history(
     "31 one reading of waiting",
-    ["t Z", "r 0", "r 0 2", "t Z", "r 0", "t T", "r lost", "t T", "r 9170", "r 9170"],
-    ["t Z I", "t Z A", "t T -", "t T I"],
+    "t Z; r 0; r 0 2; t Z; r 0; t T; r lost; t T; r 9170; r 9170",
+    "t Z I; t Z A; t T -; t T I",
     "--wait 1",
 )
 history(
     "32 hang-up",
-    [
-        "r 0 4",
-        "t T",
-        "b 53",
-        "h",
-        "b 490d0a",
-        "r 9170",
-        "t S",
-        "h",
-        "r 9170 20",
-        "t T",
-        "b 54",
-        "h",
-        "t TA",
-    ],
-    ["t T -", "t ES", "t T S      18340 kg", "t TA A      18340 kg"],
+    "r 0 4; t T; b 53; h; b 490d0a; r 9170; t S; h; r 9170 20; t T; b 54; h; t TA",
+    "t T -; t ES; t T S      18340 kg; t TA A      18340 kg",
 )
 history(
     "33 lines in pieces",
-    [
-        "r 9170 4",
-        "b 53",
-        "b 490d",
-        "b 0a",
-        "b 53490a5349",
-        "b 0a",
-        "b 530d490d0a",
-        "b 53490d0d0a",
-        "b 0a",
-        "b 0d0A",
-    ],
+    "r 9170 4; b 53; b 490d; b 0a; b 53490a5349; b 0a; b 530d490d0a; b 53490d0d0a; b 0a; b 0d0A",
     ["t S S      18340 kg"] * 3 + ["t ES"] * 4,
 )
 history(
@@ -414,51 +269,49 @@ history(
         "b " + (b"SI" * 5000 + b"\n").hex(),
         "t I4",
     ],
-    ["t TA L", "t ES", "t ES", "t TA L", "t TA L", "t ES", 't I4 A "WB01"'],
+    't TA L; t ES; t ES; t TA L; t TA L; t ES; t I4 A "WB01"',
 )
 history(
     "35 the list of commands",
-    ["t I0"],
+    "t I0",
     [f't I0 B 0 "{name}"' for name in ("@", "I0", "I4", "S", "SI", "SIR", "Z")]
     + ['t I0 B 1 "T"', 't I0 B 1 "TA"', 't I0 A 1 "TAC"'],
 )
 # Repetition.
 history(
     "35.1 the value at each reading, up to SI",
-    ["t SIR", "r 9170 4", "t SI", "r 9170"],
+    "t SIR; r 9170 4; t SI; r 9170",
     ["t S D      18340 kg"] * 3 + ["t S S      18340 kg"] * 2,
 )
 history(
     "35.2 after the answer of a waiting Z, up to @",
-    ["t SIR", "t Z", "r 3 4", "t @", "r 3"],
+    "t SIR; t Z; r 3 4; t @; r 3",
     ["t S D          0 kg"] * 3 + ["t Z A", "t S S          0 kg", 't I4 A "WB01"'],
 )
 history(
     "35.3 SIR answers what waits, and a hang-up ends it",
-    ["t S", "t SIR", "r lost", "h", "r 0"],
-    ["t S I", "t S I"],
+    "t S; t SIR; r lost; h; r 0",
+    "t S I; t S I",
 )
-history(
-    "35.4 a line that isn't understood leaves it on", ["t SIR", "t x", "r lost"], ["t ES", "t S I"]
-)
+history("35.4 a line that isn't understood leaves it on", "t SIR; t x; r lost", "t ES; t S I")
 history(
     "35.5 SIR while Z waits, twice, then @",
-    ["t Z", "t SIR", "r 0", "t SIR", "r 0", "t @", "r 0 9"],
-    ["t Z I", "t S D          0 kg", "t S D          0 kg", 't I4 A "WB01"'],
+    "t Z; t SIR; r 0; t SIR; r 0; t @; r 0 9",
+    't Z I; t S D          0 kg; t S D          0 kg; t I4 A "WB01"',
 )
 history(
     "35.6 in a half line at a hang-up, and half a line of SI",
-    ["b 534952", "h", "b 0d0a", "r 0", "t SIR", "b 5349", "r 0", "b 0a", "r 0"],
-    ["t ES", "t S D          0 kg", "t S D          0 kg"],
+    "b 534952; h; b 0d0a; r 0; t SIR; b 5349; r 0; b 0a; r 0",
+    "t ES; t S D          0 kg; t S D          0 kg",
 )
 history(
     "35.7 with a parameter it is no command",
-    ["t SIR 5", "r 0", "t SIR", "t SIR 5", "t TA 100 kg", "r 0", "t S", "r 0 2"],
-    ["t ES", "t ES", "t TA A        100 kg", "t S D       -100 kg", "t S S       -100 kg"],
+    "t SIR 5; r 0; t SIR; t SIR 5; t TA 100 kg; r 0; t S; r 0 2",
+    "t ES; t ES; t TA A        100 kg; t S D       -100 kg; t S S       -100 kg",
 )
 history(
     "35.8 a hundred readings with T and TAC among them",
-    ["t SIR", "r 9170 40", "t T", "r 9170 30", "t TAC", "r 9170 30"],
+    "t SIR; r 9170 40; t T; r 9170 30; t TAC; r 9170 30",
     ["t S D      18340 kg"] * 3
     + ["t S S      18340 kg"] * 37
     + ["t T S      18340 kg"]
@@ -468,19 +321,19 @@ history(
 )
 history(
     "35.9 the value after a tare is less it; a zero in vain",
-    ["t SIR", "t T", "r 9170 4", "t Z", "r lost 3"],
+    "t SIR; t T; r 9170 4; t Z; r lost 3",
     ["t S D      18340 kg"] * 3
     + ["t T S      18340 kg", "t S S          0 kg", "t Z +", "t S I", "t S I", "t S I"],
 )
 history(
     "35.10 the last reading of a wait",
-    ["t SIR", "t Z", "r lost 3"],
-    ["t S I", "t Z I", "t S I", "t S I"],
+    "t SIR; t Z; r lost 3",
+    "t S I; t Z I; t S I; t S I",
     "--wait 2",
 )
 history(
     "35.11 a weighing changes no reply",
-    ["t SIR", "r 0", "r 9170 4", weighing(M, "K1", "first", "AB-12"), "r 9170"],
+    ["t SIR", *driven(9170, M, "K1", "first", "AB-12"), "r 9170"],
     ["t S D          0 kg"]
     + ["t S D      18340 kg"] * 3
     + ["t S S      18340 kg"]
@@ -491,7 +344,7 @@ history(
 history(
     "36 comments, empty lines, CR LF",
     ["# comment", "", "r 9170 4\r", "t SI\r", "\r", "q"],
-    ["t S S      18340 kg"],
+    "t S S      18340 kg",
     complaint="trace line 6 not understood\n",
     status=1,
 )
@@ -563,8 +416,8 @@ for options, complaint in [
     history(f"39 setup {options}", ["t SI"], [], options, f"setup refused: {complaint}\n", 2)
 history(
     "40 the least scale",
-    ["r 9 2", "r 10 2", "t SI", "r 100 4", "t Z", "r 101 4", "t Z"],
-    ["t S S         20 kg", "t Z A", "t Z +"],
+    "r 9 2; r 10 2; t SI; r 100 4; t Z; r 101 4; t Z",
+    "t S S         20 kg; t Z A; t Z +",
     "--max 10000 --band 1",
 )
 # Office: the worked pairs.
@@ -633,15 +486,9 @@ history(
 history(
     "45 capacity two",
     [
-        "r 0",
-        "r 9170 4",
-        weighing(M, "K1", "first", "AB-12"),
-        "r 0",
-        "r 9170 4",
-        weighing(M, "K2", "first", "CD-34"),
-        "r 0",
-        "r 4070 4",
-        weighing(M, "K3", "second", "AB-12"),
+        *driven(9170, M, "K1", "first", "AB-12"),
+        *driven(9170, M, "K2", "first", "CD-34"),
+        *driven(4070, M, "K3", "second", "AB-12"),
     ],
     SLIP_1
     + answer(409, "refused 14 journal_full")
@@ -664,15 +511,9 @@ B_4 = digest(4, "B2", "void", "B", M + 91 * DAY, previous=A_3)
 history(
     "46 an open First holds back a pair",
     [
-        "r 0",
-        "r 9170 4",
-        weighing(M, "A1", "first", "A"),
-        "r 0",
-        "r 9170 4",
-        weighing(M, "B1", "first", "B"),
-        "r 0",
-        "r 4070 4",
-        weighing(M, "A2", "second", "A"),
+        *driven(9170, M, "A1", "first", "A"),
+        *driven(9170, M, "B1", "first", "B"),
+        *driven(4070, M, "A2", "second", "A"),
         f"o {M + 91 * DAY} POST /purge",
         void(M + 91 * DAY, "B2", "B"),
         f"o {M + 91 * DAY} POST /purge",
@@ -717,9 +558,7 @@ history(
 history(
     "48 an earlier clock",
     [
-        "r 0",
-        "r 9170 4",
-        weighing(M, "K1", "first", "AB-12"),
+        *driven(9170, M, "K1", "first", "AB-12"),
         weighing(M - 1, "K1", "first", "AB-12"),
         weighing(M - 1, "K2", "second", "AB-12"),
     ],
@@ -790,16 +629,12 @@ history(
         weighing(M - 1, "K2", "second", "AB-12"),
         "r 9170 4",
         weighing(M, "K2", "first", "AB-12"),
-        "r 0",
-        "r 9170 4",
-        weighing(M, "K2", "first", "AB-12"),
+        *driven(9170, M, "K2", "first", "AB-12"),
         weighing(M, "K2", "second", "CD-34"),
         weighing(M, "K2", "second", "AB-12"),
         weighing(M, "K3", "second", "AB-12"),
         void(M, "K3", "AB-12"),
-        "r 0",
-        "r 4070 4",
-        weighing(M, "K3", "first", "AB-12"),
+        *driven(4070, M, "K3", "first", "AB-12"),
         "r lost",
         void(M, "K5", "AB-12"),
         void(M, "K6", "AB-12"),
@@ -852,17 +687,11 @@ X_3 = digest(3, "X1", "second", "AB-12", M, 18340, previous=S_2)
 history(
     "51 requests 31 to 38",
     [
-        "r 0",
-        "r 9170 4",
-        weighing(M, LONG_KEY + "x", "first", "AB-12"),
+        *driven(9170, M, LONG_KEY + "x", "first", "AB-12"),
         weighing(M, LONG_KEY, "first", "AB-12"),
         "t TA 5000 kg",
-        "r 0",
-        "r 9170 4",
-        weighing(M, "S1", "single", "EF-56"),
-        "r 0",
-        "r 9170 4",
-        weighing(M, "S2", "single", "EF-56"),
+        *driven(9170, M, "S1", "single", "EF-56"),
+        *driven(9170, M, "S2", "single", "EF-56"),
         "t TAC",
         weighing(M, "F2", "first", "AB-12"),
         weighing(M, "F2", "first", "GH-78"),
@@ -889,9 +718,7 @@ history(
         "o 1749427200 POST /purge",
         "r lost",
         weighing(5, "K1", "second", "ZZ"),
-        "r 0",
-        "r 9170 4",
-        weighing(5, "K3", "first", "AB-12"),
+        *driven(9170, 5, "K3", "first", "AB-12"),
         "o 5 GET /tickets/2",
         "o 5 GET /check",
     ],
@@ -919,19 +746,11 @@ B1 = block("FIRST", 2, "1970-01-01 00:00:00", OLD_2, 18340)
 history(
     "53 requests 44 and 45",
     [
-        "r 0",
-        "r 9170 4",
-        weighing(0, "A1", "first", "A"),
-        "r 0",
-        "r 9170 4",
-        weighing(0, "B1", "first", "B"),
-        "r 0",
-        "r 4070 4",
-        weighing(0, "B2", "second", "B"),
+        *driven(9170, 0, "A1", "first", "A"),
+        *driven(9170, 0, "B1", "first", "B"),
+        *driven(4070, 0, "B2", "second", "B"),
         f"o {OLD} POST /purge",
-        "r 0",
-        "r 4070 4",
-        weighing(OLD, "A2", "second", "A"),
+        *driven(4070, OLD, "A2", "second", "A"),
         f"o {OLD} POST /purge",
         f"o {OLD} GET /check",
     ],
@@ -981,9 +800,7 @@ history(
         "r 9170 4",
         weighing(LATER, "S3", "single", "EF-56"),
         "t @",
-        "r 0",
-        "r 9170 4",
-        weighing(LATER, "F4", "first", "EF-56"),
+        *driven(9170, LATER, "F4", "first", "EF-56"),
         void(LATER, "V5", "EF-56"),
         f"o {LATER} GET /tickets.csv",
         f"o {LATER} GET /journal.csv",
@@ -1243,9 +1060,7 @@ history(
 history(
     "64 the last moment, and one below nothing",
     [
-        "r 0",
-        "r 9170 4",
-        weighing(253402207200, "K1", "first", "AB-12"),
+        *driven(9170, 253402207200, "K1", "first", "AB-12"),
         weighing(253402207199, "K2", "second", "AB-12"),
         "o 253402207200 POST /purge",
     ],
