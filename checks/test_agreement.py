@@ -21,17 +21,10 @@ from checks.lib.case import PROGRAM, Check
 from checks.lib.second_verifier import LIBRARIES, SOURCE, STRICT, lacking
 
 BUILT = "crates/weighbridge/out/weighbridge"
-CHECKS = [
-    "beside_the_journal",
-    "broken_files",
-    "lost_entries",
-    "night",
-    "serve_changed_file",
-    "serve_killed",
-    "serve_same_key",
-    "sqlite3_on_the_file",
-    "verify",
-]
+CHECKS = (
+    "beside_the_journal broken_files lost_entries night serve_changed_file serve_killed "
+    "serve_same_key sqlite3_on_the_file verify"
+).split()
 NAMED = os.environ.get("CHECKS_OF_AGREEMENT", "").split() or CHECKS
 
 

@@ -15,19 +15,7 @@ from collections.abc import Iterator
 from checks import TOP
 from checks.lib.case import Check
 
-CODE = (
-    ".rt",
-    ".antt",
-    ".edit",
-    ".py",
-    ".text",
-    ".sh",
-    ".html",
-    ".txt",
-    ".conf",
-    ".service",
-    ".sql",
-)
+CODE = tuple(".rt .antt .edit .py .text .sh .html .txt .conf .service .sql".split())
 # Names of the kit and of HTTP that the pages use.
 OTHERS = {
     "read_to_end",

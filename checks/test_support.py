@@ -14,22 +14,11 @@ from checks.lib.case import Check
 from checks.lib.installed import install
 
 
-TITLES = [
-    "Versions",
-    "Clock",
-    "Units",
-    "/etc/weighbridge.conf",
-    "/etc/weighbridge-alarm.toml",
-    "Health of the counter",
-    "Check by the office",
-    "Alarm",
-    "Audit trail",
-    "Last night",
-    "/var/lib/weighbridge",
-    "Disks",
-    "Memory",
-    "The last hour's lines",
-]
+TITLES = (
+    "Versions;Clock;Units;/etc/weighbridge.conf;/etc/weighbridge-alarm.toml;Health of the counter;"
+    "Check by the office;Alarm;Audit trail;Last night;/var/lib/weighbridge;Disks;Memory;"
+    "The last hour's lines"
+).split(";")
 
 
 class Support(Check):

@@ -34,6 +34,7 @@ from typing import NoReturn
 from verify import COUNT, Log, checksum
 
 from checks import TOP
+from checks.lib.books import HEADER
 from checks.lib.case import Check
 from checks.lib.journal import ZEROS, digest_of, make_journal, newest_line, write_newest
 from checks.lib.second_verifier import (
@@ -60,20 +61,7 @@ def second() -> Second:
     return Second(folder.name)
 
 
-COLUMNS = [
-    "number",
-    "key",
-    "kind",
-    "plate",
-    "moment",
-    "gross_kg",
-    "preset_kg",
-    "interval_kg",
-    "max_kg",
-    "serial",
-    "digest",
-    "previous",
-]
+COLUMNS = HEADER.rstrip().split(",")
 ENDLESS = "CREATE VIEW journal AS WITH RECURSIVE r(n) AS (SELECT 1 UNION ALL SELECT n + 1 FROM r) SELECT n AS number FROM r"
 PURGE = "INSERT INTO spent SELECT request_key, number FROM journal WHERE number < 4; DELETE FROM journal WHERE number < 4"
 # Tables that take a text as a number, as no service makes them.

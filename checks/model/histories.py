@@ -349,48 +349,12 @@ history(
     status=1,
 )
 for place, bad in enumerate(
-    [
-        "r",
-        "r ",
-        "r 1 0",
-        "r 1 10001",
-        "r  1",
-        "r 1 01",
-        "r 1 2 3",
-        "r 1 ",
-        "b",
-        "b ",
-        "b 5",
-        "b 5g",
-        "b 53 49",
-        "h ",
-        "hh",
-        "o 01 GET /x",
-        "o 253402207201 GET /x",
-        "o 5 GET",
-        "o 5 GET ",
-        "o 5 GET /x y",
-        "o 5 PUT /x",
-        "o -1 GET /x",
-        "o 5 POST",
-        "o 5 POST ",
-        "x 5",
-        "x 5 ",
-        "x 5 4",
-        "x 5 4x",
-        "R 5",
-        " r 5",
-        "r 1234567890123456789",
-        "r +5",
-        "r --5",
-        "r LOST",
-        "r lost 0",
-        "tSI",
-        "T SI",
-        " # no",
-        "o 5 get /x",
-        "x 999999999999999 41",
-    ]
+    (
+        "r;r ;r 1 0;r 1 10001;r  1;r 1 01;r 1 2 3;r 1 ;b;b ;b 5;b 5g;b 53 49;h ;hh;o 01 GET /x;"
+        "o 253402207201 GET /x;o 5 GET;o 5 GET ;o 5 GET /x y;o 5 PUT /x;o -1 GET /x;o 5 POST;"
+        "o 5 POST ;x 5;x 5 ;x 5 4;x 5 4x;R 5; r 5;r 1234567890123456789;r +5;r --5;r LOST;"
+        "r lost 0;tSI;T SI; # no;o 5 get /x;x 999999999999999 41"
+    ).split(";")
 ):
     history(
         f"37.{place} bad line {bad!r}",

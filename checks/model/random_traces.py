@@ -13,69 +13,19 @@ import station_model
 
 DAY = 86400
 M = 1741593600
-COMMANDS = [
-    "S",
-    "SI",
-    "Z",
-    "T",
-    "TA",
-    "TAC",
-    "@",
-    "I0",
-    "I4",
-    "SIR",
-    "SIR",
-    "SIR 1",
-    "s",
-    "",
-    "S ",
-    " S",
-    "TA 5000 kg",
-    "TA 100 kg",
-    "TA 0.010 kg",
-    "TA 12.5 kg",
-    "TA 9.999 kg",
-    "TA 1 g",
-    "TA x",
-    "TA ",
-    "TA 60009.999 kg",
-    "TA 60010 kg",
-    "TA 18340 kg",
-    "TA 9999999.999 kg",
-    "TA 00000001 kg",
-    "I1",
-    "TI",
-]
+COMMANDS = (
+    "S;SI;Z;T;TA;TAC;@;I0;I4;SIR;SIR;SIR 1;s;;S ; S;TA 5000 kg;TA 100 kg;TA 0.010 kg;TA 12.5 kg;"
+    "TA 9.999 kg;TA 1 g;TA x;TA ;TA 60009.999 kg;TA 60010 kg;TA 18340 kg;TA 9999999.999 kg;"
+    "TA 00000001 kg;I1;TI"
+).split(";")
 PLATES = ["AB-12", "CD-34", "A"]
 KEYS = [f"K{number}" for number in range(12)] + ["k" * 32]
-TARGETS = [
-    "/weighings",
-    "/voids",
-    "/purge",
-    "/tickets/1",
-    "/tickets/2",
-    "/tickets/3",
-    "/tickets/0",
-    "/tickets/0004",
-    "/tickets/4294967295",
-    "/tickets/4294967296",
-    "/tickets/99999999999",
-    "/tickets/",
-    "/tickets/1/",
-    "/tickets/x",
-    "/indication",
-    "/journal.csv",
-    "/tickets.csv",
-    "/check",
-    "/check?x=/",
-    "/",
-    "?",
-    "/Check",
-    "//check",
-    "/%63heck",
-    "/tickets/%31",
-    "/tickets/1.csv",
-]
+TARGETS = (
+    "/weighings /voids /purge /tickets/1 /tickets/2 /tickets/3 /tickets/0 /tickets/0004 "
+    "/tickets/4294967295 /tickets/4294967296 /tickets/99999999999 /tickets/ /tickets/1/ "
+    "/tickets/x /indication /journal.csv /tickets.csv /check /check?x=/ / ? /Check //check "
+    "/%63heck /tickets/%31 /tickets/1.csv"
+).split()
 
 
 class Maker:
@@ -149,16 +99,10 @@ class Maker:
         if chance < 0.06:
             return [
                 pick(
-                    [
-                        "r 2000001",
-                        "r -2000001",
-                        "r 2000000",
-                        "r -2000000 4",
-                        "r 123456789012345678",
-                        "r -0 2",
-                        "r 0007 3",
-                        "r lost",
-                    ]
+                    (
+                        "r 2000001;r -2000001;r 2000000;r -2000000 4;r 123456789012345678;r -0 2;"
+                        "r 0007 3;r lost"
+                    ).split(";")
                 )
             ]
         if chance < 0.3:
