@@ -1,6 +1,6 @@
 """A day of readings, lines of the terminal and requests of every kind, each request made twice, as a trace.
 
-The checks beside this folder use it.
+The checks that make such a day use it.
 """
 
 from collections.abc import Iterator
@@ -20,7 +20,7 @@ DAY = (
 
 
 def lines() -> Iterator[str]:
-    """The lines of the trace."""
+    """Yield the lines of the trace."""
     for step in DAY:
         if step in READINGS:
             yield READINGS[step]

@@ -1,6 +1,6 @@
 """Histories of a weighbridge station as traces, with what must be printed, reasoned out by hand.
 
-`python3 histories.py PROGRAM` runs each history over the program and over the model beside this file, and prints the differences.
+`python3 histories.py PROGRAM` runs each history over the program and over the model next to this file, and prints the differences.
 """
 import hashlib
 import subprocess
