@@ -1,7 +1,7 @@
--- psql -X -v ON_ERROR_STOP=1 -v bridge=NORTH -f load.sql < journal.csv; with -v is_chained=0 an export of version 1, without the column previous;
--- with -v is_newest=1 one of the newest entries alone; with -v fetched=MOMENT the moment at which it was fetched; with -v asks_first=1 nothing but `whole`
--- where the whole export is wanted.
--- One transaction: whatever breaks off before the commit leaves nothing. `\copy` takes no variable, so the export comes on standard input.
+-- Loads an export: psql -X -v ON_ERROR_STOP=1 -v bridge=NORTH -f load.sql < journal.csv
+-- With -v is_chained=0 it is of version 1, without the column previous. With -v is_newest=1 it has only the newest entries. -v fetched=MOMENT gives the moment
+-- at which it was fetched. With -v asks_first=1 the only output is `whole` if the head office wants the whole export.
+-- It is one transaction, so a load that breaks off before the commit leaves nothing. `\copy` takes no variable, so the export comes on standard input.
 \set QUIET on
 \set VERBOSITY terse
 \pset format unaligned

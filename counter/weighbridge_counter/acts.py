@@ -114,7 +114,7 @@ class Acts:
         self.tasks: set[asyncio.Task[None]] = set()
         self.pause: Callable[[float], Awaitable[None]] = asyncio.sleep
         self.may_be_left = files.has(ACT_FILE)  # a tare of an act that didn't come to its end
-        # Whoever has something to do with each text that the office answered with 201, as it passed, and the request's fields: the lists, and whoever prints.
+        # Called with each text that the office returned with 201, letter for letter, and with the request's fields: for the lists and the papers.
         self.on_text: list[Callable[[str, Mapping[str, str]], None]] = []
         self.on_answer: Callable[[int, str], None] = lambda status, text: None
 
@@ -124,7 +124,7 @@ class Acts:
     # ---- weighings and voids
 
     async def carry_out(self, target: str, body: bytes) -> Told:
-        """Hands a request on to the office. What was begun goes on to its end, also if who asked for it leaves."""
+        """Pass a request to the office. It runs to its end, even if its client leaves."""
         told: asyncio.Future[Told] = asyncio.get_running_loop().create_future()
         task = asyncio.ensure_future(self._act(target, body, told))
         self.tasks.add(task)

@@ -109,12 +109,12 @@ class Books:
         )
 
     def answered(self, status: int, text: str) -> None:
-        """What the office's answer says of it, and of these lists."""
+        """Note what the office's answer says of the office and of these lists."""
         self.state = {0: "no_answer", 503: "store"}.get(status, "ok")
         if text.startswith(("refused 11 ", "refused 12 ", "refused 13 ")):
             self.wants_export = True
 
-    # ---- reading anew
+    # ---- reading again
 
     async def run(self) -> None:
         empty_since: float | None = None

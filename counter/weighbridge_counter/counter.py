@@ -1,4 +1,4 @@
-"""What the counter knows at a moment, and who is told when it changes."""
+"""The counter: what it knows at a moment, and which pages learn of a change."""
 
 import asyncio
 import contextlib
@@ -77,7 +77,7 @@ class Counter:
         self.answers_at_office = False  # while it gives the counter no value
         self.has_looked = False  # for the service, in this run
         self.program: dict[str, str | bool] = {}
-        self.bridge = "unknown"  # empty: it was since the last weighing; weighed: a weighing since; restarted: not empty since the service's start
+        self.bridge = "unknown"  # `empty` after the last weighing; `weighed` if it wasn't empty since; `restarted` if it wasn't since the service started
         self.told_state: dict[str, Any] = {}
         self.told_papers: dict[str, Any] = {}
         self.told_weight: tuple[object, ...] = ()
@@ -216,7 +216,7 @@ class Counter:
     # ---- commands of pages
 
     async def set_zero(self, by: str) -> str:
-        """What the terminal replied to `Z`. Raises NotSent or Unanswered."""
+        """Return what the terminal replied to `Z`. Raise NotSent or Unanswered."""
         try:
             said = (await asyncio.shield(asyncio.ensure_future(self.terminal.command("Z"))))[0]
             if said == "Z A":
@@ -244,10 +244,10 @@ class Counter:
         finally:
             self.tell_state()
 
-    # ---- what is told
+    # ---- what pages learn
 
     def link(self) -> str:
-        """down: the service isn't there; waits: it is, but its terminal is another one's; held: it doesn't answer; up."""
+        """Return `down` if the service isn't there, `waits` if another client has its terminal, `held` if it doesn't answer, and `up` otherwise."""
         fanout = self.terminal.fanout
         if fanout.link == "up":
             return "held" if fanout.is_held() else "up"
@@ -344,7 +344,7 @@ class Counter:
             await asyncio.sleep(WITHDRAW_EVERY)
 
     async def _look_for_another(self) -> None:
-        """A service that answers at its office, and gives no value for so long, serves another one's terminal."""
+        """Return whether another client has the terminal: the office answers, and no value came for some time."""
         while True:
             await asyncio.sleep(WITHOUT_VALUE)
             if self.terminal.fanout.link == "up" or self.terminal.is_refused:
@@ -362,6 +362,6 @@ class Counter:
             if self.now().date() != self.day:
                 self._tell_of_a_new_day()
             if not self.terminal.fanout.is_fresh(GONE_AFTER):
-                # so that a page tells a silent scale from a counter that is gone
+                # so that a page distinguishes a silent scale from a counter that is gone
                 self.pages.tell("alive", self.milliseconds())
             await asyncio.sleep(STATE_EVERY)

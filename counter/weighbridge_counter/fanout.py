@@ -1,15 +1,14 @@
-"""One connection of the terminal for many: who may send a command, when it goes out, and to whom its reply belongs.
+"""One connection of the terminal for many clients: which of them may send a command, when the command is sent, and which one gets the reply.
 
-This is a state machine. It reads no socket and no clock of its own: it is told what came, and it tells a wire what to send. `terminal.py` runs it
+This is a state machine. It reads no socket and no clock of its own. Its caller reports what came, and it says to a wire what to send. `terminal.py` runs it
 over a socket, the tests over a terminal that they play.
 
 The rules:
 
-- `SIR` is on as long as the connection lasts, since no `S`, `SI`, `SIR` or `@` is sent as a command. So each line that isn't a value is a reply.
+- `SIR` is on while the connection lasts, because no `S`, `SI`, `SIR` or `@` is sent as a command. So each line that isn't a value is a reply.
 - One command at a time, and right behind a value: the service then reads it at its next reading. One that can't go out in time is never sent.
-- What was sent and has no reply in a second is called back: the connection is reset. The service writes a value before it reads; it finds the
-  reset there, and never reads the command. If it was stopped in the very moment between the two, the tare that is in force at the next connection
-  tells (`doubtful_tare`).
+- If a command has no reply in a second, the connection is reset. The service writes a value before it reads, so it finds the reset there, and never
+  reads the command. If the service was stopped between the two, the tare of the next connection shows whether it read it (`doubtful_tare`).
 """
 
 import re
@@ -23,11 +22,11 @@ from .values import Value, value_of
 
 PATIENCE = 1.0  # seconds: a command that can't go out within them is never sent
 REPLY_WITHIN = 1.0  # seconds: a command that has no reply within them is called back
-SILENT_REPLY_WITHIN = 1.6  # the same if the converter is silent, since the service then reads its terminal once a second
+SILENT_REPLY_WITHIN = 1.6  # seconds if the converter is silent, because the service then reads its terminal once a second
 SILENT_PERIOD = 0.6  # seconds between two values from which on the converter counts as silent
-LONGEST_WITHOUT_LINE = 2.2  # seconds: without a line for so long the service is held up
+LONGEST_WITHOUT_LINE = 2.2  # seconds without a line, after which the service is held up
 READINGS_TO_ANSWER = 3  # values after which a command that doesn't wait is surely answered
-REPEAT_AFTER = 20.0  # seconds: the service hangs up a terminal that says nothing for a minute
+REPEAT_AFTER = 20.0  # seconds; the service disconnects a terminal that sends nothing for a minute
 WAITING = ("Z", "T")
 IN_FORCE = re.compile(r"(?:TA A|T S) +(\d+) kg$")
 
@@ -58,7 +57,7 @@ class Question:
     until: float
     sent_at: float | None = None
     readings: int = 0  # values since it was sent
-    ended_after: int | None = None  # at so many of them its waiting is ended
+    ended_after: int | None = None  # how many readings there are when its waiting ends
     lines: list[str] = field(default_factory=list)
 
     @property
@@ -68,9 +67,9 @@ class Question:
 
 @dataclass(eq=False)
 class Turn:
-    """A place in the queue. Whoever has its turn asks one question after the other until it is given back.
+    """A place in the queue. A client whose turn it is asks one question after the other until it gives the turn back.
 
-    `may_settle`: it may ask a new connection before that is settled, since it finds out what isn't known, or clears what it set itself.
+    `may_settle`: it may ask a new connection before that is settled, because it finds out what isn't known, or clears what it set itself.
     """
 
     granted: Callable[[bool], None]
@@ -94,7 +93,7 @@ class Fanout:
         self.doubtful_tare: int | None = (
             None  # the tare before a command that had no reply, until it is known again
         )
-        self.is_settled = False  # whether a new connection was asked for what isn't known of it, and cleared of what was left
+        self.is_settled = False  # whether the counter asked a new connection what it doesn't know of it, and cleared what was left
         self.holder: Turn | None = None
         self.queue: deque[Turn] = deque()
         self.question: Question | None = None
@@ -121,7 +120,7 @@ class Fanout:
         self.wire.send("SIR")
 
     def received(self, line: str) -> None:
-        """A line of the terminal. One that nobody asked for ends the connection: from then on no reply could be told from another's."""
+        """Process a line of the terminal. A reply to no question ends the connection, because later replies could belong to any question."""
         if self.link == "down":
             return
         self.heard_at = self.clock()
@@ -137,7 +136,7 @@ class Fanout:
             self._take_reply(self.question, line)
 
     def ended(self) -> None:
-        """The connection is gone; who waits for a reply is told that it isn't known."""
+        """Note that the connection is gone. Each client that waits for a reply learns that there is none."""
         question = self.question
         self._forget()
         if question is not None and question.sent_at is not None:
@@ -188,7 +187,7 @@ class Fanout:
         return turn
 
     def give_back(self, turn: Turn) -> None:
-        """Ends a turn, or takes it out of the queue. A command that has no reply yet is called back: its reply may go to nobody else."""
+        """End a turn, or remove it from the queue. A command without a reply ends the connection, because no other client may get its reply."""
         if turn is not self.holder:
             if turn in self.queue:
                 self.queue.remove(turn)
@@ -216,13 +215,13 @@ class Fanout:
         return question
 
     def hurry(self, question: Question) -> None:
-        """A line came behind it, or its client's end: a `Z` or `T` waits no longer. It is ended as at the terminal, by another line."""
+        """End the waiting of a `Z` or `T`, because its client sent another line, or ended. As at the terminal, another line ends it."""
         if question is self.question and question.waits and question.ended_after is None:
             question.ended_after = READINGS_TO_ANSWER
             self._end_waiting(question)
 
     def settle(self) -> None:
-        """The connection is known, and everybody may ask."""
+        """Note that the connection is known, so that every client may ask."""
         self.is_settled, self.doubtful_tare = self.link == "up", None
         self._try_to_send()
 

@@ -7,7 +7,7 @@ from .counter import Counter
 
 
 def service_of(counter: Counter) -> dict[str, Any] | None:
-    """The program, the words and the start of the service; None if its process can't be seen."""
+    """Return the program, the arguments and the start of the service. Return None if its process can't be seen."""
     service = counter.service
     if service is None:
         return None
@@ -21,7 +21,7 @@ def service_of(counter: Counter) -> dict[str, Any] | None:
 
 
 def newest_of(counter: Counter) -> dict[str, Any] | None:
-    """The number and the digest of the newest entry on the lists."""
+    """Return the number and the digest of the newest entry on the lists."""
     number = counter.books.lists.last
     digest = counter.books.lists.digest_of(number)
     return None if digest is None else {"number": number, "digest": digest}

@@ -1,4 +1,4 @@
-"""What stands on the page's lists: made of one export and of each text that passed since. A help to the eye; the office judges."""
+"""The lists of the page, made of one export and of each text that passed since. They help the eye. The office judges."""
 
 import bisect
 import collections
@@ -183,7 +183,7 @@ class Lists:
         return self.entries[self.empty[plate]].gross if plate in self.empty else None
 
     def digest_of(self, number: int) -> str | None:
-        """The digest of an entry, as it passed or as the export has it."""
+        """Return the digest of an entry, as it passed or as the export has it."""
         if number in self.texts:
             return self.texts[number].own.digest
         return self.rows[number].digest if number in self.rows else None
@@ -213,7 +213,7 @@ class Lists:
     # ---- what is shown
 
     def slip_again(self, number: int) -> tuple[str | None, str] | None:
-        """The text of an entry and where it is from: `passed`, or `export`, with None if its digest isn't that of its fields. None: it isn't here."""
+        """Return the text of an entry and where it is from, `passed` or `export`. The text is None if the digest isn't that of the fields. Return None if the entry isn't here."""
         if number in self.texts:
             return self.texts[number].letters, "passed"
         if number in self.rows:

@@ -11,8 +11,8 @@ from typing import Any
 
 MOST_BYTES = 4_000_000  # that wait for one page, besides what it began with
 MOST_BYTES_OF_ALL = 32_000_000
-FASTEST = 0.04  # seconds: a weight that changes is told not more often
-SLOWEST = 0.3  # seconds: one that stays is told so often
+FASTEST = 0.04  # seconds at least between two weights that differ
+SLOWEST = 0.3  # seconds after which an equal weight is sent again
 
 
 def frame_of(name: str, what: Any) -> bytes:

@@ -1,4 +1,4 @@
-"""Papers in the counter: each weighing prints by itself if a printer is set up, and each paper again at a press. It is noted and printed beside the event loop."""
+"""Papers in the counter. If a printer is set up, each weighing prints automatically. A press prints it again. Threads note and print it, next to the event loop."""
 
 import asyncio
 import contextlib
@@ -31,7 +31,7 @@ T = TypeVar("T")
 
 
 def papers_of(setup: Setup) -> Papers:
-    """The printers of the setup; without them the browser prints, with the company's name above."""
+    """Return the printers of the setup. Without any, the browser prints, with the company's name above."""
     if setup.papers is not None:
         return setup.papers
     language = setup.language if setup.language in LANGUAGES else "en"
@@ -52,7 +52,7 @@ class Printing:
         self.papers, self.digest_of, self.first_of = papers, digest_of, first_of
         # opened later, because a disk that takes nothing must not stop weighing
         self.spool = Spool(papers.spool, is_opened=False)
-        # one after another, in the order in which they were asked for
+        # one after another, in the order of the presses
         self.notes = ThreadPoolExecutor(1, "papers")
         self.something, self.is_over = [
             threading.Event() for _ in papers.printers
@@ -137,7 +137,7 @@ class Printing:
             something.wait(TRY_EVERY)
 
     def end(self) -> None:
-        """A paper that is being printed comes to its end, if it does so soon."""
+        """Wait a little for the paper that is being printed."""
         self.is_over.set()
         for it in self.something:
             it.set()
@@ -256,7 +256,7 @@ class Printing:
         return await self._noted(lambda: self.spool.put(self.spool.take(text, first), printer))
 
     async def for_browser(self, letters: str) -> dict[str, Any]:
-        """What the page puts on paper, once it is noted. Raises NoText."""
+        """Return what the page prints, once it is noted. Raise NoText."""
         text = read_text(letters)
         first = self._first_of_void(text)
 

@@ -1,6 +1,6 @@
 """Ports for tills and displays: on each, one client at a time talks to a terminal that answers as the service's own does.
 
-`SI`, `S`, `SIR` and `@` are answered from the values that come anyway; the other commands are handed on. Whoever reads slowly gets new values, never
+`SI`, `S`, `SIR` and `@` are answered from the values that come anyway. Other commands are passed on. A client that reads slowly gets new values, never
 old ones. On a port that may only read, what would change the scale is answered `ES`. A lenient port takes lines that the terminal wouldn't.
 """
 
@@ -16,7 +16,7 @@ MOST_LINES = 64  # that wait for their answer
 MOST_WAITING = 4  # clients of a port, as at the terminal
 CARRIED_OUT_WITHIN = 2.0  # seconds: an older line is never carried out; its client's connection is closed, as at the terminal
 ENDED_AFTER = 0.3  # seconds that a waiting `S` has once a line or the end came behind it, or three readings if that is more
-READS_NOTHING = 5.0  # seconds: a client that takes nothing for so long is hung up
+READS_NOTHING = 5.0  # seconds without reading, after which a client is disconnected
 SMALL_BUFFER = 4096  # bytes in the system on the way to a client: what waits there grows old
 CHANGES = ("Z", "T", "TA", "TAC")
 
@@ -57,7 +57,7 @@ class Client:
             await self._close()
 
     async def _close(self) -> None:
-        """What a client doesn't take isn't kept, nor is its connection."""
+        """Drop what a client doesn't read, and end its connection."""
         self.writer.close()
         try:
             await asyncio.wait_for(self.writer.wait_closed(), READS_NOTHING)
@@ -76,7 +76,7 @@ class Client:
     # ---- lines
 
     async def _read(self) -> None:
-        """Cuts lines. What came before the end is still done and answered, as at the terminal; what waits then is ended."""
+        """Split what comes into lines. As at the terminal, lines before the end are still carried out and answered, and a command that waits then ends."""
         try:
             while (chunk := await self.reader.read(1024)) and not self.terminal.is_in_doubt():
                 for line in self.cutter.cut(chunk):
@@ -175,7 +175,7 @@ class Client:
         self.repeats = is_on
 
     def _pass_value(self, value: Value) -> None:
-        """Each value, but none to a client whose last one still waits here."""
+        """Send each value, except to a client whose last one still waits here."""
         if self.writer.transport.get_write_buffer_size() == 0:
             self.stuck_since = None
             self._say(reply_of(value))

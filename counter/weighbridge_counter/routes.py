@@ -38,7 +38,7 @@ from .today import table_of, whole_day_of
 LONGEST_BODY = 2048  # bytes; the office takes 1,024
 SMALL_BUFFER = 16384  # bytes in the system on the way to a page
 LOOK_AT_SLOW_PAGE_EVERY = 0.05  # seconds
-READS_NOTHING = 5.0  # seconds: a page that takes nothing for so long is closed, and begins anew
+READS_NOTHING = 5.0  # seconds without reading, after which a page is disconnected, and begins again
 MOST_ASKING = 4  # of the office's places
 UNDER_WAY_FOR = 30.0  # seconds: longer than the office is waited for
 SAFE = ("GET", "HEAD")  # methods that change nothing
@@ -197,7 +197,7 @@ class Routes:
             return fault(request, it.status, Refusal(name, field=field), **allowed(it))
         except (
             Exception
-        ) as it:  # a line for each, and no control characters: who sends such requests fills no log by them
+        ) as it:  # a line for each, without control characters, so that such requests fill no log
             print(
                 f"counter: {request.method} {request.rel_url.raw_path[:100]}: {repr(it)[:200]}",
                 file=sys.stderr,
@@ -311,7 +311,7 @@ class Routes:
         return response
 
     async def in_turn(self, think: Callable[[], T]) -> T:
-        """What takes milliseconds is done once between two looks at what came, so that no weight waits for many of it."""
+        """Do one thing that takes milliseconds between two looks at what came, so that no weight waits for several."""
         async with self.thinking:
             await asyncio.sleep(0)
             return think()
@@ -412,7 +412,7 @@ class Routes:
         return as_json(self.counter.printing.state())
 
     async def print_paper(self, request: web.Request) -> web.StreamResponse:
-        """Puts a paper of an entry to a printer: the one that the form names, else the one that prints by itself, else the first."""
+        """Print a paper of an entry. The printer is the one that the form names, otherwise the one that prints automatically, otherwise the first."""
         body = form_of(request.content_type, await request.read(), FIELDS["/papers"])
         form = dict(urllib.parse.parse_qsl(body.decode("latin-1")))
         papers = self.counter.printing.papers
@@ -437,7 +437,7 @@ class Routes:
         return await self.text_of(number)
 
     async def paper_for_browser(self, request: web.Request) -> web.StreamResponse:
-        """What the page prints itself, noted as printed."""
+        """Return what the page prints itself, noted as printed."""
         found = await self.text_to_print(int(request.match_info["number"]))
         if found.text is None:
             return found.answered(request)

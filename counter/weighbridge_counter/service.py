@@ -40,7 +40,7 @@ def boot_of() -> str:
 
 
 def listener_user(address: tuple[str, int]) -> int | None:
-    """The user whose process listens on the address; None if nobody does, or it can't be seen."""
+    """Return the user whose process listens on the address. Return None if there is none, or it can't be seen."""
     wanted = "%s:%04X" % (
         "".join(f"{int(it):02X}" for it in reversed(address[0].split("."))),
         address[1],
@@ -53,7 +53,7 @@ def listener_user(address: tuple[str, int]) -> int | None:
 
 
 def find_service(terminal: tuple[str, int]) -> Service | None:
-    """The process that was told to serve this terminal, of the user who listens on its address; None if none can be seen."""
+    """Return the process that serves this terminal by its arguments, of the user who listens on its address. Return None if none can be seen."""
     user, wanted = listener_user(terminal), f"{terminal[0]}:{terminal[1]}"
     if user is None:
         return None
@@ -78,7 +78,7 @@ def find_service(terminal: tuple[str, int]) -> Service | None:
 
 
 def is_safe(path: Path) -> bool:
-    """Whether nobody but root and this user can put another program there."""
+    """Return whether only root and this user can put another program there."""
     for it in (path, *path.parents):
         found = it.stat()
         shared = found.st_mode & (
@@ -92,7 +92,7 @@ def is_safe(path: Path) -> bool:
 
 
 def program_of(service: Service) -> dict[str, str | bool]:
-    """What the program's file says of itself, and whether it was changed since the service was started, so that another one runs.
+    """Return what the program's file says of itself, and whether it changed since the service started, so that another one runs.
 
     A process names its program as it likes, and one that was taken over as its user can: one that isn't safe isn't run.
     """

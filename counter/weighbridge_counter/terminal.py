@@ -11,10 +11,10 @@ from .fanout import PATIENCE, Fanout, Outcome, Question, Turn
 from .values import Value
 
 TICK = 0.05  # seconds
-STOOD_STILL = 0.7  # seconds: who slept so long can't say how old a line is that it finds
+STOOD_STILL = 0.7  # seconds of sleep, after which this process can't say how old a line is
 DOUBTED = 0.3  # seconds after that in which what is found may be as old
 RETRY_AFTER = 0.2  # seconds
-WITHOUT_VALUE = 2.2  # seconds: so long a value is waited for
+WITHOUT_VALUE = 2.2  # seconds to wait for a value
 # SO_LINGER: every end of the connection is a reset, even a kill.
 RESET_AT_THE_END = struct.pack("ii", 1, 0)
 Listener = Callable[[Value], None]
@@ -29,7 +29,7 @@ class Unanswered(Exception):
 
 
 class Wish:
-    """What a client may still say of the command that it asked: that it waits no longer."""
+    """A command that a client sent. It can say that it waits no longer."""
 
     def __init__(self) -> None:
         self.is_hurried = False
@@ -95,7 +95,7 @@ class Terminal:
         self.on_change: Callable[[], None] = lambda: None
         self.listeners: set[Listener] = set()
         self.serial: str | None = None
-        self.was_refused = False  # nobody listened since it was looked at last
+        self.was_refused = False  # whether nobody listened since the last look
         self.is_refused = False  # nobody listened at the last try
         self.alive_at = clock()
         self.doubted_until = 0.0
@@ -141,12 +141,12 @@ class Terminal:
             await asyncio.sleep(TICK)
 
     def is_in_doubt(self) -> bool:
-        """Whether this process stood still just now, so that what it finds may have been sent long before."""
+        """Return whether this process stood still just now, so that what it finds may be old."""
         now = self.clock()
         return now < self.doubted_until or now - self.alive_at > STOOD_STILL
 
     def take(self, lines: list[str]) -> None:
-        """Lines that came. If this process stood still meanwhile, replies among them are taken, and no value: the connection begins anew."""
+        """Process lines that came. If this process stood still meanwhile, replies among them count and values don't, and the connection begins again."""
         stood_still = self.is_in_doubt()
         for line in lines:
             if not (stood_still and line.startswith("S ")):

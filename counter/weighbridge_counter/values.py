@@ -1,4 +1,4 @@
-"""What the terminal repeats at each reading: a weight, and whether it stands still."""
+"""The values that the terminal repeats at each reading: a weight, and whether it stands still."""
 
 import re
 from dataclasses import dataclass
@@ -8,7 +8,7 @@ REPEATED = re.compile(r"S (?:([SD]) +(-?\d+) kg|([I+-]))$")
 
 @dataclass(frozen=True)
 class Value:
-    """One reading. The state is S (stands still), D (moves), I (no weight), + (too heavy) or - (below zero); a net weight in kg with S and D alone.
+    """One reading. The state is S (stands still), D (moves), I (no weight), + (too heavy) or - (below zero). Only S and D have a net weight, in kg.
 
     `at` is the moment on the counter's own clock at which its line came.
     """
@@ -19,7 +19,7 @@ class Value:
 
 
 def value_of(line: str, at: float) -> Value | None:
-    """The value that a line of the terminal repeats; None for any other line."""
+    """Return the value that a line of the terminal repeats. Return None for any other line."""
     found = REPEATED.match(line)
     if found is None:
         return None
@@ -27,7 +27,7 @@ def value_of(line: str, at: float) -> Value | None:
 
 
 def reply_of(value: Value | None) -> str:
-    """The terminal's reply to `SI` with this value; without one there is no weight."""
+    """Return the terminal's reply to `SI` with this value. Without one there is no weight."""
     if value is None:
         return "S I"
     return f"S {value.state}" if value.kg is None else f"S {value.state} {value.kg:>10} kg"

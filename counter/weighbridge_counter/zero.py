@@ -21,7 +21,7 @@ class Zero:
         self.reason = "set" if self.is_set else "counter"
 
     def connected(self, service: Service | None, was_refused: bool) -> bool:
-        """The terminal answers again: whether the service was started since. If its process can't be seen, it was if nobody had listened."""
+        """Note that the terminal answers again, and whether the service was started meanwhile. If its process can't be seen, it was if nobody had listened."""
         if service is not None and service.identity == self.service:
             return False
         if service is None and not was_refused:
@@ -32,7 +32,7 @@ class Zero:
         return True
 
     def started(self, service: Service | None) -> str:
-        """When the service was started, or when that was noticed."""
+        """Return when the service was started, or when that was noticed."""
         if service is None:
             return self._moment()
         return datetime.fromtimestamp(service.started_at(), self.now().tzinfo).isoformat(

@@ -1,1 +1,1 @@
-"""Papers of a weighbridge: the office's text, checked and laid out, on the printers that stand there."""
+"""The papers of a weighbridge: the office's text, checked, laid out and printed."""

@@ -100,7 +100,7 @@ def say(what: str) -> None:
 
 
 def text_asked_for(asked: argparse.Namespace, spool: Spool) -> Text | None:
-    """The text to print; None if there is none, and what waits is printed. Raises NoText."""
+    """Return the text to print. Return None if there is none, so that the papers that wait are printed. Raise NoText."""
     if asked.reprint is not None:
         found = spool.text_of(asked.reprint)
         if found is None:

@@ -8,7 +8,7 @@ QUIET = 4  # modules around the code, as ISO/IEC 18004 asks for
 @functools.lru_cache(maxsize=8)
 def modules_of(text: str) -> tuple[tuple[bool, ...], ...]:
     """Return the modules of a code with its quiet zone, row by row. True is dark."""
-    import qrcode  # it takes memory: only once there is something to print
+    import qrcode  # only once there is something to print, because it needs memory
     import qrcode.constants
     import qrcode.util
 

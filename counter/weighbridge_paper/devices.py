@@ -20,7 +20,7 @@ from .printers import Printer
 
 TROUBLES = {
     "gone": "it can't be reached: look at its power, its cable and its address",
-    "no_answer": "it doesn't answer: look whether it is on, and whether it tells its status at all",
+    "no_answer": "it doesn't answer: look whether it is on, and whether it reports its status at all",
     "paper_out": "there is no paper in it",
     "cover_open": "its cover is open",
     "offline": "it is offline",
@@ -57,7 +57,7 @@ class Trouble(Exception):
 
 
 class Wire:
-    """A device or connection that takes bytes, and tells its status if it has one."""
+    """A device or connection that accepts bytes, and reports its status if it has one."""
 
     def __init__(self, handle: int, has_status: bool) -> None:
         self.handle, self.has_status, self.has_begun = handle, has_status, False
@@ -82,7 +82,7 @@ class Wire:
                 raise self.trouble("cut") from None
 
     def read(self, within: float, is_wanted: Callable[[int], bool]) -> int | None:
-        """The next byte of a form; None if none comes in time."""
+        """Return the next byte of a form. Return None if none comes in time."""
         until = time.monotonic() + within
         while (left := until - time.monotonic()) > 0:
             if not select.select([self.handle], [], [], left)[0]:
@@ -103,7 +103,7 @@ class Wire:
         return None
 
     def answers(self) -> dict[int, int] | None:
-        """What it answers to each DLE EOT; None if it doesn't."""
+        """Return what it answers to each DLE EOT. Return None if it doesn't answer."""
         found: dict[int, int] = {}
         for number in (1, 2, 3, 4):
             self.write(escpos.ask(number))
@@ -132,7 +132,7 @@ class Wire:
             self._wait_until_taken()
 
     def _wait_until_behind(self, tell: Tell, give_up: GiveUp) -> None:
-        """A printer that ran out of paper keeps what it got, and goes on when it has some: so it isn't sent again. One that is well isn't given up."""
+        """Wait while the printer is without paper. It keeps what it got and continues once it has some, so nothing is sent again."""
         well, heard_at, name = 0, time.monotonic(), None
         while not self.is_behind and self.read(BEHIND_EVERY, escpos.is_behind) is None:
             answers = self.answers()
@@ -266,7 +266,7 @@ class Queue:
             return True
 
     def media(self, data: bytes) -> str:
-        """The size as lp names it: of a roll as long as what stands on it."""
+        """Return the size as lp names it. A roll is as long as its text."""
         size = re.search(rb"/MediaBox \[ 0 0 ([\d.]+) ([\d.]+) \]", data)
         if size is None or FORMS[self.form].height is not None:
             return self.form.upper()
@@ -286,7 +286,7 @@ def sync_folder(folder: Path) -> None:
 
 
 def put_in_folder(folder: Path, name: str, data: bytes) -> None:
-    """A file that is there whole or not at all. Where others may write too, it follows no link of theirs."""
+    """A file that is whole or isn't there. It follows no link of other users in its folder."""
     new = folder / f".{name}.new"
     try:
         new.unlink(missing_ok=True)

@@ -49,7 +49,7 @@ PAGES = {
         "cp1257": 51,
     },
 }
-# What stands for a letter that no page of the printer has.
+# Printed for a letter that no page of the printer has.
 ALIKE = {
     "\u202f": " ",
     "\u00a0": " ",
@@ -75,7 +75,7 @@ class Letters:
         self.pages, self.now = pages, -1
 
     def plain(self, text: str) -> str:
-        """The text with something alike for each letter that no page has."""
+        """Return the text with a similar letter for each one that no page has."""
         return "".join(self._alike(it) for it in text)
 
     def _alike(self, letter: str) -> str:
@@ -115,7 +115,7 @@ def has(page: str, letter: str) -> bool:
 
 
 class Roll:
-    """Makes the bytes of blocks for a roll of so many columns of the printer's larger font, whose figures are more than 2 mm high."""
+    """Makes the bytes of blocks for a roll. Its width is given in columns of the printer's larger font, whose figures are more than 2 mm high."""
 
     def __init__(self, columns: int, pages: Sequence[tuple[str, int]], is_cut: bool) -> None:
         self.columns, self.is_cut, self.letters = columns, is_cut, Letters(pages)
@@ -129,7 +129,7 @@ class Roll:
         return b"".join(self.made)
 
     def _plain(self, block: layout.Block) -> layout.Block:
-        """The block with what its printer has for each letter, so that its lines are as long as they will be. The legal text stays as it is."""
+        """Return the block with the letters that its printer has, so that its lines have their final length. The legal text stays as it is."""
         fields = {"Legal": ("wrapped",), "Code": ("name",), "Pair": ("name", "value")}.get(
             type(block).__name__, ("text",)
         )
@@ -193,7 +193,7 @@ class Roll:
 
 
 def raster(rows: Sequence[Sequence[bool]]) -> bytes:
-    """A picture, by GS v 0: a bit a dot, the first at the left."""
+    """Return a picture as GS v 0 prints it: a bit for each dot, the first one at the left."""
     width = -(-len(rows[0]) // 8)
     data = bytearray()
     for row in rows:
@@ -208,22 +208,22 @@ def raster(rows: Sequence[Sequence[bool]]) -> bytes:
 
 
 def ask(number: int) -> bytes:
-    """DLE EOT: answered at once, also if the printer is offline."""
+    """Return a DLE EOT. A printer answers it at once, even if it is offline."""
     return b"\x10\x04" + bytes([number])
 
 
 def is_status(byte: int) -> bool:
-    """Whether a byte has the form of an answer to DLE EOT."""
+    """Return whether a byte has the form of an answer to DLE EOT."""
     return byte & 0x93 == 0x12
 
 
 def is_behind(byte: int) -> bool:
-    """Whether it has the form of an answer to GS r."""
+    """Return whether a byte has the form of an answer to GS r."""
     return byte & 0x90 == 0
 
 
 def trouble_of(answers: dict[int, int]) -> str | None:
-    """What the answers to DLE EOT 1 to 4 say: a name of devices.TROUBLES; None if it prints."""
+    """Return what the answers to DLE EOT 1 to 4 say, as a name of devices.TROUBLES. Return None if it prints."""
     offline, cause, fault, paper = (answers.get(it, 0) for it in (1, 2, 3, 4))
     if cause & 0x04:
         return "cover_open"

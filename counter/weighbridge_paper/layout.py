@@ -1,4 +1,4 @@
-"""What stands on a paper, in its order: blocks with no printer in them. What is large is made of the legal text alone."""
+"""The blocks of a paper in their order, for any printer. Only parts of the legal text are large."""
 
 import textwrap
 import unicodedata
@@ -13,7 +13,7 @@ LONGEST_GIVEN = 60  # characters of a free line
 WITHDRAWS = "withdraws"  # the name under which a Void has the number of its First
 ONCE = "once"  # the name under which a First says that no second weighing follows
 MOST_MARKS = 2  # accents and the like on one letter
-CONTINUES = ">"  # stands before what goes on the line above; no legal text has it
+CONTINUES = ">"  # begins a line that continues the one above; no legal text has it
 
 
 @dataclass(frozen=True)
@@ -26,7 +26,7 @@ class Mark:
 @dataclass(frozen=True)
 class Line:
     text: str
-    look: str = "plain"  # plain, bold, small; title and large are of the legal text alone
+    look: str = "plain"  # plain, bold, small; title and large are only for the legal text
     is_centred: bool = False
 
 
@@ -41,7 +41,7 @@ class Pair:
 
 @dataclass(frozen=True)
 class Legal:
-    """The legal text. `wrapped` tells what `>` means, and stands only where a line is wrapped."""
+    """The legal text. `wrapped` says what `>` means, and is printed only if a line is wrapped."""
 
     letters: str
     wrapped: str
@@ -75,7 +75,7 @@ class Template:
 
 @dataclass(frozen=True)
 class Paper:
-    """What is printed: a text, what the clerk gave with it, and whether it is the original."""
+    """A paper to print: a text, what the clerk gave with it, and whether it is the original."""
 
     text: Text
     # name and value, of words.FREE_LINES; also WITHDRAWS and the number of its First with a Void, and ONCE with a First
@@ -167,7 +167,7 @@ def weighing(it: Weighing, template: Template) -> list[Block]:
 
 
 def wrapped(letters: str, columns: int) -> list[str]:
-    """The lines of a legal text, wrapped between characters alone; what goes on a line begins with the mark."""
+    """Return the lines of a legal text, wrapped between any two characters. A line that continues one begins with the mark."""
     made = []
     for line in letters.removesuffix("\n").split("\n"):
         made.append(line[:columns])
@@ -179,7 +179,7 @@ def wrapped(letters: str, columns: int) -> list[str]:
 
 
 def joined(lines: list[str]) -> str:
-    """The legal text of its lines on paper: `wrapped`, turned round."""
+    """Return the legal text of its lines on paper, the inverse of `wrapped`."""
     made: list[str] = []
     for line in lines:
         if line.startswith(CONTINUES) and made:
@@ -195,14 +195,14 @@ def filled(text: str, columns: int) -> list[str]:
 
 
 def paired(name: str, value: str, columns: int) -> list[str]:
-    """A word and what it names on one line, or on more if they don't fit."""
+    """Return a word and its value on one line, or on more if they don't fit."""
     if len(name) + 1 + len(value) <= columns:
         return [name + value.rjust(columns - len(name))]
     return [*filled(name, columns), *(it.rjust(columns) for it in filled(value, columns))]
 
 
 def with_few_marks(text: str) -> str:
-    """A text without heaps of accents, which a browser would print over the lines above and below."""
+    """Return a text without stacked accents, which a browser would print over the lines above and below."""
     made, marks = "", 0
     for it in unicodedata.normalize("NFC", text):
         marks = marks + 1 if unicodedata.category(it).startswith("M") else 0
@@ -211,7 +211,7 @@ def with_few_marks(text: str) -> str:
 
 
 def given_of(fields: Mapping[str, str]) -> tuple[tuple[str, str], ...]:
-    """The free lines among the fields of a request, made harmless: one line each, of characters that are printed."""
+    """Return the free lines among the fields of a request. Each is one line of characters that can be printed."""
     made = []
     for name in words.FREE_LINES:
         value = " ".join(

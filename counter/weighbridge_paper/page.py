@@ -41,7 +41,7 @@ def block_of(block: layout.Block) -> dict[str, Any]:
 
 
 def path_of(rows: Sequence[Sequence[bool]]) -> str:
-    """The dark modules as a path of SVG: one run of each row after another."""
+    """Return the dark modules as a path of SVG, run by run of each row."""
     made = []
     for down, row in enumerate(rows):
         right = 0

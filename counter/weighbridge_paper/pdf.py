@@ -162,7 +162,7 @@ class Sheet:
         return [it for it in lines if it] or [""]
 
     def _pieces_of(self, part: str, font: str, size: float) -> list[str]:
-        """A word that is wider than the paper, in pieces that aren't."""
+        """Return a word that is wider than the paper in pieces that fit."""
         made = [""]
         for letter in part:
             if width_of(made[-1] + letter, font, size) > self.form.within:

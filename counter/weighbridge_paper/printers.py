@@ -140,7 +140,7 @@ def way_of(reader: Reader) -> tuple[str, str, str]:
 
 
 def page_of(reader: Reader, text: str) -> tuple[str, int]:
-    """A code page, and its number at the printer: `cp858`, or `cp858=19` if the printer's list is another one."""
+    """Return a code page, and its number at the printer, of `cp858`, or of `cp858=19` if the printer has another list."""
     name, _, number = text.partition("=")
     what = f'write code pages of the printer\'s list, as "cp858", or with its number there, "cp858=19"; there are {", ".join(PAGES)}'
     if name not in PAGES or not re.fullmatch("([0-9]{1,3})?", number) or int(number or 0) > 255:

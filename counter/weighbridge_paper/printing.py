@@ -16,7 +16,7 @@ if TYPE_CHECKING:
 
 
 def data_of(paper: layout.Paper, printer: Printer) -> bytes:
-    """A paper in the printer's language."""
+    """Return a paper in the printer's language."""
     blocks = layout.blocks_of(paper, printer.template)
     if printer.is_escpos:
         return Roll(printer.columns, printer.pages, printer.is_cut).bytes_of(blocks)
@@ -75,7 +75,7 @@ class Worker:
         has_begun = False
 
         def begin() -> bytes:
-            """The paper as what it is now. It is rendered before it is noted, and noted before a byte of it goes out."""
+            """Return the paper as it is now. It is rendered before it is noted, and noted before a byte of it is sent."""
             nonlocal has_begun
             now: Job | None = job
             while now is not None and now.state == "waits":

@@ -1,4 +1,4 @@
-"""What waits for a printer, what was printed and what failed: a database that no law asks for, but that decides what an original is.
+"""The papers that wait for a printer, that were printed and that failed. No law requires this database, but it decides what an original is.
 
 A paper is the original once. That is noted, and on the disk, before it is printed: so a crash makes a duplicate too many, and never an original too many.
 """
@@ -79,7 +79,7 @@ class Spool:
 
     @contextlib.contextmanager
     def _open(self) -> Iterator[sqlite3.Connection]:
-        """A transaction of its own, on the disk at its end. Raises OSError if the database can't be read or written."""
+        """Begin a transaction, which is on the disk at its end. Raise OSError if the database can't be read or written."""
         path = self.folder / "papers.db"
         if not self.is_made:
             self.folder.mkdir(mode=0o700, parents=True, exist_ok=True)
@@ -102,7 +102,7 @@ class Spool:
     # ---- papers
 
     def is_known(self, text: Text) -> bool:
-        """Whether it was printed, or put to a printer."""
+        """Return whether it was printed, or waits for a printer."""
         with self._open() as database:
             words = (found := paper_id(database, text), found)
             return (
@@ -114,7 +114,7 @@ class Spool:
             )
 
     def take(self, text: Text, given: tuple[tuple[str, str], ...] = ()) -> int:
-        """The paper of a text. What the clerk gave first stays with it, until something else is given."""
+        """Return the paper of a text. It keeps what the clerk gave first until something else is given."""
         with self._open() as database:
             own = text.own
             database.execute(
@@ -156,7 +156,7 @@ class Spool:
         return [(number, digest, given_in(it)) for number, digest, it in reversed(rows)]
 
     def text_of(self, number: int) -> Text | None:
-        """The newest text of a number, for a further print."""
+        """Return the newest text of a number, to print it again."""
         with self._open() as database:
             row = database.execute(
                 "SELECT letters FROM paper WHERE number = ? ORDER BY id DESC LIMIT 1", (number,)
@@ -166,7 +166,7 @@ class Spool:
     # ---- jobs
 
     def put(self, paper: int, printer: str) -> int:
-        """The job of a paper at a printer: one that waits there already is taken for it, so that many presses make one paper."""
+        """Return the job of a paper at a printer. If one waits there already, it is that one, so that many presses make one paper."""
         with self._open() as database:
             row = database.execute(
                 "SELECT id FROM job WHERE (paper, printer, state) = (?, ?, 'waits')",
@@ -194,7 +194,7 @@ class Spool:
         return None if row is None else job_of(row)
 
     def jobs(self, *states: str, most: int = -1) -> list[Job]:
-        """The oldest of them; all, if it isn't said how many."""
+        """Return the oldest jobs of a state, or all without a number."""
         places = ",".join("?" * len(states))
         with self._open() as database:
             return [
@@ -244,7 +244,7 @@ class Spool:
             cut(database, why, "id = ?", job)
 
     def recover(self, printer: str) -> None:
-        """What was begun by a program that is no more. Called by whoever holds the printer."""
+        """Return the jobs that a program began which has ended. The caller holds the printer."""
         with self._open() as database:
             cut(database, "crashed", "printer = ?", printer)
 
@@ -252,16 +252,16 @@ class Spool:
         self._becomes(job, "printed", why, "begun")
 
     def tell(self, job: int, why: str) -> None:
-        """Why it waits, or why its printing stands still."""
+        """Note why a job waits, or why its printing stands still."""
         with self._open() as database:
             database.execute("UPDATE job SET why = ? WHERE id = ? AND why != ?", (why, job, why))
 
     def again(self, job: int) -> bool:
-        """One that failed waits again."""
+        """Let a job that failed wait again."""
         return self._becomes(job, "waits", "", "failed")
 
     def drop(self, job: int) -> bool:
-        """One that waits, or failed, is printed no more."""
+        """Drop a job that waits or failed."""
         return self._becomes(job, "dropped", "", "waits") or self._becomes(
             job, "dropped", "", "failed"
         )
@@ -295,7 +295,7 @@ class Spool:
 
     @contextlib.contextmanager
     def holding(self, printer: str) -> Iterator[bool]:
-        """One program at a printer. False if another one has it."""
+        """Hold a printer for this program. Yield False if another one holds it."""
         with open(self.folder / f"{printer}.lock", "w") as file:
             try:
                 fcntl.flock(file, fcntl.LOCK_EX | fcntl.LOCK_NB)

@@ -51,7 +51,7 @@ class Text:
 
     @property
     def own(self) -> Weighing:
-        """The entry that the text was made for."""
+        """Return the entry for which the text was made."""
         return self.weighings[-1]
 
     @property
@@ -60,7 +60,7 @@ class Text:
 
 
 def read_text(letters: str) -> Text:
-    """What a text says. Raises NoText if the office didn't write it so."""
+    """Return what a text says. Raise NoText if the office can't have written it."""
     if not letters:
         raise NoText("there is none: nothing came on standard input")
     if len(letters.encode("utf-8", "replace")) > LONGEST:
@@ -112,7 +112,7 @@ def weighing_of(block: re.Match[str]) -> Weighing:
 
 
 def fault_of(text: Text) -> str | None:
-    """What no service would have stored so."""
+    """Return what no service would have stored."""
     own, kinds = text.own, tuple(it.kind for it in text.weighings)
     if kinds not in (("first",), ("void",), ("single",), ("first", "second")):
         return f"no slip and no ticket has these entries: {', '.join(kinds)}"
@@ -158,7 +158,7 @@ def net_of(weighings: tuple[Weighing, ...]) -> int | None:
 
 
 def written(text: Text) -> str:
-    """The text by the form, from what was read."""
+    """Return the text in the office's form, made again of what was read."""
     blocks = "".join(written_block(it) for it in text.weighings)
     net = "" if text.net is None else f"N {text.net:>10} kg\n"
     return f"WEIGHING {'TICKET' if text.is_ticket else 'SLIP'} {text.own.number}\nPLATE {text.plate}\n{blocks}{net}"
@@ -184,7 +184,7 @@ def first_difference(found: str, wanted: str) -> str:
 
 
 def digest_of(it: Weighing, plate: str, key: str, previous: str) -> str:
-    """The digest of an entry, made again of its fields."""
+    """Return the digest of an entry, computed again from its fields."""
     entry = (
         f"version 2\nnumber {it.number}\nkey {key}\nkind {it.kind}\nplate {plate}\nmoment {int(it.at.timestamp())}\n"
         f"gross {'-' if it.gross is None else it.gross}\npreset {'-' if it.preset is None else it.preset}\n"

@@ -60,7 +60,7 @@ def kg(value: int, language: str) -> str:
 
 
 def local(at: datetime.datetime, zone: zoneinfo.ZoneInfo, language: str) -> str:
-    """The moment in its zone, with the zone's name there and how far it is from UTC."""
+    """Return the moment in its zone, with the zone's name and its distance from UTC."""
     there = at.astimezone(zone)
     day = {
         "en": f"{there.day} {MONTHS[there.month - 1]} {there.year:04}",

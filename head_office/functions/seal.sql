@@ -21,8 +21,8 @@ create or replace view due_year as
         and not exists (select from sealed_year s where s.journal = j.journal and s.year >= y.year)
     group by 1, 2;
 
--- Drops the plates of a bridge's entries up to the end of a year. What is kept of an entry has no plate, key or digest. One digest stays over the digests of all. A
--- First whose Second comes later stays with it.
+-- Drops the plates of a bridge's entries up to the end of a year. The rest of an entry is kept without its plate, key and digest. One digest over the digests of all
+-- is kept. A First whose Second comes later stays.
 create or replace function seal(of_bridge text, of_year integer) returns setof text language plpgsql security definer set search_path = head_office, pg_temp set lock_timeout = '60s' as $$
 declare
     its       bridge;
