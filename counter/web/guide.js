@@ -220,9 +220,6 @@ function driveOff(newest) {
   return { word: newest.isWithdrawn ? 'drive_off_withdrawn' : 'drive_off', values: { plate: newest.plate, paper: newest.paper, number: newest.number } };
 }
 
-/** @type {{ [state: string]: string }} */
-const NO_WEIGHT = { I: 'no_weight', '+': 'overload', '-': 'below_zero' };
-
 // A message about something that is over keeps no press from its effect.
 /** @param {Told} told */
 export const isPast = ({ word }) => word === 'armed_over';
@@ -238,7 +235,7 @@ export function step(now) {
   if (result && !plate && link !== 'up' && now.isResultNew) return result;     // what came of the press comes before a fault
   if (link !== 'up') return { look: 'bad', word: `link_${link}` };
   if (told) return isPast(told) ? { ...told, ...mayPress(step({ ...now, told: null })) } : told;
-  if (weight.state in NO_WEIGHT) return { look: 'bad', word: NO_WEIGHT[weight.state] };
+  if (weight.state !== 'S' && weight.state !== 'D') return { look: 'bad', word: { I: 'no_weight', '+': 'overload', '-': 'below_zero' }[weight.state] };
   const gross = /** @type {number} */ (grossOf(weight)), isLight = gross < now.min;
   if (result && !plate) return result;
   if (weight.tare && state.tare && !state.busy) return { look: 'wait', word: 'foreign_tare', values: { tare: weight.tare }, choices: ['clear_tare'] };

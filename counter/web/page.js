@@ -77,7 +77,7 @@ async function setZero() {
   const answer = await askJson('POST', '/zero');
   /** @type {{ [said: string]: [string, string] }} */
   const words = { 'Z A': ['ok', 'zero_set'], 'Z I': ['bad', 'zero_moves'], 'Z +': ['bad', 'zero_too_much'], 'Z -': ['bad', 'zero_too_little'] };
-  const [look, word] = words[answer?.said] ?? ['bad', answer?.why === 'not_sent' ? 'zero_not_sent' : 'zero_unknown_now'];
+  const [look, word] = words[answer?.said] ?? (answer?.why === 'not_sent' ? ['bad', 'zero_not_sent'] : ['bad', 'zero_unknown_now']);
   tell(look, word);
   focusPlate();
 }

@@ -91,22 +91,17 @@ function forgetAnswers(now) {
   if (gross !== null && gross < now.min) clerk.answered = {};
 }
 
-/** @type {{ [state: string]: string[] }} */
-const STATES = { S: ['ok', 'stable'], D: ['wait', 'moves'] };
-/** @type {{ [state: string]: string }} */
-const SHORT = { '+': 'overload_short', '-': 'below_short', I: 'no_weight_short' };
-
 /** @param {Now} now */
 function showScale({ link, weight }) {
   const hasWeight = weight !== null && weight.net !== null, isNet = hasWeight && Boolean(weight.tare);
-  const [look, word] = hasWeight ? STATES[weight.state] : ['bad', 'none'];
-  part('scale').dataset.look = look;
-  part('state').textContent = t(word);
+  const state = weight?.state ?? 'S', isStable = hasWeight && state === 'S';
+  part('scale').dataset.look = isStable ? 'ok' : hasWeight ? 'wait' : 'bad';
+  part('state').textContent = t(isStable ? 'stable' : hasWeight ? 'moves' : 'none');
   part('kind').textContent = hasWeight ? t(isNet ? 'net' : 'gross') : '';
   part('parts').textContent = isNet ? t('net_parts', { tare: kg(weight.tare ?? 0), gross: kg(grossOf(weight) ?? 0) }) : '';
   part('weight').classList.toggle('words', !hasWeight);
   if (hasWeight) part('weight').replaceChildren(number(weight.net ?? 0), make('small', { textContent: ' kg' }));
-  else part('weight').textContent = t(SHORT[weight?.state ?? ''] ?? (link === 'off' || link === 'down' ? 'no_connection_short' : 'no_weight_short'));
+  else part('weight').textContent = t({ '+': 'overload_short', '-': 'below_short', I: 'no_weight_short', S: null, D: null }[state] ?? (link === 'off' || link === 'down' ? 'no_connection_short' : 'no_weight_short'));
 }
 
 const showGuide = onlyChanged((/** @type {Told & { language: string }} */ told) => {
