@@ -1,6 +1,6 @@
 """A bridge to try the service with: its converter, played on a port of this machine, and clients of the terminal and the office.
 
-The checks beside this folder use it. It needs python3 alone.
+Many checks use it. It only needs python3.
 """
 
 import os
@@ -33,7 +33,7 @@ class HasTerminal(Protocol):
 
 
 def sizes_of(process: subprocess.Popen[Any]) -> tuple[int, float]:
-    """The memory of the process in kB and its processor time in seconds."""
+    """Return the memory of the process in kB and its processor time in seconds."""
     with open(f"/proc/{process.pid}/stat") as it:
         fields = it.read().rpartition(")")[2].split()
     ticks = os.sysconf("SC_CLK_TCK")
@@ -89,7 +89,7 @@ class Closing:
 
 
 class Converter(Closing, threading.Thread):
-    """Sends a line so many times a second, as long as it isn't told to be silent. The line is what `load` gives for its number."""
+    """Sends lines at a pace until it is silenced. `load` returns the line of a number."""
 
     def __init__(
         self, rate: float = 10.0, load: Callable[[int], object] = lambda number: 0
@@ -142,7 +142,7 @@ class Played(Converter):
         self.now = 0
 
     def put(self, load: int, lines: int = 12) -> None:
-        """Puts a load on the bridge, and waits until so many lines of it were sent, or nobody takes them any more."""
+        """Put a load on the bridge, and wait until several lines of it were sent, or nobody reads them any more."""
         self.now = load
         wanted = len(self.sent) + lines
         while len(self.sent) < wanted and self.is_alive():
@@ -323,7 +323,7 @@ class Terminal(Client):
 
 
 def printed(program: str, *words: str) -> tuple[int, str, str]:
-    """The status of a run, and what it printed and reported."""
+    """Return the status of a run, and what it printed and reported."""
     it = subprocess.run([program, *words], stdin=subprocess.DEVNULL, capture_output=True, text=True)
     return it.returncode, it.stdout, it.stderr
 
@@ -337,7 +337,7 @@ def request_bytes(method: str, target: str, body: str | None = None) -> bytes:
 def exchange_bytes(
     port: int, data: bytes, timeout: float = 60, meanwhile: Callable[[], object] = lambda: None
 ) -> bytes:
-    """All bytes that the office at this port answers. Something may be done once the request is sent."""
+    """Return all bytes that the office at this port answers. A function may be called once the request is sent."""
     with socket.create_connection((HOST, port), timeout) as stream:
         stream.settimeout(timeout)
         stream.sendall(data)
@@ -356,7 +356,7 @@ def exchange(
     timeout: float = 60,
     meanwhile: Callable[[], object] = lambda: None,
 ) -> Answer | None:
-    """The status and the body of a request's response; None where the connection gave none. Something may be done once it is sent."""
+    """Return the status and the body of a request's response, or None if the connection gave none. A function may be called once the request is sent."""
     head, parted, body = exchange_bytes(service.office, data, timeout, meanwhile).partition(
         b"\r\n\r\n"
     )

@@ -97,7 +97,7 @@ class Browser:
         return text
 
     def tool(self, command: str, **parameters: object) -> Any:
-        """A command of the browser's tools for developers."""
+        """Call a command of the browser's tools for developers, and return its result."""
         return self.call("POST", "/goog/cdp/execute", {"cmd": command, "params": parameters})
 
     def shown_as(self, medium: str) -> None:

@@ -1,7 +1,7 @@
-"""What a power cut leaves of the files of a journal: the writes of a service's run, recorded by strace, and torn in ways that a disk may tear them.
+"""States of a journal's files that a power cut may leave: strace records the writes of a service's run, and they are torn as a disk may tear them.
 
 A disk keeps what was synced. Of what was written since, each byte is as before or as written, in runs of one to 4,096 bytes, and a file has any
-length between. The witness beside a journal is never synced: of all that was written to it a power cut leaves anything. It needs strace.
+length between. The witness next to a journal is never synced, so a power cut may leave any part of what was written to it. It needs strace.
 """
 
 import os
@@ -21,7 +21,7 @@ FILES = {"log": "-wal", "witness": "-newest", "file": ".db"}
 
 
 class Recording:
-    """A program that runs this one and records its writes: `program`; and the calls so far in their order: what was done, to which of the files, where,
+    """Records the writes of a program, which it runs as `program`. It has the calls in their order: what was done, to which of the files, where,
     and with which bytes."""
 
     def __init__(self, folder: str, program: str) -> None:
@@ -35,7 +35,7 @@ class Recording:
         os.chmod(self.program, 0o755)
 
     def count(self) -> int:
-        """How many calls there are by now."""
+        """Return how many calls there are by now."""
         for name in sorted(it for it in os.listdir(self.folder) if it.startswith("trace.")):
             with open(os.path.join(self.folder, name), "rb") as it:
                 it.seek(self.read.setdefault(name, 0))
@@ -96,14 +96,14 @@ class Disk:
             self.synced[which], self.since[which] = bytes(whole), []
 
     def whole(self, which: str) -> bytes:
-        """All that was written."""
+        """Return all that was written."""
         data = bytearray(self.synced[which])
         for it in self.since[which]:
             done(data, it)
         return bytes(data)
 
     def torn(self, which: str, chance: random.Random) -> bytes:
-        """What a power cut leaves now, in one of many ways."""
+        """Return what a power cut leaves now, in one of many ways."""
         data = bytearray(self.synced[which])
         for what, _, at, new in self.since[which]:
             if what == "cut" and chance.random() < 0.5:
@@ -139,6 +139,6 @@ def tear(data: bytearray, at: int, new: bytes, chance: random.Random) -> None:
 
 
 def mixed(old: bytes, new: bytes, mask: bytes) -> bytes:
-    """The bytes of the one where the mask is 0, of the other where it is 255."""
+    """Return the bytes of the one where the mask is 0, of the other where it is 255."""
     before, after, which = (int.from_bytes(it, "big") for it in (old, new, mask))
     return (before ^ ((before ^ after) & which)).to_bytes(len(old), "big")

@@ -1,4 +1,4 @@
-"""A gateway between a client and the office that cuts connections, for checks of what a client does then. It needs python3 alone."""
+"""A gateway between a client and the office that cuts connections, for checks of what a client does then. It only needs python3."""
 
 import socket
 import threading
@@ -11,7 +11,7 @@ Step = Callable[["Gateway", bytes], bytes]
 
 
 class Gateway(threading.Thread):
-    """Does with one connection after another what its plan says, and hands on whole answers once the plan is at its end.
+    """Does with one connection after the other what its plan says, and passes whole answers on once the plan is at its end.
 
     A step of the plan is a function of the request's bytes and of the gateway, which gives the bytes that the client gets.
     """
@@ -35,7 +35,7 @@ class Gateway(threading.Thread):
 
 
 def whole_request(stream: socket.socket) -> bytes:
-    """The bytes of a POST with a length."""
+    """Return the bytes of a POST with a length."""
     data = b""
     while b"\r\n\r\n" not in data:
         data += stream.recv(4096)
@@ -55,12 +55,12 @@ def whole(gateway: Gateway, request: bytes) -> bytes:
 
 
 def unheard(gateway: Gateway, request: bytes) -> bytes:
-    """The office doesn't get the request, and the client no byte."""
+    """Keep the request from the office, and each byte from the client."""
     return b""
 
 
 def cut(at: int) -> Step:
-    """The client gets so many bytes of the office's answer, counted from its end if that is negative."""
+    """Send the client the first bytes of the office's answer, or all but the last if the number is negative."""
     return lambda gateway, request: whole(gateway, request)[:at]
 
 

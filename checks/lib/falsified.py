@@ -27,14 +27,14 @@ ALL = {
     "blind": (("discrimination",), "is blind to a tenth of e at Min"),
     "kept_tare": (("power_cut",), "keeps a tare over a restart"),
     "gain": (("performance",), "weighs a thousandth too much"),
-    "net_limit": (("limits",), "tells overload of the net"),
+    "net_limit": (("limits",), "reports overload by the net"),
     "drift": (("creep",), "drifts by 0.6 e in half an hour"),
     "uneven": (("repeatability",), "weighs each second vehicle 3 e heavier"),
 }
 
 
 class Reading:
-    """What was seen of a trace so far."""
+    """A trace up to a line."""
 
     def __init__(self, words: list[str]) -> None:
         value = dict(zip(words[1::2], words[2::2]))
@@ -62,7 +62,7 @@ class Reading:
 
 
 def edited(name: str, words: list[str], lines: Iterable[str]) -> Iterator[str]:
-    """The lines of a trace as the falsified program takes them."""
+    """Yield the lines of a trace as the falsified program understands them."""
     seen = Reading(words)
     for line in lines:
         reading = re.fullmatch(r"r (-?\d+)(?: (\d+))?", line)

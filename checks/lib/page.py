@@ -11,7 +11,7 @@ A page has its commands in one of two forms, or in both:
 A moment, a digest, the line of a kit, a key that a client makes, a count of turns, a time in milliseconds, the port of a client, and the page that a message
 of the program points to may be any other of their form.
 
-It needs bash and what the page uses, and python3 alone.
+It needs bash, what the page uses, and python3.
 """
 
 import os
@@ -150,7 +150,7 @@ class Shell:
         os.close(commands)
 
     def run(self, command: str) -> str | None:
-        """What the command prints; None if it didn't end in time."""
+        """Return what the command prints. Return None if it didn't end in time."""
         os.write(self.commands, command.encode() + b"\0")
         assert self.process.stdout is not None  # it is a pipe
         until, printed = time.monotonic() + SECONDS, b""
@@ -208,7 +208,7 @@ def compared(
 
 
 def shell_in(folder: str, *programs: str | None) -> Shell:
-    """A shell in this folder, in which clients/ and inspect/ are there. `weighbridge` is the first of the programs, `weighbridge-converter` the second; without
+    """Return a shell in this folder with clients/ and inspect/ in it. `weighbridge` is the first of the programs, `weighbridge-converter` the second; without
     programs both are the launcher.
     """
     for name in ("clients", "inspect"):
@@ -226,7 +226,7 @@ def shell_in(folder: str, *programs: str | None) -> Shell:
 
 
 def ports_of(ports: Iterable[int]) -> dict[str, str]:
-    """The addresses of these ports as a page writes them, with those of free ports."""
+    """Return the addresses of these ports as a page writes them, with those of free ports."""
     free = [(port, bridge.free_port()) for port in ports]
     return {
         f"127.0.0.1{parted}{port}": f"127.0.0.1{parted}{it}"

@@ -1,5 +1,5 @@
-"""The functions of Rattle's sources: where they stand, what is left of a source without their bodies, and a copy of a crate in which of a function
-only its contract is left. It needs python3 alone.
+"""The functions of Rattle's sources: their places, a source without their bodies, and a copy of a crate in which functions only have their contracts.
+It only needs python3.
 """
 import os
 import re
@@ -51,7 +51,7 @@ class Function:
 
 
 def blanked(text: str) -> str:
-    """The text with blanks in place of comments and literals, so that each place stays where it is."""
+    """Return the text with blanks in place of comments and literals, so that each place stays where it is."""
     return COMMENT_OR_TEXT.sub(lambda it: re.sub(r"[^\n]", " ", it[0]), text)
 
 
@@ -65,7 +65,7 @@ def end_of_block(text: str, opening: int) -> int:
 
 
 def body_of(text: str, at: int) -> int | None:
-    """Where the body of the function whose name ends at this place begins, past its clauses; none if it has no body."""
+    """Return where the body of the function whose name ends at this place begins, past its clauses, or None if it has no body."""
     depth = 0
     head = at
     while at < len(text):
@@ -85,7 +85,7 @@ def body_of(text: str, at: int) -> int | None:
 
 
 def impls_of(text: str) -> Iterator[tuple[int, int, tuple[str, str]]]:
-    """The blocks of `impl` and `trait`, each with its type and its trait, none where it has none."""
+    """Yield the blocks of `impl` and `trait`, each with its type, and its trait if it has one."""
     for it in re.finditer(r"(?m)^(?:pub(?:\(\w+\))? )?(?:unsafe )?trait (\w+)[^{;]*\{", text):
         yield it.start(), end_of_block(text, it.end() - 1), ("", it[1])
     for it in re.finditer(r"(?m)^(?:unsafe )?impl\b([^{;]*)\{", text):
@@ -100,7 +100,7 @@ def impls_of(text: str) -> Iterator[tuple[int, int, tuple[str, str]]]:
 
 
 def first_line(text: str, at: int) -> int:
-    """Where the lines begin that belong to the function at this place, with its attributes and its comments."""
+    """Return where the lines begin that belong to the function at this place, with its attributes and its comments."""
     start = text.rfind("\n", 0, at) + 1
     while start:
         above = text.rfind("\n", 0, start - 1) + 1
@@ -111,7 +111,7 @@ def first_line(text: str, at: int) -> int:
 
 
 def functions_of(text: str) -> list[Function]:
-    """The functions of a source that have a body."""
+    """Return the functions of a source that have a body."""
     written, text = text, blanked(text)
     impls = [*impls_of(text)]
     found: list[Function] = []
@@ -129,7 +129,7 @@ def functions_of(text: str) -> list[Function]:
 
 
 def contracts_of(text: str) -> str:
-    """A source without comments and without the bodies of its functions: what their contracts say."""
+    """Return a source without comments and without the bodies of its functions: what their contracts say."""
     parts: list[str] = []
     at = 0
     for it in functions_of(text):
@@ -147,7 +147,7 @@ def module_of(file: str) -> list[str]:
 
 
 def path_of(homes: Homes, file: str, key: Key) -> list[str]:
-    """The path below the crate by which the prover names a plain function: a method's begins with the module of its type."""
+    """Return the path below the crate by which the prover names a plain function: a method's begins with the module of its type."""
     type_name, _, name = key
     if not type_name:
         return [*module_of(file), name]
@@ -157,7 +157,7 @@ def path_of(homes: Homes, file: str, key: Key) -> list[str]:
 
 
 def homes_of(folder: str) -> Homes:
-    """By the names of the crate's types, the modules in which one of that name is declared."""
+    """Return the modules in which a type is declared, by the names of the crate's types."""
     homes: Homes = {}
     for file in files_below(folder, ["src"]):
         for it in re.finditer(
@@ -169,7 +169,7 @@ def homes_of(folder: str) -> Homes:
 
 
 def is_plain(function: Function, text: str) -> bool:
-    """Whether the function has a name of its own and a body that no type is made of: it is no method of a trait or its impl, and no constant function."""
+    """Return whether the function has a name of its own and its body is no part of a type: it is no method of a trait or its impl, and no constant function."""
     head = text[function.start : function.opening]
     return not function.trait and not re.search(r"\bconst\s+(unsafe\s+)?fn\b|->\s*impl\b", head)
 
@@ -177,7 +177,7 @@ def is_plain(function: Function, text: str) -> bool:
 def leave_contracts(
     crate: str, folder: str, keep: Collection[tuple[str, Key]] = frozenset()
 ) -> None:
-    """Of each plain function of the copy but those to keep, leaves the contract alone: its body does nothing, and its proof is a hole."""
+    """Leave only the contracts of the copy's plain functions, except those to keep. Their bodies do nothing, and their proofs are holes."""
     homes = homes_of(folder)
     for file in files_below(folder, ["src"]):
         text = read(f"{folder}/{file}")
@@ -189,7 +189,7 @@ def leave_contracts(
 
 
 def leave_hole(crate: str, folder: str, path: list[str]) -> None:
-    """Puts a hole in place of the proof of the function at this path, and takes away its proof as one that calls itself."""
+    """Replace the proof of the function at this path by a hole, and remove its proof as a function that calls itself."""
     above, name = f"{folder}/proofs/{'/'.join(path[:-1])}", path[-1]
     shutil.rmtree(f"{above}/+{name}", ignore_errors=True)
     for it in ("Answers", "Invariants"):

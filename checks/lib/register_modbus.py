@@ -38,7 +38,7 @@ class RegisterModbus:
             pass  # the reader opened another
 
     def before(self, question: bytes) -> None:
-        """What happens before an answer."""
+        """Do what happens before an answer."""
 
     def close(self) -> None:
         self.listener.close()

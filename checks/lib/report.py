@@ -1,4 +1,4 @@
-"""A report as Markdown and as HTML, and plots as SVG. It needs python3 alone, and gnuplot for the plots."""
+"""A report as Markdown and as HTML, and plots as SVG. It needs python3, and gnuplot for the plots."""
 import html as pages
 import re
 import subprocess
@@ -32,7 +32,7 @@ def row(cells: Iterable[str]) -> str:
 
 
 def markdown(blocks: Iterable[Block]) -> str:
-    """The text of blocks: headings, paragraphs, tables and an image."""
+    """Return the text of blocks: headings, paragraphs, tables and an image."""
     parts = []
     for kind, *rest in blocks:
         if kind == "table":
@@ -50,7 +50,7 @@ def marked(text: str) -> str:
 
 
 def html(blocks: Sequence[Block], image: str) -> str:
-    """The same as a page of its own, with the image in it."""
+    """Return the report as a page of its own, with the image in it."""
     parts = []
     for kind, *rest in blocks:
         if kind == "table":
@@ -74,7 +74,7 @@ def html(blocks: Sequence[Block], image: str) -> str:
 
 
 def svg(plots: Sequence[Plot]) -> str:
-    """The plots, side by side, as gnuplot draws them."""
+    """Return the plots, side by side, as gnuplot draws them."""
     words = [
         f"set terminal svg size {len(plots) * WIDTH},{HEIGHT} fixed background 'white' font 'sans-serif,11'",
         f"set multiplot layout 1,{len(plots)}",

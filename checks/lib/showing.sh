@@ -1,6 +1,6 @@
 # shellcheck shell=bash
 # How a check in the shell shows what it shows: by a line for each thing, or by both texts if they differ. A check sources it at its head, and may
-# define `failing`, which tells more before it ends.
+# define `failing`, which reports more before it ends.
 check=$(basename "$0")
 
 # Ends the check if a tool is not installed.

@@ -1,4 +1,4 @@
-"""A device by TCP that sends values without end once it is asked by `SIR`, and forgets that it was asked while it is off."""
+"""A device on TCP that sends values without end after `SIR`, and forgets that once it is off."""
 
 import socket
 import threading
@@ -38,7 +38,7 @@ class SirDevice:
             pass  # the reader opened another
 
     def told_by(self, stream: socket.socket) -> int | None:
-        """How many times it is asked now; None if the reader is gone."""
+        """Return how many questions came now, or None if the reader is gone."""
         try:
             data = stream.recv(64)
         except TimeoutError:

@@ -1,4 +1,4 @@
-"""A journal's file that is changed by hand, as an intruder at a bridge may, with digests made anew where he does so."""
+"""A journal's file that is changed by hand as an intruder at a bridge may, who may also compute digests again."""
 
 import sqlite3
 from typing import Any
@@ -15,7 +15,7 @@ class File:
         self.path = path
 
     def do(self, statement: str, *values: object) -> list[Any]:
-        """The rows that a statement shows."""
+        """Return the rows that a statement shows."""
         connection = sqlite3.connect(self.path)
         rows = connection.execute(statement, values).fetchall()
         connection.commit()
@@ -23,7 +23,7 @@ class File:
         return rows
 
     def number(self, where: str) -> int:
-        """The least number of an entry of which this holds."""
+        """Return the least number of an entry of which this holds."""
         least: int = self.do(f"SELECT min(number) FROM journal WHERE {where}")[0][0]
         return least
 
@@ -32,7 +32,7 @@ class File:
         self.do(f"UPDATE journal SET {what} WHERE number = ?", *values, number)
 
     def forge(self, number: int, what: str | None = None, *values: object) -> None:
-        """Changes an entry, and makes its digest anew. The entry above it still holds the digest of before."""
+        """Change an entry, and compute its digest again. The next entry still has the former digest."""
         if what:
             self.change(number, what, *values)
         columns = "number, request_key, kind, plate, moment, ifnull(gross_kg, '-'), ifnull(preset_kg, '-'), max_kg, serial, previous, interval_kg"
@@ -43,7 +43,7 @@ class File:
         self.do("UPDATE journal SET digest = ? WHERE number = ?", digest, number)
 
     def relink(self, number: int) -> None:
-        """Makes the entries from this number on anew, each with the digest of the one below it where that stands."""
+        """Chain the entries from this number on again, each to the one below it, if that is there."""
         for (at,) in self.do(
             "SELECT number FROM journal WHERE number >= ? ORDER BY number", number
         ):

@@ -1,6 +1,6 @@
 """The traces of checks/data/traces, each with what a replay of it prints. A folder has those that show one thing.
 
-A trace is a file NAME.trace, and beside it NAME.printed has what it prints. The options of the replay stand in the trace's first line, as
+A trace is a file NAME.trace, and NAME.printed next to it has what it prints. The trace's first line has the options of the replay, as
 `# --pace 50`. A line of NAME.printed that begins with `! ` is reported on standard error, and the status of the replay is 1 then.
 """
 import functools
@@ -25,7 +25,7 @@ def files() -> set[str]:
 
 
 def names() -> list[str]:
-    """The traces that have both of their files, in order."""
+    """Return the traces that have both of their files, in order."""
     there = files()
     return sorted(
         {
@@ -37,7 +37,7 @@ def names() -> list[str]:
 
 
 def alone() -> list[str]:
-    """The files that are no part of a trace with both of its files."""
+    """Return the files that are no part of a trace with both of its files."""
     return sorted(files() - {name + part for name in names() for part in PARTS})
 
 

@@ -13,7 +13,7 @@ ROUND = 2_900
 
 
 def load(number: int) -> int:
-    """The tenths of line `number`: one interval more a line, so that each reply tells which line it was made of."""
+    """Return the tenths of line `number`. Each line has one interval more, so that a reply shows of which line it was made."""
     return 10 * (number % ROUND)
 
 

@@ -1,4 +1,4 @@
-"""The crates of this repository with their wrong bodies, and a digest of what these are tried on. It needs python3 alone."""
+"""The crates of this repository with their wrong bodies, and a digest of the contracts on which these are tried. It only needs python3."""
 import hashlib
 import os
 import re
@@ -51,14 +51,14 @@ class Crate:
         ]
 
     def contracts(self) -> Iterator[tuple[str, str]]:
-        """What the crate states: its specs, and its sources without their bodies."""
+        """Return what the crate states: its specs, and its sources without their bodies."""
         for path in files_below(self.folder, ("src", "specs")):
             text = read(f"{self.folder}/{path}")
             yield path, contracts_of(text) if path.endswith(".rt") else text
 
 
 class Edit:
-    """A wrong body: the pairs of texts that make it, and the functions that are to be refused for it."""
+    """A wrong body: the pairs of texts that make it, and the functions that the prover must refuse for it."""
 
     def __init__(self, path: str, folder: str) -> None:
         self.name, self.path = os.path.basename(path).removesuffix(".edit"), path
@@ -85,7 +85,7 @@ class Edit:
             self.verdict = f"BAD EDIT: {error}"
 
     def applied(self, texts: dict[str, str], folder: str) -> dict[str, str]:
-        """The texts with this edit in them, beside what others changed."""
+        """Return the texts with this edit in them, next to the changes of others."""
         texts = dict(texts)
         for file, old, new in self.pairs:
             if not file.startswith(PARTS) or not old:
@@ -97,7 +97,7 @@ class Edit:
         return texts
 
     def find_functions(self, folder: str) -> None:
-        """Those whose bodies it changes, and those that read a constant that it changes."""
+        """Return the functions whose bodies it changes, and those that read a constant that it changes."""
         texts: dict[str, str] = {}
         for file, old, new in self.pairs:
             text = texts.setdefault(file, read(f"{folder}/{file}"))
@@ -117,7 +117,7 @@ class Edit:
 
 
 def readers_of(constant: str, folder: str) -> set[tuple[str, Key]]:
-    """The functions that a constant may be seen in: those that name it, and those that call one whose head names it."""
+    """Return the functions that may depend on a constant: those that name it, and those that call one whose head names it."""
     texts = {file: blanked(read(f"{folder}/{file}")) for file in files_below(folder, ["src"])}
     functions = [
         (file, it, texts[file][it.start : it.opening], texts[file][it.opening : it.end])

@@ -1,8 +1,8 @@
-"""Random traces of a weighbridge station, compared between a program and the model beside this file.
+"""Random traces of a weighbridge station, compared between a program and the model next to this file.
 
 `python3 random_traces.py PROGRAM COUNT SEED` prints the first ten traces over which the two differ, and how many there were. With one word
-more it prints how often each answer came. Where they differ, and the distribution's `hypothesis` is there, a small trace is looked for over which they
-still do.
+more it prints how often each answer came. If they differ, and the distribution's `hypothesis` is there, the program looks for a small trace over
+which they still do.
 """
 import random
 import subprocess
@@ -63,7 +63,7 @@ class Maker:
         self.calm = self.random.random() < 0.7
 
     def load(self) -> int:
-        """A load near one of the bounds that matter, or anywhere."""
+        """Return a load near one of the bounds that matter, or anywhere."""
         pick, whole = self.random.choice, self.random.randint
         base = pick(
             [
@@ -277,7 +277,7 @@ class Maker:
         return text
 
     def tidy_http(self) -> bytes:
-        """A right request but for its length or its form."""
+        """Return a request that is right except for its length or its form."""
         pick = self.random.choice
         body = pick(
             [
@@ -310,7 +310,7 @@ class Maker:
         )
 
     def http(self) -> bytes:
-        """A request that is right, with some rubbish put in."""
+        """Return a request that is right, with some rubbish put in."""
         pick, whole = self.random.choice, self.random.randint
         method = pick(["GET", "POST", "POST", "get", "HEAD", "PUT", "P", "G@T", "POST "])
         method = pick([method, "GET", "POST", "POST"])
@@ -444,7 +444,7 @@ class Maker:
 
 
 class Compared:
-    """What the program and the model print of a random trace."""
+    """A random trace, with what the program and the model print."""
 
     def __init__(self, program: str, source: random.Random) -> None:
         maker = Maker(source)
@@ -478,7 +478,7 @@ def show_smallest(program: str) -> None:
         from hypothesis import HealthCheck, Phase, find, settings, strategies
         from hypothesis.errors import NoSuchExample
     except ImportError:
-        print("no smaller trace is looked for: python3-hypothesis isn't installed")
+        print("looked for no smaller trace, because python3-hypothesis isn't installed")
         return
     rules = settings(
         max_examples=2000,

@@ -30,7 +30,7 @@ def entry(
 
 
 class Sample:
-    """A text, the keys of its entries, and the digests that stand before them."""
+    """A text, the keys of its entries, and the digests before them."""
 
     def __init__(
         self,

@@ -58,13 +58,13 @@ class PlayedTerminal:
         self.fanout.connected()
 
     def reading(self, count: int = 1) -> None:
-        """So many readings: the value is written, then what lies there is read and answered."""
+        """Let readings pass. At each, the service writes the value, and then reads and answers what waits."""
         for _ in range(count):
             self.pass_time(self.period)
             self.serve()
 
     def serve(self) -> None:
-        """One reading, now."""
+        """Let one reading pass now."""
         said = []
         if self.waiting is not None and self.state == "S":
             said.append(self.answer_waiting())

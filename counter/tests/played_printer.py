@@ -1,4 +1,4 @@
-"""A printer for ESC/POS that is played on TCP: slow, deaf, without paper, cut in the middle, gone and back. What it printed is kept, paper by paper."""
+"""A played printer for ESC/POS on TCP: slow, deaf, without paper, cut in the middle, gone and back. It keeps what it printed, paper by paper."""
 
 import contextlib
 import re
@@ -9,7 +9,7 @@ import time
 
 CUT = b"\x1dVB\x00"
 PICTURE = re.compile(rb"\x1dv0\x00(..)(..)", re.S)
-# What DLE EOT 1 to 4 answer, by what is wrong; 0x12 are the bits that are always set.
+# The answers to DLE EOT 1 to 4, by the trouble; 0x12 are the bits that are always set.
 ANSWERS = {
     "": (0x12, 0x12, 0x12, 0x12),
     "paper_out": (0x1A, 0x32, 0x12, 0x72),
@@ -101,7 +101,7 @@ class Connection:
             printer.begun.append(self.paper)
 
     def take(self, more: bytes) -> None:
-        """A command in real time is answered at once, also if nothing is printed."""
+        """Answer a command in real time at once, even if nothing is printed."""
         while re.fullmatch(rb"\x10\x04[\x01-\x04]", more[:3], re.S) and (
             not self.waiting or self.printer.state
         ):

@@ -28,7 +28,7 @@ def up(period: float = 0.1, **how: bool) -> PlayedTerminal:
 
 
 def reconnect(played: PlayedTerminal) -> None:
-    """A new connection, of which nothing has to be found out."""
+    """Begin a new connection of which everything is known."""
     played.connect()
     played.reading(3)
     played.fanout.settle()
@@ -306,7 +306,7 @@ class ManyAtOnce(unittest.TestCase):
             )
 
     def test_no_tare_is_ever_seen_whose_sender_was_refused(self) -> None:
-        """Each preset is another one, so that one that acted late is known by its number."""
+        """Show that no preset acts late. Each is another one, so that its number shows which one acted."""
         rng = random.Random(11)
         played, presets, seen = up(), {}, set()
         for at in range(4000):

@@ -417,7 +417,7 @@ class Kept(unittest.IsolatedAsyncioTestCase):
             (0o755, 0o755, 12345, ""),
         ):
             if user is not None and os.geteuid():
-                continue  # root alone can give a file away
+                continue  # only root can give a file to another user
             asked.unlink(missing_ok=True)
             if user is not None:
                 os.chown(program, user, -1)

@@ -44,7 +44,7 @@ def other(letter: str) -> str:
 
 
 def is_taken(sample: Sample, changed: str) -> bool:
-    """Whether a text is taken, and nothing is said of its digests."""
+    """Return whether a text is accepted without a word about its digests."""
     try:
         return check_digests(read_text(changed), sample.keys, sample.digests) == []
     except NoText:

@@ -1,4 +1,4 @@
-"""What goes to the office for what was asked of the counter: one request, with the target as it was written, and few at a time."""
+"""The requests that the counter passes to the office: one for each of its own, with the same target, and few at a time."""
 
 import asyncio
 import contextlib
