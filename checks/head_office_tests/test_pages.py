@@ -17,6 +17,11 @@ class Pages(OfficeCheck):
     seconds = 30
     alone = True
 
+    def tearDown(self) -> None:
+        """Compute the sums of days again, because `fill` made them up."""
+        self.office.owner("SELECT head_office.rebuild_sums(bridge) FROM head_office.bridge")
+        super().tearDown()
+
     def fill(self, count: int) -> str:
         """Register this many bridges with a month of totals, and return the page."""
         self.office.owner(
