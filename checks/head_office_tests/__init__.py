@@ -6,6 +6,7 @@ Each module is a part, and `-k test_PART.` picks it. `checks/head_office_functio
 - tampering, followers, findings: what an intruder does to a journal, what is changed while it is migrated, and how a load names it.
 - refusals, bounds: refused loads, and what comes in masses from one bridge.
 - sums, years, pages, units: totals, tables of the years, dropped plates, the day's page, timers, mails, the package.
+- receipts: what bridges keep of their loads, and what the head office finds if a superuser changed it.
 - rights, backups, versions: roles, certificates, a German server, copies that are restored, a full disk, and offices of versions 1, 2 and 4.
 - functions, inputs, scripts, upgrade: each SQL function by pgTAP, exports by chance, and each script with programs in its place that fail.
 

@@ -8,12 +8,13 @@ CREATE TEMPORARY TABLE allowed (name text, finding text);
 -- It ends with `refuse`, which returns to nobody.
 INSERT INTO allowed VALUES ('journal_of', '("warning extra",2F005,"control reached end of function without RETURN")');
 
--- The temporary tables of a load, and that of `seal`, are there only while these run. A first load and a second one leave all of them.
+-- The temporary tables of a load, of a check and of `seal` are there only while these run. A first load and a second one leave all of them.
 CALL bridge('NORTH');
 CALL weigh('NORTH', 'single', 'A-1', 9000, 5000);
 CALL loaded('NORTH');
 CALL give('NORTH');
 SELECT count(*) FROM head_office.take_in('NORTH') \g /dev/null
+SELECT count(*) FROM head_office.check_office(false) \g /dev/null
 CREATE TEMPORARY TABLE sealing AS SELECT e.*, NULL::bigint AS partner, false AS is_open FROM head_office.entry e LIMIT 0;
 
 CREATE TEMPORARY TABLE code AS

@@ -16,7 +16,7 @@ SELECT coalesce(string_agg(its, '; ' ORDER BY its COLLATE "C"), '') FROM (
 CREATE FUNCTION pg_temp.function_rights(role text) RETURNS text LANGUAGE sql AS $$
 SELECT coalesce(string_agg(DISTINCT proname, ' ' ORDER BY proname), '') FROM pg_proc WHERE pronamespace = 'head_office'::regnamespace AND has_function_privilege(role, oid, 'EXECUTE') $$;
 
--- The loader: writes into `handed`, reads nothing, and calls four functions.
+-- The loader: writes into `handed`, reads nothing, and calls six functions.
 SELECT is(pg_temp.table_rights('bridge_north', 'SELECT'), '', 'a loader reads no table and no view');
 SELECT is(pg_temp.column_rights('bridge_north', 'SELECT'), '', '  and no column');
 SELECT is(pg_temp.table_rights('bridge_north', 'INSERT'), '', 'a loader writes no whole row');
@@ -25,21 +25,21 @@ SELECT is(pg_temp.column_rights('bridge_north', 'INSERT'),
     '  and of a record all, but not whose it is');
 SELECT is(pg_temp.table_rights('bridge_north', it) || pg_temp.column_rights('bridge_north', it), '', 'a loader has no right ' || it) FROM unnest('{UPDATE,REFERENCES}'::text[]) it;
 SELECT is(pg_temp.table_rights('bridge_north', it), '', 'a loader has no right ' || it) FROM unnest('{DELETE,TRUNCATE,TRIGGER}'::text[]) it;
-SELECT is(pg_temp.function_rights('bridge_north'), 'begin_load note_refusal take_in wants_whole', 'a loader calls four functions');
+SELECT is(pg_temp.function_rights('bridge_north'), 'begin_load note_refusal receipt_of_load refuse_receipt take_in wants_whole', 'a loader calls six functions');
 
 -- The reader: reads everything but what is given to a load, and writes nothing.
 SELECT is(pg_temp.table_rights('office', it) || pg_temp.column_rights('office', it), '', 'a reader has no right ' || it) FROM unnest('{INSERT,UPDATE,REFERENCES}'::text[]) it;
 SELECT is(pg_temp.table_rights('office', it), '', 'a reader has no right ' || it) FROM unnest('{DELETE,TRUNCATE,TRIGGER}'::text[]) it;
 SELECT is((SELECT coalesce(string_agg(relname, ' ' ORDER BY relname), '') FROM pg_class WHERE relnamespace = 'head_office'::regnamespace AND relkind IN ('r', 'p', 'v')
     AND NOT has_table_privilege('office', oid, 'SELECT')), 'handed handed_by_keeper', 'a reader reads all tables and views, but not what a loader gives');
-SELECT is(pg_temp.function_rights('office'), 'digest_of end_stuck_loads html is_of_age kept_digest_of line_of short thousands',
-    'a reader calls what the views need, and what ends connections of loaders');
+SELECT is(pg_temp.function_rights('office'), 'check_office digest_of end_stuck_loads html is_of_age kept_digest_of line_of short thousands',
+    'a reader calls what the views need, what ends connections of loaders, and the check');
 
 -- The registrar
 SELECT is((SELECT coalesce(string_agg(relname, ' ' ORDER BY relname), '') FROM pg_class WHERE relnamespace = 'head_office'::regnamespace AND relkind IN ('r', 'p', 'v')
     AND NOT has_table_privilege('ada', oid, 'SELECT')), 'handed handed_by_keeper', 'the registrar reads as much as a reader');
 SELECT is(pg_temp.table_rights('ada', 'INSERT'), 'bridge follower haulier instrument journal loader', 'the registrar registers');
-SELECT is(pg_temp.column_rights('ada', 'INSERT'), 'acknowledgement: finding note', '  and acknowledges, under her own name');
+SELECT is(pg_temp.column_rights('ada', 'INSERT'), 'acknowledgement: finding note; office_fault_note: note office_fault; restored: bridge why', '  and acknowledges findings and faults, and names a restored office, under her own name');
 SELECT is(pg_temp.table_rights('ada', 'UPDATE'), '', 'the registrar changes no whole row');
 SELECT is(pg_temp.column_rights('ada', 'UPDATE'), 'bridge: entry_within load_within places plate_years retention_days whole_within zone; journal: note',
     '  and of a bridge what is registered, but not whose instrument is whose');
@@ -78,9 +78,9 @@ SELECT is(rows($$SELECT proname FROM pg_proc WHERE pronamespace = 'head_office':
     AND NOT coalesce(proconfig, '{}') @> '{"search_path=head_office, pg_temp"}' ORDER BY proname$$), '',
     'each function that runs with other rights looks for names in the schema only');
 SELECT is((SELECT string_agg(proname, ' ' ORDER BY proname) FROM pg_proc WHERE pronamespace = 'head_office'::regnamespace AND prosecdef),
-    'begin_load end_stuck_loads follow_bridge follow_follower follow_journal follow_loader keep_handed_small keep_record_short make_landing make_year note_change note_refusal '
-    'rebuild_sums seal take_in wants_whole warn_of_login who_stops',
-    '  and there are eighteen of them');
+    'begin_load check_office end_stuck_loads follow_bridge follow_follower follow_journal follow_loader keep_handed_small keep_record_short make_landing make_year note_change note_refusal '
+    'rebuild_sums receipt_of_load refuse_receipt seal take_in wants_whole warn_of_login who_stops',
+    '  and there are twenty-one of them');
 SELECT is((SELECT proconfig FROM pg_proc WHERE proname = 'take_in' AND pronamespace = 'head_office'::regnamespace) @> '{lock_timeout=60s}', true, 'a load waits for another for a minute at most');
 SELECT is((SELECT proconfig FROM pg_proc WHERE proname = 'seal' AND pronamespace = 'head_office'::regnamespace) @> '{lock_timeout=60s}', true, '  and so does seal');
 SELECT * FROM finish();

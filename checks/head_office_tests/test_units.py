@@ -20,7 +20,7 @@ from checks.lib.head_office import (
     written,
 )
 
-SCRIPTS = "upgrade load compare report haulier watch guard alarm backup restore"
+SCRIPTS = "upgrade load compare report haulier watch guard check alarm backup restore"
 UNITS = TOP / "packaging" / "head_office"
 
 
@@ -70,14 +70,18 @@ class Units(OfficeCheck):
         self.holds("  and mails none", not os.path.exists(mail))
 
     def test_unit_files(self) -> None:
-        for unit in ("@", "-report", "-watch", "-backup"):
+        for unit in ("@", "-report", "-watch", "-check", "-backup"):
             name = f"weighbridge-head-office{unit}.service"
             text = (UNITS / name).read_text(encoding="utf-8")
             alarm = "\nOnFailure=weighbridge-head-office-alarm@%n.service\n"
             self.holds(f"{name} mails when it fails", alarm in text)
             if unit == "@":
-                what = "the unit of a bridge loads the newest entries"
-                self.holds(what, "/load --newest %i " in text)
+                what = "the unit of a bridge loads the newest entries, and keeps its receipt"
+                kept = "--receipt /var/lib/weighbridge-head-office/%i.receipt"
+                self.holds(what, f"/load --newest {kept} %i " in text)
+                self.holds(
+                    "  in a folder of its own", "StateDirectory=weighbridge-head-office\n" in text
+                )
 
     def test_backup(self) -> None:
         office, kept = self.office, f"{self.office.folder}/backups"

@@ -390,6 +390,67 @@ insert into version values (9);
 set local role head_office;
 set local search_path = head_office;
 \endif
+
+-- The office's own check -----------------------------------------------------------------------------------------------------------------
+
+-- The entries that a load added, one row a load, chained in each journal. `digest` is the SHA-256 of the former row's digest and the digests of these entries in the order of
+-- their numbers. The first one of a journal is over all entries that it has. The bridge keeps the newest.
+create table if not exists receipt (
+    journal integer not null references journal,
+    receipt integer not null,
+    load    bigint not null references load,
+    at      timestamptz not null default now(),
+    numbers int8multirange not null,
+    entries bigint not null,
+    digest  bytea not null,
+    primary key (journal, receipt),
+    constraint counts_from_one check (receipt > 0),
+    constraint length_of_digest check (octet_length(digest) = 32)
+);
+do $$ begin create trigger never_changed before update or delete or truncate on receipt for each statement execute function never_changed();
+exception when duplicate_object then null; end $$;
+
+-- Up to which receipt of each journal the office was checked.
+create table if not exists checked_receipt (
+    journal integer primary key references journal,
+    receipt integer not null
+);
+
+create table if not exists office_check (
+    office_check bigint generated always as identity primary key,
+    at           timestamptz not null default now(),
+    is_whole     boolean not null,
+    receipts     bigint not null,
+    entries      bigint not null,
+    faults       bigint not null
+);
+
+-- Faults of the office itself: what it took in isn't here any more as it came. A fault is open until somebody notes what was done.
+create table if not exists office_fault (
+    office_fault bigint generated always as identity primary key,
+    at           timestamptz not null default now(),
+    what         text not null,
+    bridge       text collate "C",
+    says         text not null,
+    constraint kind_of_fault check (what in ('receipt', 'entry', 'sum', 'year'))
+);
+create index if not exists office_fault_by_time on office_fault (at);
+
+create table if not exists office_fault_note (
+    office_fault bigint primary key references office_fault,
+    note         text not null check (note <> ''),
+    at           timestamptz not null default now(),
+    by           name not null default session_user
+);
+
+-- Bridges whose receipts this office may lack, because it was restored from an older copy. Their next load is accepted.
+create table if not exists restored (
+    restored bigint generated always as identity primary key,
+    bridge   text collate "C" not null references bridge,
+    why      text not null check (why <> ''),
+    at       timestamptz not null default now(),
+    by       name not null default session_user
+);
 \ir ../verify/version_9.sql
 -- A package from before sqitch refuses to run over a file that isn't its own. Otherwise it would put its older functions in the place of these.
 insert into applied_file (name, sha256) values ('1.sql', repeat('0', 64)) on conflict (name) do update set sha256 = excluded.sha256, at = now();

@@ -17,6 +17,7 @@ set local search_path = head_office;
 \ir export.sql
 \ir storing.sql
 \ir findings.sql
+\ir receipts.sql
 \ir take_in.sql
 \ir reading.sql
 \ir seal.sql

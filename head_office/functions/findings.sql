@@ -180,6 +180,7 @@ begin
     insert into load (journal, records, last, added, findings, new_findings, is_newest, fetched_at)
     select it.journal, (select count(*) from compared), it.highest, added, (select count(*) from found), written, it.is_newest, it.fetched
     returning * into done;
+    perform write_receipt(it, done.load);
     update standing set fetched_at = greatest(fetched_at, it.fetched), whole_at = case when it.is_newest then whole_at else coalesce(it.fetched, now()) end
     where journal = it.journal;
     return next format('%s: records %s, added %s, findings %s, new %s', it.bridge, done.records, done.added, done.findings, done.new_findings);

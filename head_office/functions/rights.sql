@@ -16,11 +16,13 @@ grant update (note) on journal to head_office_registrar;
 -- a journal that was registered by mistake: nothing hangs on it yet, or it stays
 grant delete on loader, journal, haulier to head_office_registrar;
 grant insert (finding, note) on acknowledgement to head_office_registrar;
+grant insert (office_fault, note) on office_fault_note to head_office_registrar;
+grant insert (bridge, why) on restored to head_office_registrar;
 grant execute on function seal(text, integer) to head_office_registrar;
 grant insert (number, key, kind, plate, moment, gross_kg, preset_kg, interval_kg, max_kg, serial, digest, previous) on handed to head_office_loader;
-grant execute on function take_in(text, boolean, timestamptz), note_refusal(text, text, text, timestamptz), wants_whole(text), begin_load(text, timestamptz)
-    to head_office_loader;
-grant execute on function end_stuck_loads() to head_office_reader;
+grant execute on function take_in(text, boolean, timestamptz), note_refusal(text, text, text, timestamptz), wants_whole(text), begin_load(text, timestamptz),
+    refuse_receipt(text, text), receipt_of_load(text) to head_office_loader;
+grant execute on function end_stuck_loads(), check_office(boolean) to head_office_reader;
 grant execute on function digest_of(bigint, text, text, text, timestamp, integer, integer, integer, integer, text, text),
     line_of(bigint, text, text, text, timestamp, integer, integer, integer, integer, text, text, text), kept_digest_of(integer, integer), is_of_age(timestamptz, integer),
     html(text), short(text), thousands(bigint)

@@ -13,6 +13,7 @@ table applied_file: name text not null, sha256 text not null, at timestamp with 
 table bridge: bridge text C not null, zone text not null, retention_days integer not null, load_within interval not null, entry_within interval
 table bridge: places integer, whole_within interval not null, plate_years integer
 table change: change bigint not null, at timestamp with time zone not null, by name C not null, of_table name C not null, was jsonb, is_now jsonb
+table checked_receipt: journal integer not null, receipt integer not null
 table day_sum: day date not null, bridge text C not null, tickets bigint not null, gross_kg bigint not null, net_kg bigint not null
 table day_sum: brought_kg bigint not null, taken_kg bigint not null, preset_kg bigint not null
 table ended_connection: ended bigint not null, at timestamp with time zone not null, login name C not null, pid integer not null, why text not null
@@ -39,10 +40,17 @@ table load: load bigint not null, journal integer not null, at timestamp with ti
 table load: last bigint, added bigint not null, findings bigint not null, new_findings bigint not null, is_newest boolean not null
 table load: fetched_at timestamp with time zone
 table loader: login name C not null, bridge text C
+table office_check: office_check bigint not null, at timestamp with time zone not null, is_whole boolean not null, receipts bigint not null
+table office_check: entries bigint not null, faults bigint not null
+table office_fault: office_fault bigint not null, at timestamp with time zone not null, what text not null, bridge text C, says text not null
+table office_fault_note: office_fault bigint not null, note text not null, at timestamp with time zone not null, by name C not null
 table open_entry: journal integer not null, plate text C not null, number bigint not null, since timestamp with time zone not null
 table open_entry: gross_kg integer not null
+table receipt: journal integer not null, receipt integer not null, load bigint not null, at timestamp with time zone not null
+table receipt: numbers int8multirange not null, entries bigint not null, digest bytea not null
 table refusal: refusal bigint not null, at timestamp with time zone not null, by name C not null, address inet, bridge text C not null
 table refusal: reason text not null, why text not null, fetched_at timestamp with time zone
+table restored: restored bigint not null, bridge text C not null, why text not null, at timestamp with time zone not null, by name C not null
 table sealed_entry: journal integer not null, number bigint not null, year integer not null, kind text C not null
 table sealed_entry: moment timestamp with time zone not null, gross_kg integer, preset_kg integer, interval_kg integer not null
 table sealed_entry: max_kg integer not null, serial text C not null, partner bigint
@@ -60,6 +68,7 @@ indexes of advice: advice_pkey unique
 indexes of applied_file: applied_file_pkey unique
 indexes of bridge: bridge_pkey unique
 indexes of change: change_pkey unique
+indexes of checked_receipt: checked_receipt_pkey unique
 indexes of day_sum: day_sum_pkey unique
 indexes of ended_connection: ended_connection_by_login, ended_connection_pkey unique
 indexes of entry: entry_by_key, entry_by_moment, entry_by_plate
@@ -73,8 +82,13 @@ indexes of journal: journal_by_bridge, journal_of_bridge unique, journal_pkey un
 indexes of journal_year: journal_year_by_first, journal_year_pkey unique
 indexes of load: load_by_journal, load_pkey unique
 indexes of loader: loader_login_bridge_key unique
+indexes of office_check: office_check_pkey unique
+indexes of office_fault: office_fault_by_time, office_fault_pkey unique
+indexes of office_fault_note: office_fault_note_pkey unique
 indexes of open_entry: open_entry_pkey unique
+indexes of receipt: receipt_pkey unique
 indexes of refusal: refusal_by_login, refusal_by_time, refusal_pkey unique
+indexes of restored: restored_pkey unique
 indexes of sealed_entry: sealed_entry_pkey unique
 indexes of sealed_year: sealed_year_pkey unique
 indexes of standing: standing_pkey unique
@@ -85,6 +99,7 @@ constraints of applied_file: applied_file_pkey p, form_of_sha256 c
 constraints of bridge: bridge_bridge_check c, bridge_entry_within_check c, bridge_load_within_check c, bridge_pkey p, bridge_retention_days_check c
 constraints of bridge: bridge_zone_check c, places_of_a_journal c, plate_years_is_positive c, whole_within_is_positive c
 constraints of change: change_pkey p
+constraints of checked_receipt: checked_receipt_journal_fkey f, checked_receipt_pkey p
 constraints of day_sum: day_sum_bridge_fkey f, day_sum_pkey p
 constraints of ended_connection: ended_connection_pkey p
 constraints of entry: digest_fits c, form c, form_of_previous c, weights_of_kind c, whole_second c
@@ -99,8 +114,13 @@ constraints of journal: journal_bridge_fkey f, journal_of_bridge u, journal_pkey
 constraints of journal_year: journal_year_journal_fkey f, journal_year_pkey p
 constraints of load: load_journal_fkey f, load_pkey p
 constraints of loader: loader_bridge_fkey f, loader_login_bridge_key u
+constraints of office_check: office_check_pkey p
+constraints of office_fault: kind_of_fault c, office_fault_pkey p
+constraints of office_fault_note: office_fault_note_note_check c, office_fault_note_office_fault_fkey f, office_fault_note_pkey p
 constraints of open_entry: open_entry_journal_fkey f, open_entry_pkey p
+constraints of receipt: counts_from_one c, length_of_digest c, receipt_journal_fkey f, receipt_load_fkey f, receipt_pkey p
 constraints of refusal: refusal_pkey p
+constraints of restored: restored_bridge_fkey f, restored_pkey p, restored_why_check c
 constraints of sealed_entry: sealed_entry_journal_fkey f, sealed_entry_pkey p
 constraints of sealed_year: sealed_year_journal_fkey f, sealed_year_pkey p
 constraints of standing: standing_journal_fkey f, standing_pkey p
