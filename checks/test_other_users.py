@@ -407,89 +407,56 @@ class OtherUsers(Check):
 
     def ask_all(self, has_rules: bool) -> None:
         """Show what each program answers the stranger. With the rules each refuses him, and users who may connect still can."""
-
-        def refused(*rows: tuple[str, object, object]) -> None:
-            for name, without, found in rows:
-                self.same(name, "refused" if has_rules else without, found)
-
         it, stranger, has_counter = self.machine, "stranger", self.machine.has_counter
-        office, weighing = it.office, "key=X1&kind=first&plate=AB-12"
-        empty = "STABLE G          0 kg N          0 kg"
+        empty, page = "STABLE G          0 kg N          0 kg", "<!DOCTYPE html>"
+
+        def refused(name: str, without: object, found: object) -> None:
+            self.same(name, "refused" if has_rules else without, found)
+
+        for name, without, route, body in (
+            ("the stranger asks for the indication", empty, "/indication", None),
+            ("purges", "PURGED 0", "/purge", ""),
+            ("weighs", "refused 8 below_min", "/weighings", "key=X1&kind=first&plate=AB-12"),
+            ("voids", "refused 13 no_open", "/voids", "key=X2&plate=AB-12"),
+        ):
+            refused(name, without, ask_as(stranger, it.office, route, body))
         refused(
-            (
-                "the stranger asks for the indication",
-                empty,
-                ask_as(stranger, office, "/indication"),
-            ),
-            (
-                "asks for the journal",
-                "number",
-                first_word(ask_as(stranger, office, "/journal.csv")),
-            ),
-            ("purges", "PURGED 0", ask_as(stranger, office, "/purge", "")),
-            ("weighs", "refused 8 below_min", ask_as(stranger, office, "/weighings", weighing)),
-            (
-                "voids",
-                "refused 13 no_open",
-                ask_as(stranger, office, "/voids", "key=X2&plate=AB-12"),
-            ),
-            *(
-                (f"asks by {host}", "PURGED 0", ask_as(stranger, office, "/purge", "", host))
-                for host in ("0.0.0.0", "[::ffff:127.0.0.1]")
-            ),
-            (
-                "asks as the root of a user namespace of his own",
-                "PURGED 0",
-                ask_as(stranger, office, "/purge", "", by=OWN_ROOT),
-            ),
-            (
-                "sets zero by a form of a page",
-                True,
-                sets_zero_by_form(it.till if has_counter else it.terminal),
-            ),
+            "gets the journal", "number", first_word(ask_as(stranger, it.office, "/journal.csv"))
         )
+        for host in ("0.0.0.0", "[::ffff:127.0.0.1]"):
+            found = ask_as(stranger, it.office, "/purge", "", host)
+            refused(f"asks by {host}", "PURGED 0", found)
+        found = ask_as(stranger, it.office, "/purge", "", by=OWN_ROOT)
+        refused("asks as the root of a user namespace of his own", "PURGED 0", found)
+        port = it.till if has_counter else it.terminal
+        refused("sets zero by a form of a page", True, sets_zero_by_form(port))
         if has_counter:
-            page = first_line(ask_as(stranger, it.counter, "/"))
-            refused(
-                ("asks the counter's page", "<!DOCTYPE html>", page),
-                (
-                    "sets zero at the counter",
-                    '{"said": "Z A"}',
-                    ask_as(stranger, it.counter, "/zero", ""),
-                ),
-                ("sets zero at a till's port", "Z A", python_as(stranger, TYPES, it.till, "Z")),
-                (
-                    "sets a tare there",
-                    "TA A       5000 kg",
-                    python_as(stranger, TYPES, it.till, "TA 5000 kg"),
-                ),
-            )
-            page = first_line(ask_as("www-data", it.counter, "/"))
-            self.same("nginx asks the counter", "<!DOCTYPE html>", page)
+            found = first_line(ask_as(stranger, it.counter, "/"))
+            refused("asks the counter's page", page, found)
+            found = ask_as(stranger, it.counter, "/zero", "")
+            refused("sets zero at the counter", '{"said": "Z A"}', found)
+            for line, without in (("Z", "Z A"), ("TA 5000 kg", "TA A       5000 kg")):
+                found = python_as(stranger, TYPES, it.till, line)
+                refused(f"types {line} at a till's port", without, found)
+            found = first_line(ask_as("www-data", it.counter, "/"))
+            self.same("nginx asks the counter", page, found)
             end(it.running.pop())
             time.sleep(0.5)
-        refused(
-            (
-                "asks for the weight at the terminal",
-                "S S      -5000 kg" if has_counter else "S S          0 kg",
-                python_as(stranger, TYPES, it.terminal, "SI"),
-            ),
-            ("sets zero there", "Z A", python_as(stranger, TYPES, it.terminal, "Z")),
-            (
-                "sets a tare there",
-                "TA A       5000 kg",
-                python_as(stranger, TYPES, it.terminal, "TA 5000 kg"),
-            ),
-        )
-        for who, user, wanted, route in (
-            ("the counter", "weighbridge-counter", "STABLE", "/indication"),
-            ("the head office", "weighbridge-head-office", "number", "/journal.csv"),
-            (
-                *("a converter that was taken over", "weighbridge-converter"),
-                *("refused" if has_rules else "STABLE", "/indication"),
-            ),
+        for line, without in (
+            ("SI", "S S      -5000 kg" if has_counter else "S S          0 kg"),
+            ("Z", "Z A"),
+            ("TA 5000 kg", "TA A       5000 kg"),
         ):
-            self.same(f"{who} asks {route}", wanted, first_word(ask_as(user, office, route)))
+            found = python_as(stranger, TYPES, it.terminal, line)
+            refused(f"types {line} at the terminal", without, found)
+        taken_over = "refused" if has_rules else "STABLE"
+        for user, wanted, route in (
+            ("weighbridge-counter", "STABLE", "/indication"),
+            ("weighbridge-head-office", "number", "/journal.csv"),
+            ("weighbridge-converter", taken_over, "/indication"),
+        ):
+            found = first_word(ask_as(user, it.office, route))
+            self.same(f"{user} asks for {route}", wanted, found)
 
     def take_ports(self) -> None:
         """Show that only the owner can take a port while nothing runs."""

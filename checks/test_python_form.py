@@ -1,7 +1,6 @@
 """Shows that all Python has the layout that black gives it, that flake8 finds nothing in it, and that it passes mypy --strict, by the settings in pyproject.toml and .flake8.
 
-checks/data/untyped.txt lists the files whose types aren't checked yet. A file that isn't listed must pass. The types of the counter are left out if its
-library aiohttp isn't installed.
+The types of the counter are left out if its library aiohttp isn't installed.
 
 Usage: checks/python_form [--write]     --write lays the files out instead of naming them
 """
@@ -20,7 +19,6 @@ from checks.lib.tracked import tracked
 PACKAGE = "checks"
 # The model imports nothing of this repository but itself.
 MODEL = "checks/model"
-UNTYPED = TOP / "checks" / "data" / "untyped.txt"
 
 
 def checked_with(folder: str) -> str:
@@ -60,13 +58,9 @@ class PythonForm(Check):
     @skip_without("mypy")
     def test_types(self) -> None:
         """Show what mypy refuses. It runs once for each folder, because two programs may have one name."""
-        lines = UNTYPED.read_text(encoding="utf-8").splitlines()
-        untyped = {it for it in lines if not it.startswith("#")}
-        self.same("listed files that aren't there", set(), untyped - {*self.files})
         folders = collections.defaultdict(list)
         for path in self.files:
-            if path not in untyped:
-                folders[checked_with(str(Path(path).parent))].append(path)
+            folders[checked_with(str(Path(path).parent))].append(path)
         if not importlib.util.find_spec("aiohttp"):
             del folders["counter"]
         words = ["mypy", "--config-file", "pyproject.toml", "--scripts-are-modules"]
@@ -77,4 +71,3 @@ class PythonForm(Check):
             path = ":".join(own.get(folder, [folder, *FOLDERS, "."]))
             status, said = run(*words, *bases, *chosen, MYPYPATH=path)
             self.same(f"types in {folder}", (0, ""), (status, said if status else ""))
-        print(f"{sum(map(len, folders.values()))} files have types, {len(untyped)} haven't")

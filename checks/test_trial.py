@@ -143,4 +143,4 @@ class Falsified(Check):
             named = {"WEIGHBRIDGE_PROGRAM": BUILT, "WEIGHBRIDGE_FALSIFIED": name}
             with mock.patch.dict(os.environ, named):
                 failed = {it for it in tests if not TRIALS[it].run(falsified.__file__).is_passed}
-            self.same(f"a program that {what}", {*tests} if name != "none" else set(), failed)
+            self.same(f"falsified: {what}", {*tests} if name != "none" else set(), failed)

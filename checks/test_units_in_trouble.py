@@ -15,6 +15,7 @@ It needs control groups that limit memory, and takes a quarter of an hour. With 
 minutes only. WEIGHBRIDGE_TROUBLE_ROOT names a tar file with the root, which mmdebstrap makes if it isn't named.
 """
 
+import functools
 import os
 import shutil
 import subprocess
@@ -271,8 +272,8 @@ class UnitsInTrouble(Check):
             machine.signal(machine.process_of("weighbridge"), "STOP")
             self.logs("a start that stands still is ended", "start operation timed out", 40)
             bridge.shows(A)
-            tried = machine.shown("weighbridge", "ActiveState", "NRestarts")
-            self.same("and tried again", "active 1", tried)
+            state = functools.partial(machine.shown, "weighbridge", "ActiveState", "NRestarts")
+            self.becomes("and tried again", "active 1", state)
         self.becomes("the counter weighs", True, bridge.can_weigh, 30)
 
     def test_disk_without_writing(self) -> None:

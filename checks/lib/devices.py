@@ -1,4 +1,4 @@
-"""Devices that checks/converters plays, each with the faults that it is asked to have: a Modbus server, a text device on a pseudo terminal, and a folder
+"""Devices that checks/converters plays, with faults: a Modbus server, a text device on a pseudo terminal, and a folder
 in the form of industrial IO. Each has `words`, those of its reader; `put`, which sets its counts; and `faults`, a name and how it begins and ends."""
 
 import atexit
@@ -9,213 +9,200 @@ import subprocess
 import threading
 import time
 import tty
+from collections.abc import Callable
+from typing import IO, Any
 
 from checks.lib import bridge
 
 SERVER = os.path.join(os.path.dirname(os.path.abspath(__file__)), "modbus_server.py")
+# The name of a fault, and how it begins and ends.
+Fault = tuple[str, Callable[[], object], Callable[[], object]]
+Spoil = Callable[[bytes], bytes]
+started: list[subprocess.Popen[Any]] = []
 
 
-started = []
-
-
-def begun(words, **how):
-    """A process that is killed at the latest when this program ends, whatever ends it."""
+def begun(words: list[str], **how: Any) -> subprocess.Popen[Any]:
+    """Start a process that is killed at the latest when this program ends, whatever ends it."""
     started.append(subprocess.Popen(words, **how))
     return started[-1]
 
 
-atexit.register(lambda: [it.kill() for it in started if it.poll() is None])
+def end(process: subprocess.Popen[Any]) -> None:
+    process.kill()
+    process.wait()
 
 
-def write(path, text):
-    """Writes a file whole: who reads it finds the old text or the new."""
+def pipe(stream: IO[Any] | None) -> IO[Any]:
+    """Return a stream of a process that was started with a pipe for it."""
+    assert stream is not None
+    return stream
+
+
+@atexit.register
+def end_all() -> None:
+    for it in started:
+        if it.poll() is None:
+            it.kill()
+
+
+def write(path: str, text: str) -> None:
+    """Write a whole file: a reader of it finds the old text or the new."""
     with open(path + ".new", "w") as it:
         it.write(text)
     os.rename(path + ".new", path)
 
 
-def wait_for(what, holds, seconds=10):
-    # Count steps, because the clock continues while the machine stands still.
+def wait_for(what: str, holds: Callable[[], object], seconds: float = 10) -> None:
+    """Wait in steps that are counted, because the clock continues while the machine stands still."""
     for _ in range(int(seconds * 100)):
         if holds():
             return
         time.sleep(0.01)
-    raise SystemExit(f"converters: {what} didn't come within {seconds} s")
+    raise TimeoutError(f"{what} didn't come within {seconds} s")
+
+
+def pair_of_terminals(*names: str) -> subprocess.Popen[Any]:
+    """Make two pseudo terminals that are connected, and return the process that connects them."""
+    words = ["socat", *(f"pty,rawer,link={name}" for name in names)]
+    pair = begun(words, stderr=subprocess.DEVNULL)
+    wait_for("a pair of pseudo terminals", lambda: all(map(os.path.exists, names)))
+    return pair
+
+
+def unspoiled(data: bytes) -> bytes:
+    return data
 
 
 class Modbus:
     """A Modbus server, over TCP."""
 
-    def __init__(self, folder):
-        self.folder = folder
+    def __init__(self, folder: str) -> None:
+        self.folder, self.port = folder, bridge.free_port()
         os.makedirs(folder)
-        self.server = None
         self.put(0)
         self.say("status", "0")
         self.say("does", "")
         self.begin()
 
-    def say(self, name, text):
+    def say(self, name: str, text: str) -> None:
         write(os.path.join(self.folder, name), text)
 
-    def put(self, counts):
+    def put(self, counts: int) -> None:
         self.say("value", f"{counts % 2**32:08x}")
 
-    def begin(self):
-        self.port = getattr(self, "port", bridge.free_port())
+    def begin(self) -> None:
         self.start("tcp", str(self.port))
-        wait_for("the Modbus server", self.listens)
+        wait_for("the Modbus server", lambda: bridge.is_listening(self.port))
 
-    def start(self, kind, place):
-        self.server = begun(
-            ["/usr/bin/python3", SERVER, kind, place, self.folder], stderr=subprocess.DEVNULL
-        )
+    def start(self, kind: str, place: str) -> None:
+        words = ["/usr/bin/python3", SERVER, kind, place, self.folder]
+        self.server = begun(words, stderr=subprocess.DEVNULL)
 
-    def listens(self):
-        try:
-            socket.create_connection((bridge.HOST, self.port), 1).close()
-            return True
-        except OSError:
-            return False
+    def end(self) -> None:
+        end(self.server)
 
-    def end(self):
-        self.server.kill()
-        self.server.wait()
-
-    def close(self):
+    def close(self) -> None:
         self.end()
 
-    def words(self):
+    def words(self) -> list[str]:
         return ["modbus", "--tcp", f"{bridge.HOST}:{self.port}", *self.registers()]
 
-    def registers(self):
+    def registers(self) -> list[str]:
         return ["--address", "0", "--bits", "24", "--status", "2", "--faulty", "0x00f0"]
 
-    def faults(self):
+    def says(self, name: str, text: str) -> Callable[[], None]:
+        return lambda: self.say(name, text)
+
+    def faults(self) -> list[Fault]:
+        as_before = self.says("does", "")
+        faulty, well = self.says("status", "0010"), self.says("status", "0f0f")
         return [
-            ("no answer in time", lambda: self.say("does", "1"), lambda: self.say("does", "")),
-            (
-                "an exception's answer",
-                lambda: self.say("does", "exception"),
-                lambda: self.say("does", ""),
-            ),
+            ("no answer in time", self.says("does", "1"), as_before),
+            ("an exception's answer", self.says("does", "exception"), as_before),
             ("a value outside its bits", lambda: self.put(0x01000000), lambda: None),
-            (
-                "a status that says faulty",
-                lambda: self.say("status", "0010"),
-                lambda: self.say("status", "0f0f"),
-            ),
+            ("a status that says faulty", faulty, well),
             ("a device that went away", self.end, self.begin),
         ]
 
 
 class ModbusLine(Modbus):
-    """A Modbus server by RTU, over two pairs of pseudo terminals of socat: between them each byte is handed on, or not as it was."""
+    """A Modbus server by RTU, over two pairs of pseudo terminals: between them each byte is passed on, or not as it was."""
 
-    def __init__(self, folder):
-        self.pairs, self.names = [], []
-        self.cut = lambda data: data
+    def __init__(self, folder: str) -> None:
+        self.cut = unspoiled
         os.makedirs(folder + ".lines")
-        for pair in "12":
-            names = [os.path.join(folder + ".lines", end + pair) for end in "ab"]
-            self.pairs.append(
-                begun(
-                    ["socat", *(f"pty,rawer,link={name}" for name in names)],
-                    stderr=subprocess.DEVNULL,
-                )
-            )
-            wait_for(
-                "a pair of pseudo terminals",
-                lambda names=names: all(os.path.exists(name) for name in names),
-            )
-            self.names.append(names)
-        ends = [
-            os.open(name, os.O_RDWR | os.O_NOCTTY) for name in (self.names[0][1], self.names[1][0])
+        self.names = [
+            [os.path.join(folder + ".lines", end + pair) for end in "ab"] for pair in "12"
         ]
-        for one, other, back in ((ends[0], ends[1], True), (ends[1], ends[0], False)):
-            tty.setraw(one)
-            threading.Thread(target=self.hand_on, args=(one, other, back), daemon=True).start()
+        self.pairs = [pair_of_terminals(*it) for it in self.names]
+        one, other = (
+            os.open(name, os.O_RDWR | os.O_NOCTTY) for name in (self.names[0][1], self.names[1][0])
+        )
+        for here, there, is_back in ((one, other, True), (other, one, False)):
+            tty.setraw(here)
+            way = (here, there, is_back)
+            threading.Thread(target=self.pass_on, args=way, daemon=True).start()
         super().__init__(folder)
 
-    def hand_on(self, one, other, back):
+    def pass_on(self, here: int, there: int, is_back: bool) -> None:
         try:
             while True:
-                data = os.read(one, 256)
-                os.write(other, self.cut(data) if back else data)
+                data = os.read(here, 256)
+                os.write(there, self.cut(data) if is_back else data)
         except OSError:
             pass  # socat has ended
 
-    def begin(self):
+    def begin(self) -> None:
         self.start("rtu", self.names[0][0])
         time.sleep(1)
 
-    def close(self):
+    def close(self) -> None:
         self.end()
-        for pair in self.pairs:
-            pair.kill()
-            pair.wait()
+        for it in self.pairs:
+            end(it)
 
-    def words(self):
-        return [
-            "modbus",
-            "--serial",
-            self.names[1][1],
-            "--baud",
-            "19200",
-            "--parity",
-            "N",
-            *self.registers(),
-        ]
+    def words(self) -> list[str]:
+        line = ["--serial", self.names[1][1], "--baud", "19200", "--parity", "N"]
+        return ["modbus", *line, *self.registers()]
 
-    def spoil(self, cut):
-        self.cut = cut
+    def cuts(self, how: Spoil) -> Callable[[], None]:
+        return lambda: setattr(self, "cut", how)
 
-    def faults(self):
+    def faults(self) -> list[Fault]:
+        wrong = self.cuts(lambda data: data[:-1] + bytes([data[-1] ^ 1]))
+        short, whole = self.cuts(lambda data: data[:-1]), self.cuts(unspoiled)
         return [
             *super().faults(),
-            (
-                "a wrong checksum",
-                lambda: self.spoil(lambda data: data[:-1] + bytes([data[-1] ^ 1])),
-                lambda: self.spoil(lambda data: data),
-            ),
-            (
-                "an answer that is cut",
-                lambda: self.spoil(lambda data: data[:-1]),
-                lambda: self.spoil(lambda data: data),
-            ),
+            ("a wrong checksum", wrong, whole),
+            ("an answer that is cut", short, whole),
         ]
 
 
 class Text(threading.Thread):
-    """An indicator that sends a frame with a status word so many times a second, on a pseudo terminal that socat makes."""
+    """An indicator that sends a frame with a status word `rate` times a second, on a pseudo terminal that socat makes."""
 
-    def __init__(self, folder, rate):
+    def __init__(self, folder: str, rate: float) -> None:
         super().__init__(daemon=True)
-        self.rate, self.counts, self.name = rate, 0, folder + ".device"
-        self.spoil = lambda frame: frame
-        self.pair, self.over = None, threading.Event()
+        self.rate, self.counts, self.device = rate, 0, folder + ".device"
+        self.line: int | None = None
+        self.spoil: Spoil = unspoiled
+        self.over = threading.Event()
         self.begin()
         self.start()
 
-    def begin(self):
-        own = self.name + ".own"
-        self.pair = begun(
-            ["socat", f"pty,rawer,link={own}", f"pty,rawer,link={self.name}"],
-            stderr=subprocess.DEVNULL,
-        )
-        wait_for(
-            "a pair of pseudo terminals", lambda: os.path.exists(own) and os.path.exists(self.name)
-        )
+    def begin(self) -> None:
+        own = self.device + ".own"
+        self.pair = pair_of_terminals(own, self.device)
         self.line = os.open(own, os.O_RDWR | os.O_NOCTTY | os.O_NONBLOCK)
 
-    def put(self, counts):
+    def put(self, counts: int) -> None:
         self.counts = counts
 
-    def frame(self):
+    def frame(self) -> bytes:
         sign = "2" if self.counts < 0 else "0"
         return f"\x02*{sign} {abs(self.counts):06}000000\r".encode()
 
-    def run(self):
+    def run(self) -> None:
         due = time.monotonic()
         while not self.over.is_set():
             try:
@@ -226,67 +213,56 @@ class Text(threading.Thread):
             due = max(due + 1 / self.rate, time.monotonic())
             time.sleep(max(0, due - time.monotonic()))
 
-    def end(self):
-        self.pair.kill()
-        self.pair.wait()
-        os.close(self.line)
+    def end(self) -> None:
+        end(self.pair)
+        if self.line is not None:
+            os.close(self.line)
 
-    def close(self):
+    def close(self) -> None:
         self.over.set()
         self.join()
         self.end()
 
-    def words(self):
-        return ["text", "--serial", self.name, "--baud", "9600", "--preset", "continuous"]
+    def words(self) -> list[str]:
+        return ["text", "--serial", self.device, "--baud", "9600", "--preset", "continuous"]
 
-    def spoils(self, how):
-        self.spoil = how
+    def spoils(self, how: Spoil) -> Callable[[], None]:
+        return lambda: setattr(self, "spoil", how)
 
-    def faults(self):
-        def begins(how):
-            return lambda: self.spoils(how)
-
-        ends = begins(lambda frame: frame)
-        return [
-            ("no line in time", begins(lambda frame: b""), ends),
-            ("lines that are cut", begins(lambda frame: frame[:7] + b"\r"), ends),
-            ("lines that lack their beginning", begins(lambda frame: frame[6:]), ends),
-            ("lines whose ends are gone", begins(lambda frame: frame[:-1]), ends),
-            ("lines that are doubled", begins(lambda frame: frame[:-1] * 2 + b"\r"), ends),
-            ("lines that are garbled", begins(lambda frame: frame[:6] + b"\xff" + frame[7:]), ends),
-            (
-                "a status that says out of range",
-                begins(lambda frame: frame[:2] + b"4" + frame[3:]),
-                ends,
-            ),
-            ("a device that went away", self.end, self.begin),
-        ]
+    def faults(self) -> list[Fault]:
+        spoiled: dict[str, Spoil] = {
+            "no line in time": lambda frame: b"",
+            "lines that are cut": lambda frame: frame[:7] + b"\r",
+            "lines that lack their beginning": lambda frame: frame[6:],
+            "lines whose ends are gone": lambda frame: frame[:-1],
+            "lines that are doubled": lambda frame: frame[:-1] * 2 + b"\r",
+            "lines that are garbled": lambda frame: frame[:6] + b"\xff" + frame[7:],
+            "a status that says out of range": lambda frame: frame[:2] + b"4" + frame[3:],
+        }
+        ends = self.spoils(unspoiled)
+        faults: list[Fault] = [(name, self.spoils(how), ends) for name, how in spoiled.items()]
+        return [*faults, ("a device that went away", self.end, self.begin)]
 
 
 class TextByTcp(Text):
-    """The same over TCP. What is written to a pseudo terminal is handed on by threads of the system, which wait for long on a busy machine."""
+    """An indicator over TCP. Threads of the system, which wait for long on a busy machine, pass on what is written to a pseudo terminal."""
 
-    def begin(self):
-        self.listener, self.line = socket.create_server((bridge.HOST, 0)), None
+    def begin(self) -> None:
+        self.listener = socket.create_server((bridge.HOST, 0))
         threading.Thread(target=self.accept, daemon=True).start()
 
-    def accept(self):
+    def accept(self) -> None:
         self.stream, _ = self.listener.accept()
         self.stream.setsockopt(socket.IPPROTO_TCP, socket.TCP_NODELAY, 1)
         self.line = self.stream.fileno()
 
-    def end(self):
+    def end(self) -> None:
         self.stream.close()
         self.listener.close()
 
-    def words(self):
-        return [
-            "text",
-            "--tcp",
-            f"{bridge.HOST}:{self.listener.getsockname()[1]}",
-            "--preset",
-            "continuous",
-        ]
+    def words(self) -> list[str]:
+        at = f"{bridge.HOST}:{self.listener.getsockname()[1]}"
+        return ["text", "--tcp", at, "--preset", "continuous"]
 
 
 class Iio:
@@ -294,38 +270,41 @@ class Iio:
 
     CHANNEL = "in_voltage0-voltage1_raw"
 
-    def __init__(self, folder):
-        self.folder = folder
-        self.counts = 0
+    def __init__(self, folder: str) -> None:
+        self.folder, self.counts = folder, 0
+        self.path = os.path.join(folder, self.CHANNEL)
         self.begin()
 
-    def path(self):
-        return os.path.join(self.folder, self.CHANNEL)
-
-    def begin(self):
+    def begin(self) -> None:
         os.makedirs(self.folder, exist_ok=True)
         self.put(self.counts)
 
-    def put(self, counts):
+    def put(self, counts: int) -> None:
         self.counts = counts
-        write(self.path(), f"{counts}\n")
+        write(self.path, f"{counts}\n")
 
-    def hangs(self):
-        os.remove(self.path())
-        os.mkfifo(self.path())
+    def hang(self) -> None:
+        os.remove(self.path)
+        os.mkfifo(self.path)
 
-    def close(self):
+    def close(self) -> None:
         pass
 
-    def words(self):
+    def words(self) -> list[str]:
         return ["iio", "--folder", self.folder, "--channel", self.CHANNEL, "--bits", "24"]
 
-    def faults(self):
+    def holds(self, text: str) -> Callable[[], None]:
+        return lambda: write(self.path, text)
+
+    def faults(self) -> list[Fault]:
         again = self.begin
         return [
-            ("no answer in time", self.hangs, again),
-            ("something that is no number", lambda: write(self.path(), "12x4\n"), again),
-            ("an empty file", lambda: write(self.path(), ""), again),
-            ("a value outside its bits", lambda: write(self.path(), "8388608\n"), again),
+            ("no answer in time", self.hang, again),
+            ("something that is no number", self.holds("12x4\n"), again),
+            ("an empty file", self.holds(""), again),
+            ("a value outside its bits", self.holds("8388608\n"), again),
             ("a device that went away", lambda: shutil.rmtree(self.folder), again),
         ]
+
+
+Device = Modbus | Text | Iio

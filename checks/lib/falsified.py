@@ -1,5 +1,5 @@
 #!/usr/bin/env python3
-"""Falsified programs for checks/trial --falsified: each runs the program that WEIGHBRIDGE_PROGRAM names, and changes what goes in or comes out as WEIGHBRIDGE_FALSIFIED says."""
+"""Falsified programs for checks/trial --slow: each runs the program that WEIGHBRIDGE_PROGRAM names, and changes what goes in or comes out as WEIGHBRIDGE_FALSIFIED says."""
 import os
 import re
 import subprocess
@@ -8,7 +8,7 @@ import threading
 import time
 from collections.abc import Iterable, Iterator
 
-# The name of each, the tests of checks/trial that it has to fail, and what it does.
+# The name of each, the tests of checks/trial that it must fail, and what it does.
 ALL = {
     "none": (
         ("performance", "discrimination", "limits", "zero_accuracy", "ticket", "power_cut"),

@@ -17,7 +17,6 @@ SLOW = {
 }
 # They measure how late something comes, or change what the launcher built.
 ALONE = {
-    "converters",
     "wrong_bodies",
 }
 # About how many seconds the others take, if it is more than a minute.

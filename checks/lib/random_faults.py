@@ -1,5 +1,5 @@
-"""Devices with a fault every two seconds at random, whose value tells when they held it: each is a step number times seven and three, and a step lasts
-20 ms. So of each line that is handed on it can be told how old it is, and that the device held that value at all."""
+"""Devices with a fault every two seconds at random, whose value shows when they held it: each is a step number times seven and three, and a step lasts
+20 ms. So each line that a reader passes on shows how old it is, and whether the device held that value at all."""
 
 import os
 import random
@@ -8,68 +8,88 @@ import struct
 import threading
 import time
 import tty
+from collections.abc import Callable
+from typing import Protocol
 
 from checks.lib import bridge
-from checks.lib.devices import begun, wait_for
+from checks.lib.devices import end, pair_of_terminals
 
 STEP = 0.02  # seconds for which a value is held
+
+
+class Holds(Protocol):
+    """The values that a device holds."""
+
+    def now(self) -> int:
+        ...
 
 
 class Held:
     """The values that a device holds, one after the other."""
 
-    def __init__(self):
+    def __init__(self) -> None:
         self.begun = time.monotonic()
 
-    def now(self):
+    def now(self) -> int:
         return int((time.monotonic() - self.begun) / STEP) * 7 + 3
 
-    def age(self, value, at):
-        """How long before this moment the value was held last; None if it never was."""
+    def age(self, value: int, at: float) -> float | None:
+        """Return how long before this moment the value was held last, or None if it never was."""
         step, rest = divmod(value - 3, 7)
         ended = self.begun + (step + 1) * STEP
         return None if rest or step < 0 or ended - STEP > at else max(0.0, at - ended)
 
 
+def send_in_pieces(stream: socket.socket, text: bytes) -> None:
+    for byte in text:
+        stream.sendall(bytes([byte]))
+        time.sleep(0.001)
+
+
 class Faulty:
-    """What each device has: a fault of its own list, for half of each two seconds at random."""
+    """A device with a fault of its own list, for half of each two seconds at random."""
 
-    FAULTS = []
+    FAULTS: tuple[str, ...] = ()
 
-    def __init__(self, seed):
-        self.held, self.fault, self.random, self.over = (
-            Held(),
-            "",
-            random.Random(seed),
-            threading.Event(),
-        )
-        self.had = {}
+    def __init__(self, seed: int, held: Holds | None = None) -> None:
+        self.held: Holds = held or Held()
+        self.fault, self.random, self.over = "", random.Random(seed), threading.Event()
+        self.had = 0
         self.begin()
         threading.Thread(target=self.have_faults, daemon=True).start()
 
-    def have_faults(self):
+    def begin(self) -> None:
+        raise NotImplementedError
+
+    def words(self) -> list[str]:
+        raise NotImplementedError
+
+    def have_faults(self) -> None:
         while not self.over.wait(self.random.uniform(0.5, 1.5)):
             self.fault = self.random.choice(self.FAULTS)
-            self.had[self.fault] = self.had.get(self.fault, 0) + 1
+            self.had += 1
             lasts = self.random.uniform(0.1, 1.5)
             self.over.wait(lasts)
             self.fault = ""
             self.over.wait(max(0, 1 - lasts))
 
-    def age(self, value, at):
+    def age(self, value: int, at: float) -> float | None:
+        assert isinstance(self.held, Held)  # a load that stays has no age
         return self.held.age(value, at)
 
-    def close(self):
+    def close(self) -> None:
         self.over.set()
 
 
 class FaultyTcp(Faulty):
-    def begin(self):
+    """A device that listens at a port."""
+
+    def begin(self) -> None:
         self.listener = socket.create_server((bridge.HOST, 0))
-        self.port = self.listener.getsockname()[1]
+        self.at = f"{bridge.HOST}:{self.listener.getsockname()[1]}"
         threading.Thread(target=self.accept, daemon=True).start()
 
-    def accept(self):
+    def accept(self) -> None:
         try:
             while True:
                 stream, _ = self.listener.accept()
@@ -81,77 +101,69 @@ class FaultyTcp(Faulty):
         except OSError:
             pass  # it was closed
 
-    def served(self, stream):
+    def served(self, stream: socket.socket) -> None:
         try:
             self.serve(stream)
+            stream.close()
         except OSError:
             pass  # the reader opened another
 
-    def close(self):
+    def serve(self, stream: socket.socket) -> None:
+        """Serve a reader until it leaves, or the device is away."""
+        raise NotImplementedError
+
+    def close(self) -> None:
         super().close()
         self.listener.close()
 
 
 class FaultyModbus(FaultyTcp):
-    FAULTS = [
-        "away",
-        "late",
-        "too late",
-        "twice",
-        "exchanged",
-        "in pieces",
-        "cut",
-        "with more",
-        "busy",
-        "exception",
-        "silent",
-        "an old one first",
-    ]
+    """A Modbus device over TCP."""
 
-    def serve(self, stream):
+    FAULTS = (
+        *("away", "late", "too late", "twice", "exchanged", "in pieces", "cut", "with more"),
+        *("busy", "exception", "silent", "an old one first"),
+    )
+
+    def serve(self, stream: socket.socket) -> None:
         earlier, kept = b"", b""
         while len(question := stream.recv(12, socket.MSG_WAITALL)) == 12:
             number, _, _, unit, function, _, _ = struct.unpack(">HHHBBHH", question)
             answer = struct.pack(">HHHBBBI", number, 0, 7, unit, function, 4, self.held.now())
-            self.answer(stream, number, answer, earlier, kept)
+            self.answer(stream, answer, earlier, kept)
             if self.fault == "away":
-                stream.close()
                 return
             earlier, kept = answer, kept or answer
 
-    def answer(self, stream, number, answer, earlier, kept):
-        fault = self.fault
-        if fault in ("", "late", "twice", "with more"):
-            time.sleep(0.1 if fault == "late" else 0)
-            stream.sendall(
-                answer * (2 if fault == "twice" else 1) + (b"more" if fault == "with more" else b"")
-            )
-        elif fault == "too late":
-            time.sleep(0.5)
-            stream.sendall(answer)
-        elif fault == "exchanged":
-            stream.sendall(struct.pack(">H", (number + 1) % 65_536) + answer[2:])
-        elif fault == "in pieces":
-            for byte in answer:
-                stream.sendall(bytes([byte]))
-                time.sleep(0.001)
-        elif fault == "cut":
-            stream.sendall(answer[:9])
+    def answer(self, stream: socket.socket, answer: bytes, earlier: bytes, kept: bytes) -> None:
+        fault, number = self.fault, int.from_bytes(answer[:2], "big")
+        time.sleep({"late": 0.1, "too late": 0.5}.get(fault, 0))
+        if fault == "in pieces":
+            send_in_pieces(stream, answer)
         elif fault == "busy":
             for _ in range(50):
                 stream.sendall(earlier or answer)
                 time.sleep(0.002)
-        elif fault == "exception":
-            stream.sendall(answer[:4] + struct.pack(">HBBB", 3, answer[6], answer[7] | 0x80, 4))
-        elif fault == "an old one first":
-            stream.sendall(kept + answer)
+        else:
+            refused = struct.pack(">HBBB", 3, answer[6], answer[7] | 0x80, 4)
+            sent = {
+                "away": b"",
+                "silent": b"",
+                "twice": answer * 2,
+                "with more": answer + b"more",
+                "exchanged": struct.pack(">H", (number + 1) % 65_536) + answer[2:],
+                "cut": answer[:9],
+                "exception": answer[:4] + refused,
+                "an old one first": kept + answer,
+            }
+            stream.sendall(sent.get(fault, answer))
 
-    def words(self):
-        return ["modbus", "--tcp", f"{bridge.HOST}:{self.port}", "--address", "0"]
+    def words(self) -> list[str]:
+        return ["modbus", "--tcp", self.at, "--address", "0"]
 
 
-def checked_by(frame):
-    """A frame of Modbus RTU with its checksum."""
+def checked_by(frame: bytes) -> bytes:
+    """Return a frame of Modbus RTU with its checksum."""
     it = 0xFFFF
     for byte in frame:
         it ^= byte
@@ -163,35 +175,24 @@ def checked_by(frame):
 class FaultyLine(Faulty):
     """A Modbus device by RTU on a pair of pseudo terminals."""
 
-    FAULTS = [
-        "late",
-        "too late",
-        "twice",
-        "garbled",
-        "cut",
-        "with more",
-        "noise before",
-        "exception",
-        "another unit",
-        "silent",
-    ]
+    FAULTS = (
+        *("late", "too late", "twice", "garbled", "cut", "with more", "noise before"),
+        *("exception", "another unit", "silent"),
+    )
 
-    def __init__(self, seed, folder):
+    def __init__(self, seed: int, folder: str) -> None:
         self.folder = folder
         super().__init__(seed)
 
-    def begin(self):
+    def begin(self) -> None:
         os.makedirs(self.folder)
         own, self.name = (os.path.join(self.folder, it) for it in ("own", "device"))
-        self.pair = begun(["socat", f"pty,rawer,link={own}", f"pty,rawer,link={self.name}"])
-        wait_for(
-            "a pair of pseudo terminals", lambda: os.path.exists(own) and os.path.exists(self.name)
-        )
+        self.pair = pair_of_terminals(own, self.name)
         self.line = os.open(own, os.O_RDWR | os.O_NOCTTY)
         tty.setraw(self.line)
         threading.Thread(target=self.serve, daemon=True).start()
 
-    def serve(self):
+    def serve(self) -> None:
         asked = b""
         try:
             while True:
@@ -202,7 +203,7 @@ class FaultyLine(Faulty):
         except OSError:
             pass  # socat has ended
 
-    def answer(self, answer):
+    def answer(self, answer: bytes) -> None:
         fault = self.fault
         time.sleep({"late": 0.1, "too late": 0.33}.get(fault, 0))
         sent = {
@@ -217,34 +218,25 @@ class FaultyLine(Faulty):
         }
         os.write(self.line, sent.get(fault, answer))
 
-    def close(self):
+    def close(self) -> None:
         super().close()
-        self.pair.kill()
-        self.pair.wait()
+        end(self.pair)
 
-    def words(self):
+    def words(self) -> list[str]:
         return ["modbus", "--serial", self.name, "--parity", "N", "--address", "0"]
 
 
 class FaultyText(FaultyTcp):
-    """An indicator that sends frames with a checksum so many times a second."""
+    """An indicator that sends frames with a checksum ten times a second."""
 
-    FAULTS = [
-        "away",
-        "silent",
-        "cut",
-        "garbled",
-        "twice",
-        "no ends",
-        "held back",
-        "a net",
-        "out of range",
-        "in pieces",
-        "busy",
-    ]
+    FAULTS: tuple[str, ...] = (
+        *("away", "silent", "cut", "garbled", "twice", "no ends", "held back", "a net"),
+        *("out of range", "in pieces", "busy"),
+    )
+    PRESET = "continuous"
     RATE = 10
 
-    def serve(self, stream):
+    def serve(self, stream: socket.socket) -> None:
         due, back = time.monotonic(), b""
         while self.fault != "away":
             text = self.frame()
@@ -255,64 +247,59 @@ class FaultyText(FaultyTcp):
                 back = b""
             due = max(due + 1 / self.RATE, time.monotonic())
             time.sleep(max(0, due - time.monotonic()))
-        stream.close()
 
-    def frame(self):
+    def frame(self) -> bytes:
         status = {"a net": "1", "out of range": "4"}.get(self.fault, "0")
         frame = f"\x02*{status} {self.held.now():06}000000\r".encode()
         return frame + bytes([-sum(frame) % 128])
 
-    def send(self, stream, text):
-        fault = self.fault
-        if fault == "in pieces":
-            for byte in text:
-                stream.sendall(bytes([byte]))
-                time.sleep(0.001)
-        elif fault != "silent":
-            sent = {
-                "cut": lambda: text[:8] + text[-2:],
-                "garbled": lambda: text[:6] + bytes([text[6] ^ 1]) + text[7:],
-                "twice": lambda: text * 2,
-                "no ends": lambda: text.replace(b"\r", b""),
-                "busy": lambda: os.urandom(100) + text,
-            }
-            stream.sendall(sent[fault]() if fault in sent else text)
+    def send(self, stream: socket.socket, text: bytes) -> None:
+        if self.fault == "in pieces":
+            send_in_pieces(stream, text)
+            return
+        sent: dict[str, Callable[[], bytes]] = {
+            "silent": lambda: b"",
+            "cut": lambda: text[:8] + text[-2:],
+            "garbled": lambda: text[:6] + bytes([text[6] ^ 1]) + text[7:],
+            "twice": lambda: text * 2,
+            "no ends": lambda: text.replace(b"\r", b""),
+            "busy": lambda: os.urandom(100) + text,
+        }
+        stream.sendall(sent.get(self.fault, lambda: text)())
 
-    def words(self):
-        return ["text", "--tcp", f"{bridge.HOST}:{self.port}", "--preset", "continuous"]
+    def words(self) -> list[str]:
+        return ["text", "--tcp", self.at, "--preset", self.PRESET]
 
 
 class FaultySir(FaultyText):
     """An indicator that sends by MT-SICS once it is asked to."""
 
-    FAULTS = ["away", "silent", "cut", "twice", "held back", "no value", "over", "in pieces"]
+    FAULTS = ("away", "silent", "cut", "twice", "held back", "no value", "over", "in pieces")
+    PRESET = "sir"
 
-    def serve(self, stream):
-        while b"SIR\r\n" not in stream.recv(64):
-            pass
+    def serve(self, stream: socket.socket) -> None:
+        while b"SIR\r\n" not in (asked := stream.recv(64)):
+            if not asked:
+                return  # the reader left
         super().serve(stream)
 
-    def frame(self):
-        if self.fault in ("no value", "over"):
-            return b"S I\r\n" if self.fault == "no value" else b"S +\r\n"
-        return f"S S {self.held.now():10} kg\r\n".encode()
+    def frame(self) -> bytes:
+        none = {"no value": b"S I\r\n", "over": b"S +\r\n"}
+        return none.get(self.fault, f"S S {self.held.now():10} kg\r\n".encode())
 
-    def send(self, stream, text):
+    def send(self, stream: socket.socket, text: bytes) -> None:
         if self.fault == "cut":
             stream.sendall(text[: self.random.randrange(4, 14)] + b"\r\n")
         else:
             super().send(stream, text)
 
-    def words(self):
-        return ["text", "--tcp", f"{bridge.HOST}:{self.port}", "--preset", "sir"]
-
 
 class FaultyAsked(FaultyTcp):
-    """A digital load cell that is asked for each value."""
+    """A digital load cell that sends each value on request."""
 
-    FAULTS = ["away", "late", "too late", "silent", "twice", "cut", "in pieces"]
+    FAULTS = ("away", "late", "too late", "silent", "twice", "cut", "in pieces")
 
-    def serve(self, stream):
+    def serve(self, stream: socket.socket) -> None:
         asked = b""
         while more := stream.recv(64):
             asked += more
@@ -320,58 +307,46 @@ class FaultyAsked(FaultyTcp):
                 asked = asked.partition(b"MSV?;\r\n")[2]
                 self.answer(stream, f"+{self.held.now():07}\r\n".encode())
                 if self.fault == "away":
-                    stream.close()
                     return
 
-    def answer(self, stream, text):
+    def answer(self, stream: socket.socket, text: bytes) -> None:
         time.sleep({"late": 0.1, "too late": 0.33}.get(self.fault, 0))
         if self.fault == "in pieces":
-            for byte in text:
-                stream.sendall(bytes([byte]))
-                time.sleep(0.001)
+            send_in_pieces(stream, text)
         else:
-            stream.sendall(
-                {"silent": b"", "twice": text * 2, "cut": text[:5] + b"\r\n"}.get(self.fault, text)
-            )
+            sent = {"silent": b"", "twice": text * 2, "cut": text[:5] + b"\r\n"}
+            stream.sendall(sent.get(self.fault, text))
 
-    def words(self):
-        return [
-            "text",
-            "--tcp",
-            f"{bridge.HOST}:{self.port}",
-            "--pattern",
-            r"(?P<sign>[+-])(?P<value>[0-9]{7})",
-            "--ask",
-            "MSV?;",
-        ]
+    def words(self) -> list[str]:
+        pattern = r"(?P<sign>[+-])(?P<value>[0-9]{7})"
+        return ["text", "--tcp", self.at, "--pattern", pattern, "--ask", "MSV?;"]
 
 
 class FaultyIio(Faulty):
-    FAULTS = ["away", "no number", "empty", "hangs", "out of its bits"]
+    """A folder in the form of industrial IO."""
+
+    FAULTS = ("away", "no number", "empty", "hangs", "out of its bits")
     CHANNEL = "in_voltage0_raw"
 
-    def __init__(self, seed, folder):
+    def __init__(self, seed: int, folder: str) -> None:
         self.folder = folder
+        self.value: int | None = None
+        self.until: dict[int | None, float] = {}
         super().__init__(seed)
 
-    def begin(self):
+    def begin(self) -> None:
         os.makedirs(self.folder)
-        self.value, self.until = None, {}
         threading.Thread(target=self.serve, daemon=True).start()
 
-    def serve(self):
+    def serve(self) -> None:
+        texts = {"no number": "12x4\n", "empty": "", "out of its bits": "8388608\n"}
         while not self.over.wait(0.01):
             fault, value = self.fault, self.held.now()
-            self.show(
-                fault,
-                {"no number": "12x4\n", "empty": "", "out of its bits": "8388608\n"}.get(
-                    fault, f"{value}\n"
-                ),
-            )
+            self.show(fault, texts.get(fault, f"{value}\n"))
             self.until[self.value] = time.monotonic()
             self.value = None if fault else value
 
-    def show(self, fault, text):
+    def show(self, fault: str, text: str) -> None:
         path = os.path.join(self.folder, self.CHANNEL)
         if fault == "away":
             if os.path.exists(path):
@@ -384,11 +359,11 @@ class FaultyIio(Faulty):
                 it.write(text)
         os.rename(path + ".new", path)
 
-    def age(self, value, at):
-        """A file holds its value until the next is written, however long this machine takes for it."""
+    def age(self, value: int, at: float) -> float | None:
+        """Return 0 while the file holds the value, until the next is written, however long this machine takes for it."""
         if value == self.value:
             return 0.0
         return max(0.0, at - self.until[value]) if value in self.until else None
 
-    def words(self):
+    def words(self) -> list[str]:
         return ["iio", "--folder", self.folder, "--channel", self.CHANNEL, "--bits", "24"]

@@ -251,7 +251,7 @@ def alone(name: str) -> int:
     if path := vars(asked).get("program"):
         use_program(options, path)
     given.update(vars(asked))
-    # a check of which all classes are slow runs without --slow
+    # A check whose classes are all slow is run only by its name, so it runs.
     classes = [it for it in classes if asked.slow or not it.slow] or classes
     if asked.list:
         print("\n".join(name_of(it) for each in classes for it in chosen(each, asked.k)))

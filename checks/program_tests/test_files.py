@@ -26,6 +26,7 @@ from checks.program_tests.test_arguments import (
 
 MADE = (0, "it would start")
 NO_ADDRESS = "it must be an IPv4 address of 127.0.0.0/8, a colon and a port, such as 127.0.0.1:880"
+DAMAGED = "the journal is damaged, and would be served as it is: DAMAGED 2"
 IN_USE = "another program listens there"
 
 
@@ -60,20 +61,14 @@ class Journals(TriedTwice):
         old, new, newer = (f"{folder}/{it}.db" for it in ("old", "new", "newer"))
         make_journal(old, 20, version=1)
         before = contents(folder, "old")
+        migrate = ("migrate", "--file", old, "--to", new)
+        again = ("migrate", "--file", new, "--to", newer)
         for name, wanted, words in (
-            ("a journal of version 1 is refused", "store 6 old_version", ["check", "--file", old]),
-            ("it is migrated", "MIGRATED 20", ["migrate", "--file", old, "--to", new]),
-            ("the new one is sound", "SOUND 20", ["check", "--file", new]),
-            (
-                "a new file with something in it is refused",
-                "store 8 not_empty",
-                ["migrate", "--file", old, "--to", new],
-            ),
-            (
-                "the new one is not migrated again",
-                "store 7 not_version_1",
-                ["migrate", "--file", new, "--to", newer],
-            ),
+            ("a journal of version 1 is refused", "store 6 old_version", ("check", "--file", old)),
+            ("it is migrated", "MIGRATED 20", migrate),
+            ("the new one is sound", "SOUND 20", ("check", "--file", new)),
+            ("a new file with something in it is refused", "store 8 not_empty", migrate),
+            ("the new one is not migrated again", "store 7 not_version_1", again),
         ):
             is_fault = wanted.startswith("store")
             out, err = ("", f"{wanted}\n") if is_fault else (f"{wanted}\n", "")
@@ -185,70 +180,30 @@ class Looks(TriedTwice):
         one, terminal = f"{HOST}:{bridge.free_port()}", f"{HOST}:{taken}"
         taken_line = f"terminal {terminal}: {IN_USE}"
         none, there = f"{folder}/gone/journal.db", f"{folder}/gone"
-        rows: list[tuple[str, str, list[str], tuple[int, list[str]]]] = [
-            (
-                "a damaged journal would be served, and is reported",
-                f"{folder}/damaged.db",
-                [],
-                (0, ["the journal is damaged, and would be served as it is: DAMAGED 2"]),
-            ),
-            (
-                "an address in use is a fault, because nobody holds the journal",
-                file,
-                ["--terminal", terminal],
-                (1, [taken_line, "address fault"]),
-            ),
-            (
-                "one address for both is a fault",
-                file,
-                ["--terminal", one, "--office", one],
-                (1, [f"office {one}: {IN_USE}", "address fault"]),
-            ),
-            (
-                "a setup that is refused stays refused",
-                file,
-                ["--window", "3"],
-                (2, ["setup refused: 3 Window"]),
-            ),
-            (
-                "so does an address that isn't only of this machine",
-                file,
-                ["--office", "10.0.0.1:80"],
-                (2, [f"office 10.0.0.1:80: {NO_ADDRESS}", "address fault"]),
-            ),
-            (
-                "a converter's that isn't",
-                file,
-                ["--converter", "tcp:localhost:1"],
-                (2, [f"converter tcp:localhost:1: {NO_ADDRESS}", "converter fault"]),
-            ),
-            (
-                "a folder as a converter",
-                file,
-                ["--converter", folder],
-                (2, [f"converter {folder}: it is a folder", "converter fault"]),
-            ),
-            (
-                "a file that is no journal",
-                f"{folder}/other.db",
-                [],
-                (2, [f"journal {folder}/other.db: {FOREIGN}", "store 4 foreign"]),
-            ),
-            (
-                "a converter that isn't there may come",
-                file,
-                ["--converter", there],
-                (1, [f"converter {there}: there is no such file", "converter fault"]),
-            ),
-            (
-                "so may a folder for the journal",
-                none,
-                [],
-                (1, [f"journal {none}: {NO_FOLDER}", DISK]),
-            ),
-        ]
-        for name, path, words, wanted in rows:
-            self.same(name, wanted, self.look(path, *words)[::2])
+        away, name_only = "10.0.0.1:80", "tcp:localhost:1"
+        no_office = (f"office {away}: {NO_ADDRESS}", "address fault")
+        no_converter = (f"converter {name_only}: {NO_ADDRESS}", "converter fault")
+        is_folder = (f"converter {folder}: it is a folder", "converter fault")
+        foreign = (f"journal {folder}/other.db: {FOREIGN}", "store 4 foreign")
+        gone = (f"converter {there}: there is no such file", "converter fault")
+        no_folder = (f"journal {none}: {NO_FOLDER}", DISK)
+        damaged, other = f"{folder}/damaged.db", f"{folder}/other.db"
+        for name, path, option, value, wanted, *lines in (
+            ("a damaged journal would be served, and is reported", damaged, "", "", "0", DAMAGED),
+            ("an address in use", file, "--terminal", terminal, "1", taken_line, "address fault"),
+            ("a setup that is refused", file, "--window", "3", "2", "setup refused: 3 Window"),
+            ("an address of another machine", file, "--office", away, "2", *no_office),
+            ("a converter's that isn't one", file, "--converter", name_only, "2", *no_converter),
+            ("a folder as a converter", file, "--converter", folder, "2", *is_folder),
+            ("a file that is no journal", other, "", "", "2", *foreign),
+            ("a converter that may come", file, "--converter", there, "1", *gone),
+            ("a folder of the journal that may", none, "", "", "1", *no_folder),
+        ):
+            found = self.look(path, *filter(None, [option, value]))[::2]
+            self.same(f"{name}: {' '.join(lines)}", (int(wanted), lines), found)
+        found = self.look(file, "--terminal", one, "--office", one)[::2]
+        in_use = (1, [f"office {one}: {IN_USE}", "address fault"])
+        self.same("one address for both is a fault", in_use, found)
         self.same("each look has made and changed nothing", before, contents(folder))
         start = ("serve", "--file", file, *addresses(taken))
         said = printed(*start, "--verbose")[2].splitlines()[-2:]
@@ -316,26 +271,18 @@ class Looks(TriedTwice):
         runs = f"journal {file}: the running service holds it; stop that before another start"
         terminal, office = f"terminal {one}: {IN_USE}", f"office {other}: {IN_USE}"
         both = ("--terminal", one, "--office", other)
+        started, held_by = ["it would start"], [f"journal {file}: {HELD}", DISK]
+        fault, new = [terminal, "address fault"], f"{folder}/new.db"
         for name, path, words, wanted in (
             (
-                "addresses in use by the running service are no fault",
+                "its addresses in use are no fault",
                 file,
                 both,
-                (0, ["it would start"], [runs, terminal, office]),
+                (0, started, [runs, terminal, office]),
             ),
-            ("nor is one of both", file, both[2:], (0, ["it would start"], [runs, office])),
-            (
-                "a journal that is held, at other addresses",
-                file,
-                (),
-                (1, [], [f"journal {file}: {HELD}", DISK]),
-            ),
-            (
-                "another journal at the addresses of a running service",
-                f"{folder}/new.db",
-                both,
-                (1, [], [terminal, "address fault"]),
-            ),
+            ("nor is one of both", file, both[2:], (0, started, [runs, office])),
+            ("its journal, at other addresses", file, (), (1, [], held_by)),
+            ("another journal at its addresses", new, both, (1, [], fault)),
         ):
             status, out, err = self.look(path, *words)
             self.same(name, wanted, (status, out[1:], err))
