@@ -41,8 +41,11 @@ def page_missing(name: str, section: str) -> str | None:
 
 @functools.cache
 def rules() -> list[str]:
-    """Return the places of docs/rules.md: the words in bold at the head of a paragraph or of a point, each with its section; a section that has none; and
-    the rows of the tables of commands and of refusals."""
+    """Return the places of docs/rules.md.
+
+    They are the words in bold at the head of a paragraph or of a point, each with its section, the sections without any, and the rows of the tables of
+    commands and of refusals.
+    """
     found: list[str] = []
     section = lead = ""
     for line in read("docs/rules.md").splitlines():
