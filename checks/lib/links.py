@@ -43,8 +43,8 @@ def page_missing(name: str, section: str) -> str | None:
 def rules() -> list[str]:
     """Return the places of docs/rules.md.
 
-    They are the words in bold at the head of a paragraph or of a point, each with its section, the sections without any, and the rows of the tables of
-    commands and of refusals.
+    They are the words in bold at the head of a paragraph or of a point, each with its section. The sections without any are places, too, and so are the
+    rows of the tables of commands and of refusals.
     """
     found: list[str] = []
     section = lead = ""
