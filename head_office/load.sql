@@ -1,6 +1,6 @@
 -- Loads an export: psql -X -v ON_ERROR_STOP=1 -v bridge=NORTH -f load.sql < journal.csv
 -- With -v is_chained=0 it is of version 1, without the column previous. With -v is_newest=1 it has only the newest entries. -v fetched=MOMENT gives the moment
--- at which it was fetched. With -v receipt=RECEIPT, empty for the first load, the last line is the newest receipt. With -v asks_first=1 the only output is `whole` if the head office wants the whole export.
+-- at which it was fetched. -v clock=MOMENT gives what the bridge's clock shows now. With -v receipt=RECEIPT, empty for the first load, the last line is the newest receipt. With -v asks_first=1 the only output is `whole` if the head office wants the whole export.
 -- It is one transaction, so a load that breaks off before the commit leaves nothing. `\copy` takes no variable, so the export comes on standard input.
 \set QUIET on
 \set VERBOSITY terse
@@ -22,6 +22,11 @@
 \else
 \set asks_first 0
 \endif
+\if :{?clock}
+\set has_clock 1
+\else
+\set has_clock 0
+\endif
 \if :{?receipt}
 \set has_receipt 1
 \else
@@ -32,6 +37,10 @@
 set client_connection_check_interval = '2s';
 set idle_in_transaction_session_timeout = '60s';
 begin;
+-- before the copy, which takes time
+\if :has_clock
+select set_config('head_office.apart', (:'clock'::timestamptz - clock_timestamp())::text, true) \g /dev/null
+\endif
 -- refuses to load if the bridge has a receipt that the head office doesn't know
 select case when :'receipt' <> '' then head_office.refuse_receipt(:'bridge', :'receipt') end as refused \gset
 \if :{?refused}

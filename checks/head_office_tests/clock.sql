@@ -1,7 +1,7 @@
 -- Moments that don't fit the clock of the head office, or those of the entries and loads before.
 BEGIN;
 SET LOCAL search_path = test, tap;
-SELECT plan(37);
+SELECT plan(47);
 SET LOCAL timezone = 'America/New_York';
 
 -- A record whose moment is ahead of the moment at which its export was fetched
@@ -80,6 +80,31 @@ SELECT is(pg_temp.dated_back('D2', '1 minute'), '{}', 'nor is one a minute befor
 SELECT is(pg_temp.dated_back('D3', '1 minute 1 second'), '{dated back 2}', 'one more second is');
 SELECT is(pg_temp.dated_back('D4', '3 hours'), '{dated back 2}', 'and so are three hours');
 SELECT is(pg_temp.dated_back('D5', '3 hours', NULL), '{dated back 2}', '  also if nobody says when the newer export was fetched');
+-- A bridge's clock that was put back since the last load
+CREATE FUNCTION pg_temp.put_back(name text, apart_before text, apart_now text, before interval) RETURNS text[] LANGUAGE plpgsql AS $$
+BEGIN
+    CALL bridge(name);
+    CALL weigh(name, 'single', 'A-1', 9000, 5000, age => '5 days');
+    PERFORM set_config('head_office.apart', apart_before, true);
+    CALL loaded(name, fetched => present() - interval '1 hour');
+    CALL weigh(name, 'single', 'A-1', 9000, 5000, age => interval '1 hour' + before);
+    PERFORM set_config('head_office.apart', apart_now, true);
+    PERFORM load(name);
+    PERFORM set_config('head_office.apart', '', true);
+    RETURN findings(name);
+END $$;
+SELECT is(pg_temp.put_back('P1', '100 s', '0 s', '2 minutes 40 seconds'), '{}', 'by 100 seconds: an entry may be dated earlier by as much');
+SELECT is(pg_temp.put_back('P2', '100 s', '0 s', '2 minutes 41 seconds'), '{dated back 2}', '  and by no second more');
+SELECT is(pg_temp.put_back('P3', '0 s', '100 s', '1 minute 1 second'), '{dated back 2}', '  but not if it was put forward');
+SELECT is(pg_temp.put_back('P4', '', '-100 s', '1 minute 1 second'), '{dated back 2}', '  nor if one of them isn''t known');
+SELECT is(pg_temp.put_back('P5', '0 s', '-3 days', '2 days'), '{clock}', 'a clock that is slow by days allows as much, and is a finding');
+SELECT is(pg_temp.put_back('P6', '0 s', '120 s', '0 s'), '{}', 'a clock that is two minutes fast is none');
+SELECT is(pg_temp.put_back('P7', '0 s', '121 s', '0 s'), '{clock}', '  one more second is');
+SELECT is(pg_temp.put_back('P8', '0 s', '-121 s', '0 s'), '{clock}', '  and so is a slow one');
+SELECT is((SELECT apart FROM head_office.heard WHERE bridge = 'P8'), interval '-121 s', '  which is shown');
+SELECT is((SELECT string_agg(head_office.roughly(it::interval), ', ') FROM unnest('{121 s,-7199 s,2 hours,47 hours,-3 days}'::text[]) it), '2 minutes, 119 minutes, 2 hours, 47 hours, 3 days',
+    'the finding says it roughly, so that a slow drift is one finding');
+
 CALL bridge('D6');
 CALL weigh('D6', 'single', 'A-1', 9000, 5000, age => '2 days');
 CALL weigh('D6', 'single', 'B-2', 9000, 5000, age => '1 day');

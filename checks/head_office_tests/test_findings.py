@@ -71,6 +71,24 @@ class Findings(OfficeCheck):
         self.loads(what, "BACK", book, "^dated back 31-32: ", 1)
         self.same("  as one", ["dated back|31|32"], office.findings("BACK"))
 
+    def test_clock(self) -> None:
+        office = self.office
+        book = office.book("SLOW", 6)
+        slow = time.strftime("%Y-%m-%dT%H:%M:%SZ", time.gmtime(time.time() - 3 * 86_400 - 60))
+        what, wanted = (
+            "a clock that is slow by days",
+            "^clock: the bridge's clock is 3 days behind$",
+        )
+        self.loads(what, "SLOW", office.export(book), wanted, 1, "--clock", slow)
+        apart = "SELECT apart BETWEEN '-3 days -2 minutes' AND '-3 days' FROM head_office.heard"
+        self.same("  is shown", "t", office.reads(apart))
+        again = "^SLOW: records 6, added 0, findings 1, new 0$"
+        self.loads("  and found once", "SLOW", office.export(book), again, 0, "--clock", slow)
+        self.loads("  without a clock nothing is said", "SLOW", office.export(book), "findings 0")
+        wrong = "^SLOW: refused: .*yesterday noon"
+        what = "  no moment is refused"
+        self.loads(what, "SLOW", office.export(book), wrong, 2, "--clock", "yesterday noon")
+
     def test_two_names(self) -> None:
         office = self.office
         book = office.book("NAME", 12)

@@ -391,6 +391,9 @@ set local role head_office;
 set local search_path = head_office;
 \endif
 
+-- By how much the bridge's clock was ahead of this server's at a load, if the load said what it shows.
+alter table load add column if not exists apart interval;
+
 -- The office's own check -----------------------------------------------------------------------------------------------------------------
 
 -- The entries that a load added, one row a load, chained in each journal. `digest` is the SHA-256 of the former row's digest and the digests of these entries in the order of

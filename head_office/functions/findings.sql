@@ -48,6 +48,10 @@ begin
     where it.stored > it.highest and it.journal = (select max(journal) from journal where bridge = it.bridge);
 
     insert into found
+    select 'clock', 0, 0, format('the bridge''s clock is %s %s', roughly(apart_now()), case when apart_now() > interval '0' then 'ahead' else 'behind' end)
+    where abs(extract(epoch from apart_now())) > 120;
+
+    insert into found
     select 'early', it.before, it.before, format('gone with all before, and kept for %s days', it.days)
     where not it.is_newest and not it.is_former and it.before is not null and not is_of_age(it.before_at, it.days);
 
@@ -60,10 +64,26 @@ begin
         where f.journal = it.journal and f.what = 'nearly full' and coalesce(a.at > now() - interval '30 days', true));
 end $$;
 
+-- By how much the bridge's clock is ahead of this server's, as `load.sql` noted it in this transaction.
+create or replace function apart_now() returns interval stable language sql as
+$$ select nullif(current_setting('head_office.apart', true), '')::interval $$;
+
+-- A duration in its largest unit, so that a clock that drifts slowly isn't a new finding at each load.
+create or replace function roughly(it interval) returns text immutable language sql as $$
+    select case when s >= 172800 then s / 86400 || ' days' when s >= 7200 then s / 3600 || ' hours' else s / 60 || ' minutes' end
+    from (select abs(extract(epoch from it))::bigint as s) a
+$$;
+
+-- By how much the bridge's clock was put back since the last load of a journal. An entry of the time between may be dated earlier by that. Nothing, if it isn't known.
+create or replace function put_back(its integer) returns interval stable language sql as $$
+    select greatest(coalesce((select apart from load where journal = its order by load desc limit 1) - apart_now(), interval '0'), interval '0')
+$$;
+
 -- Finds faults of single entries, and of an entry compared with the sound one below it.
 create or replace function find_in_entries(it taking) returns void language plpgsql as $$
 declare
     years record := years_of(it.journal, 1, 4294967295);
+    back  interval := put_back(it.journal);
 begin
     with below as (
         select * from (
@@ -92,7 +112,7 @@ begin
         select what, number, moment, number - row_number() over (partition by what order by number) as run
         from (
             select number, moment, case when moment > least(it.fetched, now()) at time zone 'UTC' + interval '5 minutes' then 'ahead'
-                when number > coalesce(it.stored, 0) and moment < it.fetched_before at time zone 'UTC' - interval '1 minute' then 'dated back' end as what
+                when number > coalesce(it.stored, 0) and moment < it.fetched_before at time zone 'UTC' - interval '1 minute' - back then 'dated back' end as what
             from compared where sound and not known) n
         where what is not null) r
     group by what, run;
@@ -177,8 +197,8 @@ begin
     if written < fresh then
         written := written + write_past(it.bridge, it.journal);
     end if;
-    insert into load (journal, records, last, added, findings, new_findings, is_newest, fetched_at)
-    select it.journal, (select count(*) from compared), it.highest, added, (select count(*) from found), written, it.is_newest, it.fetched
+    insert into load (journal, records, last, added, findings, new_findings, is_newest, fetched_at, apart)
+    select it.journal, (select count(*) from compared), it.highest, added, (select count(*) from found), written, it.is_newest, it.fetched, apart_now()
     returning * into done;
     perform write_receipt(it, done.load);
     update standing set fetched_at = greatest(fetched_at, it.fetched), whole_at = case when it.is_newest then whole_at else coalesce(it.fetched, now()) end

@@ -45,10 +45,11 @@ create or replace view open_finding as
     select finding, bridge, journal, what, numbers, record, stored, at, means, to_do, rank from finding_beside_stored where acknowledged_at is null and not is_made_up;
 
 -- When each bridge's newest journal was heard of last, and whether it fell silent; when its last whole export was loaded, and whether the next is overdue.
+-- `apart` is by how much the bridge's clock was ahead of this server's at that load.
 create or replace view heard as
     select b.bridge, l.journal, l.at as loaded, e.number, e.moment as newest, coalesce(now() - l.at > b.load_within, true) as is_silent,
         coalesce(now() - e.moment > b.entry_within, e.moment is null and b.entry_within is not null) as is_idle,
-        s.whole_at as whole, l.journal is not null and coalesce(now() - s.whole_at > b.whole_within, true) as is_overdue
+        s.whole_at as whole, l.journal is not null and coalesce(now() - s.whole_at > b.whole_within, true) as is_overdue, l.apart
     from bridge b
     left join lateral (
         select l.* from load l where l.journal = (select max(j.journal) from journal j where j.bridge = b.bridge) order by l.load desc limit 1) l on true

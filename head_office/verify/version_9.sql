@@ -38,7 +38,7 @@ table journal_year: journal integer not null, year integer not null, first bigin
 table journal_year: received_at timestamp with time zone not null, begins bigint not null, since integer not null, until integer not null
 table load: load bigint not null, journal integer not null, at timestamp with time zone not null, by name C not null, records bigint not null
 table load: last bigint, added bigint not null, findings bigint not null, new_findings bigint not null, is_newest boolean not null
-table load: fetched_at timestamp with time zone
+table load: fetched_at timestamp with time zone, apart interval
 table loader: login name C not null, bridge text C
 table office_check: office_check bigint not null, at timestamp with time zone not null, is_whole boolean not null, receipts bigint not null
 table office_check: entries bigint not null, faults bigint not null
