@@ -41,7 +41,7 @@ class Addresses(OfficeCheck):
     """Exports that are fetched from a port of this machine."""
 
     needs = ("PostgreSQL", "sqitch", "curl")
-    seconds = 30
+    seconds = 15
 
     def served_folder(self) -> str:
         path = f"{self.office.folder}/served"

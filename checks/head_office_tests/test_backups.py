@@ -51,7 +51,7 @@ class Copies(OfficeCheck):
 
     needs = ("PostgreSQL", "sqitch")
     slow = True
-    seconds = 90
+    seconds = 80
     settings = (
         "fsync = off",
         "archive_mode = on",

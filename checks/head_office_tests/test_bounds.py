@@ -36,7 +36,7 @@ class Records(OfficeCheck):
     """Records and findings of one login that are too long or too many."""
 
     needs = ("PostgreSQL", "sqitch")
-    seconds = 60
+    seconds = 35
 
     def landing_bytes(self, login: str) -> int:
         """Return the bytes on the disk of the tables into which a login hands records in."""
@@ -178,7 +178,7 @@ class OpenTransactions(OfficeCheck):
     """Connections that stop others, although their clients have lifted all time-outs."""
 
     needs = ("PostgreSQL", "sqitch")
-    seconds = 80
+    seconds = 45
 
     def client(
         self, login: str, *statements: str, waiting: str = ""
@@ -363,7 +363,7 @@ class OneStopsAll(OfficeCheck):
     """A login of a bridge that tries to stop the others."""
 
     needs = ("PostgreSQL", "sqitch")
-    seconds = 60
+    seconds = 20
 
     def setUp(self) -> None:
         super().setUp()
@@ -474,7 +474,7 @@ class Costs(OfficeCheck):
     needs = ("PostgreSQL", "sqitch")
     alone = True
     slow = True
-    seconds = 60
+    seconds = 35
 
     def reading(self, statements: str, tables: str) -> int:
         """Return how many rows of these tables the statements read, by PostgreSQL's own count."""

@@ -21,7 +21,7 @@ class Findings(OfficeCheck):
     """One thing at a time is done to a journal."""
 
     needs = ("PostgreSQL", "sqitch")
-    seconds = 60
+    seconds = 20
 
     def find(self, name: str, wanted: str, change: Callable[[Book], object]) -> None:
         """Change a journal that was loaded, and show that the next load finds that and nothing else."""
@@ -176,7 +176,7 @@ class Ages(OfficeCheck):
     """Exports that are older than the last one, of the future, cut or empty."""
 
     needs = ("PostgreSQL", "sqitch")
-    seconds = 30
+    seconds = 20
 
     def test_older(self) -> None:
         office = self.office

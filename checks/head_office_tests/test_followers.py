@@ -68,7 +68,7 @@ class Followers(JournalCheck):
     """Journals that the program weighed, made journals of version 1, and migrated by the program."""
 
     needs = (PROGRAM, "PostgreSQL", "sqitch")
-    seconds = 60
+    seconds = 20
 
     def former(self, name: str) -> File:
         """Register a bridge, and return its journal of version 1 with sixty entries. It isn't loaded yet."""

@@ -22,7 +22,7 @@ class Functions(ClusterCheck):
     """Files of SQL with pgTAP, each within a transaction that is rolled back."""
 
     needs = ("PostgreSQL", "sqitch", "pgTAP")
-    seconds = 30
+    seconds = 25
     office_of_all: ClassVar[Office]
 
     @classmethod

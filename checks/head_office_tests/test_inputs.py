@@ -39,7 +39,7 @@ class Inputs(OfficeCheck):
 
     needs = ("PostgreSQL", "sqitch", "hypothesis")
     slow = True
-    seconds = 300
+    seconds = 100
 
     def setUp(self) -> None:
         super().setUp()

@@ -85,7 +85,7 @@ class Loads(JournalCheck):
     """A journal that the program weighed."""
 
     needs = (PROGRAM, "PostgreSQL", "sqitch")
-    seconds = 30
+    seconds = 15
 
     def test_whole_journal(self) -> None:
         office = self.office
@@ -130,7 +130,7 @@ class BrokenOff(OfficeCheck):
 
     needs = ("PostgreSQL", "sqitch", "curl")
     settings = ("timezone = 'Asia/Tokyo'",)  # with fsync, because the server is stopped
-    seconds = 40
+    seconds = 15
 
     def setUp(self) -> None:
         super().setUp()
@@ -193,7 +193,7 @@ class Others(OfficeCheck):
     """Other bridges, files and serials."""
 
     needs = ("PostgreSQL", "sqitch")
-    seconds = 20
+    seconds = 12
 
     def test_other_bridges(self) -> None:
         office = self.office
@@ -240,7 +240,7 @@ class NoExports(OfficeCheck):
     """Files that are no export of the program, because a record or the header is changed."""
 
     needs = ("PostgreSQL", "sqitch")
-    seconds = 40
+    seconds = 15
 
     def setUp(self) -> None:
         super().setUp()
@@ -290,7 +290,7 @@ class Newest(OfficeCheck):
     """Only the newest entries, which the page's own line cuts out of an export."""
 
     needs = ("PostgreSQL", "sqitch")
-    seconds = 40
+    seconds = 20
 
     def setUp(self) -> None:
         super().setUp()

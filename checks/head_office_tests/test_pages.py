@@ -14,7 +14,7 @@ class Pages(OfficeCheck):
     """Pages of many bridges, and of findings."""
 
     needs = ("PostgreSQL", "sqitch")
-    seconds = 30
+    seconds = 35
     alone = True
 
     def tearDown(self) -> None:

@@ -23,7 +23,7 @@ class Refusals(OfficeCheck):
     """Rows of refused loads, findings of them, and the day's page."""
 
     needs = ("PostgreSQL", "sqitch")
-    seconds = 40
+    seconds = 25
 
     def test_rows_and_findings(self) -> None:
         office = self.office

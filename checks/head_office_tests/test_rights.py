@@ -64,7 +64,7 @@ class Rights(OfficeCheck):
     """Logins of each role, in an office with entries."""
 
     needs = ("PostgreSQL", "sqitch")
-    seconds = 30
+    seconds = 15
 
     def setUp(self) -> None:
         super().setUp()
@@ -108,7 +108,7 @@ class Certificates(ClusterCheck):
     """Connections over TLS with certificates on both sides, to a server of their own."""
 
     needs = ("PostgreSQL", "sqitch", "openssl")
-    seconds = 30
+    seconds = 15
     settings = ("fsync = off", "log_connections = on")
 
     def certify(self, secrets: str) -> None:
@@ -183,7 +183,7 @@ class German(ClusterCheck):
     """A server and clients that speak German. The schema is made twice, a load is taken in or refused, and nobody stores past a load."""
 
     needs = ("PostgreSQL", "sqitch", "the locale de_DE")
-    seconds = 30
+    seconds = 15
     settings = ("fsync = off", "lc_messages = 'de_DE.UTF-8'")
 
     def test_german(self) -> None:

@@ -11,7 +11,7 @@ class Service(OfficeCheck):
     """A purge at the bridge is no finding, and a weighing arrives by the next load."""
 
     needs = (PROGRAM, "PostgreSQL", "sqitch", "curl")
-    seconds = 20
+    seconds = 12
 
     def test_service(self) -> None:
         office, path = self.office, f"{self.office.folder}/LIVE.db"

@@ -27,7 +27,7 @@ class Sums(OfficeCheck):
     """After each kind of change the sums are what the entries say."""
 
     needs = ("PostgreSQL", "sqitch")
-    seconds = 30
+    seconds = 12
 
     def test_late_and_unsound_entries(self) -> None:
         office = self.office

@@ -30,7 +30,7 @@ class Tampering(JournalCheck):
     """Journals that the program weighed, and that an intruder at the bridge changes."""
 
     needs = (PROGRAM, "PostgreSQL", "sqitch")
-    seconds = 90
+    seconds = 45
 
     def loaded(self, name: str, count: int = COUNT) -> Journal:
         """Return a journal of which the head office has this many entries."""
@@ -189,7 +189,7 @@ class NineOfTen(OfficeCheck):
     """Ten tamperings, each at a bridge of its own. Nine are done after the journal was loaded."""
 
     needs = ("PostgreSQL", "sqitch")
-    seconds = 20
+    seconds = 15
 
     @staticmethod
     def tampered(at: int, book: Book) -> list[int]:

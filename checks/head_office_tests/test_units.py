@@ -28,7 +28,7 @@ class Units(OfficeCheck):
     """The scripts as the timers run them."""
 
     needs = ("PostgreSQL", "sqitch")
-    seconds = 30
+    seconds = 15
 
     def test_watch(self) -> None:
         office, state = self.office, f"{self.office.folder}/watched"

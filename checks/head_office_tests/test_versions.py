@@ -97,7 +97,7 @@ class FirstVersions(VersionCheck):
     """Offices of versions 1 and 2."""
 
     needs = ("PostgreSQL", "sqitch")
-    seconds = 40
+    seconds = 15
 
     def test_version_1(self) -> None:
         office, name = self.former(1, "OLD", "PURGED"), "OLD"
@@ -169,7 +169,7 @@ class VersionFour(VersionCheck):
     """An office of version 4 with data in it, which two upgrades at once find."""
 
     needs = ("PostgreSQL", "sqitch")
-    seconds = 60
+    seconds = 25
 
     def test_version_4(self) -> None:
         office = self.former(4, "ONE", "TWO", "TARE", "GAP")

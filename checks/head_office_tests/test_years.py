@@ -47,7 +47,7 @@ class Years(OfficeCheck):
     """Tables of the years."""
 
     needs = ("PostgreSQL", "sqitch")
-    seconds = 50
+    seconds = 20
 
     def tables(self) -> str:
         asked = "SELECT string_agg(substr(relname, 7), ' ' ORDER BY relname) FROM pg_inherits JOIN pg_class c ON c.oid = inhrelid WHERE inhparent = 'head_office.entry'::regclass"
@@ -187,7 +187,7 @@ class DroppedPlates(OfficeCheck):
     """A year whose plates are dropped: what goes, what stays, and what can be shown with it."""
 
     needs = ("PostgreSQL", "sqitch")
-    seconds = 20
+    seconds = 12
 
     def test_seal(self) -> None:
         office, year = self.office, NOW - 3
