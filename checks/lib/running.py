@@ -48,12 +48,14 @@ class Shown(unittest.TestResult):
         self.counts = Counts()
         self.parts_failed = 0
         self.shown_before = 0
+        self.test: unittest.TestCase | None = None
 
     def say(self, word: str, what: str, why: str = "") -> None:
         print(f"{word:7} {what}{f': {why}' if why else ''}", flush=True)
 
     def startTest(self, test: unittest.TestCase) -> None:
         super().startTest(test)
+        self.test = test
         self.parts_failed = 0
         self.shown_before = showing.shown
 
@@ -183,7 +185,14 @@ def run(classes: list[type[Check]], patterns: list[str] | None, failfast: bool =
     )
     result = Shown()
     result.failfast = failfast
-    suite.run(result)
+    try:
+        suite.run(result)
+    except Stopped:
+        # unittest passes it on without the cleanups of the test
+        if result.test:
+            result.test.doCleanups()
+            type(result.test).doClassCleanups()
+        raise
     return result.counts
 
 
