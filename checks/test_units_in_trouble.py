@@ -202,6 +202,10 @@ class UnitsInTrouble(Check):
         cls.bridge.machine.does("systemctl", "stop", *UNITS)
         same("the journal is sound at last", "SOUND", cls.bridge.check().split()[0])
 
+    def setUp(self) -> None:
+        """Put a vehicle on the bridge, with which each part begins."""
+        self.bridge.comes(A)
+
     def logs(self, what: str, words: str, seconds: float, unit: str = "weighbridge") -> None:
         """Show that the log of a unit has these words within a time."""
         self.comes(what, lambda: words in self.bridge.machine.log_of(unit), seconds)
@@ -209,7 +213,6 @@ class UnitsInTrouble(Check):
     def test_after_a_power_cut(self) -> None:
         """Cut the machine's power with a vehicle on the bridge, and start it again."""
         bridge = self.bridge
-        bridge.comes(A)
         self.same("a vehicle is weighed", str(A), bridge.gross(bridge.weigh("CUT")))
         bridge.machine.cut_off()
         bridge.machine.start()
@@ -279,7 +282,6 @@ class UnitsInTrouble(Check):
     def test_disk_without_writing(self) -> None:
         """Let Linux make the disk read-only, as after a fault of the disk, and start the machine again."""
         bridge, machine = self.bridge, self.bridge.machine
-        bridge.comes(A)
         self.same("a vehicle before", str(A), bridge.gross(bridge.weigh("BEFORE")))
         bridge.comes(A)
         machine.does("mount", "-o", "remount,abort", FOLDER)
