@@ -1,4 +1,8 @@
-"""A CUPS in a folder of its own, on a port of this machine, with a queue that prints to a file."""
+"""A CUPS in a folder of its own, on a port of this machine, with a queue that prints to a file.
+
+A backend of this file writes what the filters made. CUPS's own device for files (FileDevice) opens none any more since Debian's security update
+2.4.2-3+deb12u10: a job is completed, and nothing is written.
+"""
 
 import os
 import shutil
@@ -9,6 +13,7 @@ from checks.lib.bridge import HOST, Closing, free_port
 from checks.lib.waiting import wait_until
 
 FILES = """ServerRoot {folder}
+ServerBin {folder}/bin
 CacheDir {folder}/cache
 StateDir {folder}/state
 RequestRoot {folder}/spool
@@ -17,10 +22,18 @@ DocumentRoot {folder}
 ErrorLog {folder}/error_log
 AccessLog {folder}/access_log
 PageLog {folder}/page_log
-FileDevice Yes
 Printcap {folder}/printcap
 SystemGroup root
 """
+BACKEND = """#!/bin/sh
+# Without arguments CUPS asks which devices there are. With five the pages come on the input, with six in a file.
+case $# in
+0) echo 'file made "Unknown" "A file"' ;;
+6) exec cat "$6" >"${DEVICE_URI#made:}" ;;
+*) exec cat >"${DEVICE_URI#made:}" ;;
+esac
+"""
+OWN = "/usr/lib/cups"
 PPD = """*PPD-Adobe: "4.3"
 *FormatVersion: "4.3"
 *FileVersion: "1.0"
@@ -96,11 +109,22 @@ class Cups(Closing):
         os.chmod(self.folder, 0o755)
         for name in ("cache", "state", "spool", "spool/tmp", "ppd"):
             os.makedirs(f"{self.folder}/{name}")
+        self.programs()
         with open(f"{self.folder}/cups-files.conf", "w") as file:
             file.write(FILES.format(folder=self.folder))
         with open(f"{self.folder}/cupsd.conf", "w") as file:
             file.write(SETUP.format(host=HOST, port=self.port))
         self.start()
+
+    def programs(self) -> None:
+        """Take over CUPS's own filters and the like, and give it the one backend. One that others may not run is run as root."""
+        os.makedirs(f"{self.folder}/bin/backend")
+        for name in set(os.listdir(OWN)) - {"backend"}:
+            os.symlink(f"{OWN}/{name}", f"{self.folder}/bin/{name}")
+        backend = f"{self.folder}/bin/backend/made"
+        with open(backend, "w") as file:
+            file.write(BACKEND)
+        os.chmod(backend, 0o700)
 
     def start(self) -> None:
         files = ["-c", f"{self.folder}/cupsd.conf", "-s", f"{self.folder}/cups-files.conf"]
@@ -127,7 +151,7 @@ class Cups(Closing):
         with open(f"{self.folder}/file.ppd", "w") as file:
             file.write(PPD)
         self.tell(
-            "lpadmin", "-p", name, "-E", "-v", f"file:{self.made}", "-P", f"{self.folder}/file.ppd"
+            "lpadmin", "-p", name, "-E", "-v", f"made:{self.made}", "-P", f"{self.folder}/file.ppd"
         )
 
     def stop(self) -> None:

@@ -165,7 +165,10 @@ def registers() -> None:
         scale = data.draw(some.floats(0, exclude_min=True, allow_infinity=False))
         more = [form] if form else []
         more += ["--scale", repr(scale)] if form == "--float" else []
-        more += ["0x8", "--status", "9"] if form == "--negative" else []
+        more += ["0x8"] if form == "--negative" else []
+        faulty = data.draw(some.sampled_from([0, 0x10, 0xF0]))
+        more += ["--faulty", hex(faulty)] if faulty else []
+        more += ["--status", "9"] if faulty or form == "--negative" else []
         more += ["--low-first"] if is_low_first else []
         setup = setup_of(names, "--tcp", "h", "--address", "1", "--bits", str(bits), *more)
         count = 1 if bits == 16 else 2
@@ -176,8 +179,9 @@ def registers() -> None:
         device = names["Device"](setup)
         device.registers = lambda address, _: [state] if address == 9 else [*given_words]
         high_first = given_words[::-1] if is_low_first else given_words
-        found = found_by(device.value)
-        assert found == wanted(high_first, form, bits, bool(state & 8), scale), (setup, given_words)
+        right = wanted(high_first, form, bits, bool(state & 8), scale)
+        right = None if state & faulty else right
+        assert found_by(device.value) == right, (setup, given_words, state)
 
     held()
 

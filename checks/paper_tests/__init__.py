@@ -7,7 +7,7 @@ Each module is a part, and `-k test_PART.` picks it:
   marks, QR code and fonts.
 - faults: printers that are slow, full, without paper, open, offline, cut in the middle, switched off, gone and back, by TCP, USB and a serial line. The command is
   killed at any moment. Texts are falsified.
-- cups, rate: a real CUPS with a file device, and 200 tickets a minute.
+- cups, rate: a real CUPS whose backend writes a file, and 200 tickets a minute.
 - counter, page: the counter over a real service prints automatically, shows each fault on the page, prints again when the clerk presses a button, and is killed in
   the middle. The page runs in Chromium. inspect/verify.py accepts the contents of the QR code.
 - unit: the tests of printouts in the counter's own folder.

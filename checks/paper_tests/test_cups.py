@@ -1,4 +1,4 @@
-"""Papers through a real CUPS with a file device."""
+"""Papers through a real CUPS whose backend writes a file."""
 
 import os
 import time
