@@ -9,6 +9,7 @@ The program is built first, if one of them needs it and it isn't built. The last
 doesn't list the checks that are here.
 """
 
+import difflib
 import json
 import os
 import subprocess
@@ -167,7 +168,10 @@ def main() -> int:
     there = units(asked.k)
     named = {it.name for it in there} | {it.name.partition(".")[0] for it in there}
     if unknown := [it for it in asked.checks if it not in named]:
-        options.error(f"there is no check {unknown[0]}")
+        near = ", ".join(difflib.get_close_matches(unknown[0], named, 3))
+        options.error(
+            f"there is no check {unknown[0]}; --list has all names" + (near and f", such as {near}")
+        )
     picked = [
         it
         for it in sorted(there, key=lambda it: it.order)

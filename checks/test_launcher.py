@@ -64,7 +64,7 @@ class Launcher(Check):
     seconds: ClassVar[int] = 15
 
     def setUp(self) -> None:
-        folder = Path(self.folder())
+        folder, self.seen = Path(self.folder()), 0
         self.kit, self.top, tools = folder / "kit", folder / "top", folder / "tools"
         for it in (self.kit / "bin", self.top, tools):
             it.mkdir(parents=True)
@@ -122,8 +122,8 @@ class Launcher(Check):
         """Return the arguments of each call of the kit since the last time."""
         path = self.kit / "calls"
         lines = path.read_text().splitlines() if path.exists() else []
-        path.unlink(missing_ok=True)
-        return [it.split() for it in lines]
+        before, self.seen = self.seen, len(lines)
+        return [it.split() for it in lines[before:]]
 
     def proved(self) -> list[str]:
         """Return which crates were proved since the last time, and whether the program was compiled and linked."""
@@ -169,6 +169,10 @@ class Launcher(Check):
         (crates / "right/proofs/new.antt").unlink()
         self.ran()
         self.same("a file that was removed", sorted(["right", *end]), sorted(self.proved()))
+        self.later()
+        (crates / "right/proofs/one/two.antt").rename(crates / "right/proofs/one/three.antt")
+        self.ran()
+        self.same("a file with another name", sorted(["right", *end]), sorted(self.proved()))
         self.later()
         self.source("low").touch()
         self.ran()
@@ -293,7 +297,7 @@ class Launcher(Check):
     def test_of_two_at_once_one_builds(self) -> None:
         (self.kit / "hold_low").touch()
         one = self.begin("one")
-        wait_until("it proves", lambda: (self.kit / "calls").exists())
+        wait_until("it proves", (self.kit / "calls").exists)
         other = self.begin("other", name="weighbridge")
         assert other.stderr is not None
         waits = other.stderr.readline()

@@ -75,6 +75,10 @@ FALSIFIED = [
     ("UPDATE journal SET gross_kg = 18360 WHERE number = 3", "number 3 doesn't fit its digest"),
     ("DELETE FROM journal WHERE number = 3", "number 3 is missing"),
     ("DELETE FROM journal WHERE number BETWEEN 3 AND 6", "numbers 3 to 6 are missing"),
+    (
+        "DELETE FROM journal WHERE number = 3; UPDATE journal SET number = number - 1 WHERE number > 3",
+        "number 3 doesn't fit its digest\nnumber 3 isn't chained to number 2\nnumber 4 doesn't fit its digest\n",
+    ),
     ("DELETE FROM journal WHERE number < 4", "numbers 1 to 3 are missing"),
     (f"{PURGE}; DELETE FROM spent", "numbers 1 to 3 are missing"),
     ("INSERT INTO spent VALUES ('X1', 9)", "spent number 9 isn't below each stored entry"),

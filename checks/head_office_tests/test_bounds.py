@@ -431,8 +431,8 @@ class OneStopsAll(OfficeCheck):
         reads = "relkind <> 'S' AND has_any_column_privilege('crowd', oid, 'SELECT')"
         self.same("  reads none", "", office.owner(rights + reads))
         calls = "SELECT string_agg(proname, ' ' ORDER BY proname) FROM pg_proc WHERE pronamespace = 'head_office'::regnamespace AND has_function_privilege('crowd', oid, 'EXECUTE')"
-        wanted = "begin_load note_refusal take_in wants_whole"
-        self.same("  and calls four functions", wanted, office.owner(calls))
+        wanted = "begin_load note_refusal receipt_of_load refuse_receipt take_in wants_whole"
+        self.same("  and calls six functions", wanted, office.owner(calls))
 
     def test_false_records(self) -> None:
         office = self.office

@@ -54,6 +54,14 @@ def skip_without(*names: str) -> Callable[[Any], Any]:
     return unittest.skipIf(bool(words), "; ".join(words))
 
 
+def called_at() -> str:
+    """Return where a test is: the file and the line of the first caller outside of this file."""
+    frame = sys._getframe(1)
+    while frame.f_code.co_filename == __file__ and frame.f_back:
+        frame = frame.f_back
+    return f"{os.path.relpath(frame.f_code.co_filename, TOP)}:{frame.f_lineno}"
+
+
 class Check(unittest.TestCase):
     """A check. `python3 -m checks` decides by its attributes when it runs, and which others run meanwhile."""
 
@@ -86,13 +94,16 @@ class Check(unittest.TestCase):
 
     def same(self, what: str, wanted: object, found: object) -> None:
         """Compare two values as a case of its own. The test continues after a difference."""
+        where = called_at()
         with self.subTest(what):
-            self.assertEqual(wanted, found)
+            self.assertEqual(wanted, found, f"{where}: the first is wanted, the second was found")
 
     def holds(self, what: str, is_so: object, found: object = "") -> None:
         """Show that something is so, as a case of its own. If it isn't, the failure shows `found`."""
+        where = called_at()
         with self.subTest(what):
-            self.assertTrue(is_so, found)
+            if not is_so:
+                self.fail(f"{where}: it isn't so. {found}".rstrip())
 
     def becomes(
         self, what: str, wanted: object, look: Callable[[], object], seconds: float = 20

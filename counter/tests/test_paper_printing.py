@@ -412,6 +412,10 @@ class EscPos(unittest.TestCase):
             .replace(b"\xa2", b"o"),
         )
 
+    def test_a_text_has_no_commands_of_the_printer(self) -> None:
+        text = "Kies\x1b@ 0/16\x1dV\x00\r\n\x7f"
+        self.assertEqual(b"Kies @ 0/16 V    ", escpos.Letters((("cp437", 0),)).of(text))
+
     def test_a_picture_begins_at_its_left(self) -> None:
         self.assertEqual(
             b"\x1dv0\x00\x02\x00\x01\x00\x80\x80", escpos.raster([[True] + [False] * 7 + [True]])

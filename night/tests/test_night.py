@@ -257,6 +257,8 @@ class StepsTest(NightCase):
         del self.places[1]
         self.night()
         said = io.StringIO()
+        clock = unittest.mock.patch.object(command, "utc", lambda: self.clock.now)
+        self.enterContext(clock)
         with contextlib.redirect_stdout(said):
             self.assertEqual(command.list_copies(self.setup, self.state), 0)
             self.assertEqual(command.show_last(self.state), 0)
@@ -267,6 +269,19 @@ class StepsTest(NightCase):
         with contextlib.redirect_stdout(said):
             self.assertEqual(command.show_last(self.state), 1)
         self.assertIn("check: failed: ", said.getvalue())
+
+    def test_a_night_too_long_ago_is_told(self) -> None:
+        del self.places[1]
+        self.night()
+        ended = self.clock.now - timedelta(days=1)
+        self.enterContext(unittest.mock.patch.object(command, "utc", lambda: self.clock.now))
+        for hours, wanted in ((35, 0), (37, 1)):
+            self.clock.now = ended + timedelta(hours=hours)
+            said = io.StringIO()
+            with contextlib.redirect_stdout(io.StringIO()), contextlib.redirect_stderr(said):
+                self.assertEqual(command.show_last(self.state), wanted, hours)
+            is_told = "no night ended within the last 36 hours" in said.getvalue()
+            self.assertEqual(is_told, wanted == 1, hours)
 
     def test_a_failure_has_its_weight_in_the_systems_journal(self) -> None:
         said = io.StringIO()
