@@ -293,12 +293,14 @@ def show_witnesses(folder: str, kept: str, digests: Digests) -> None:
     tells("a symbolic link to a journal", "", said_of(f"{folder}/link.db"))
 
 
-def with_log(path: str, entries: int, is_restarted: bool = False) -> dict[str, bytes]:
+def with_log(
+    path: str, entries: int, is_restarted: bool = False, age: int = 60
+) -> dict[str, bytes]:
     """Make a journal with its tables in its file and its entries in its log, one in each commit, as a kill leaves it.
 
     Return the content of its files by their endings. If `is_restarted`, restart the log before its last two entries, so that older frames follow.
     """
-    make_journal(f"{path}-made", entries)
+    make_journal(f"{path}-made", entries, age)
     source = sqlite3.connect(f"{path}-made")
     rows = source.execute("SELECT * FROM journal ORDER BY number").fetchall()
     source.close()
@@ -423,7 +425,7 @@ def show_logs(folder: str) -> None:
         "files.db-wal: it is damaged, in the frame from byte 32",
         said_of_files(folder, stale | {"-wal": first}),
     )
-    other = with_log(f"{folder}/other.db", 9)
+    other = with_log(f"{folder}/other.db", 9, age=3600)
     tells(
         "the log of another journal",
         "number 6 differs from the entry that files.db-newest recorded",
