@@ -1,5 +1,5 @@
 """Shows that each file, function, test, definition, mutant and link that the pages name exists, and that three pages say
-that nothing is type-approved.
+that nothing is type-approved. The first page is short.
 
 Each relative link of a page leads to a file, and each anchor to a heading of that page. If the program, its package or
 a page says `see PAGE.md, SECTION`, docs/PAGE.md has that heading. It also compares the table of docs/checks.md with the
@@ -200,6 +200,19 @@ class NamesInThePages(Check):
 
     def test_approval(self) -> None:
         self.assertEqual([], [*unsaid()])
+
+    def test_lengths(self) -> None:
+        """Show that the first page is short, and that what pages say of the verifier's length is about so."""
+        words = len(read("README.md").split())
+        self.holds("README.md has at most 1,100 words", words <= 1100, words)
+        length = read("inspect/verify.py").count("\n")
+        for page in ("README.md", "docs/inspection.md"):
+            said = re.findall(r"(?:one|a) Python script of ([0-9]+) lines", read(page))
+            self.holds(
+                f"{page} has the length of verify.py",
+                len(said) == 1 and abs(int(said[0]) - length) <= 50,
+                (said, length),
+            )
 
     def test_links(self) -> None:
         found = [dead_links(it) for it in PAGES]
