@@ -169,7 +169,10 @@ def homes_of(folder: str) -> Homes:
 
 
 def is_plain(function: Function, text: str) -> bool:
-    """Return whether the function has a name of its own and its body is no part of a type: it is no method of a trait or its impl, and no constant function."""
+    """Return whether the function has a name of its own and its body is no part of a type.
+
+    So it is no method of a trait or its impl, and no constant function.
+    """
     head = text[function.start : function.opening]
     return not function.trait and not re.search(r"\bconst\s+(unsafe\s+)?fn\b|->\s*impl\b", head)
 

@@ -1,4 +1,4 @@
-"""The crates of this repository with their wrong bodies, and a digest of the contracts on which these are tried. It only needs python3."""
+"""The crates of this repository with their mutants, and a digest of the contracts on which these are tried. It only needs python3."""
 import hashlib
 import os
 import re
@@ -58,7 +58,7 @@ class Crate:
 
 
 class Edit:
-    """A wrong body: the pairs of texts that make it, and the functions that the prover must refuse for it."""
+    """A mutant: the pairs of texts that make it, and the functions that the prover must refuse for it."""
 
     def __init__(self, path: str, folder: str) -> None:
         self.name, self.path = os.path.basename(path).removesuffix(".edit"), path

@@ -286,7 +286,7 @@ def sync_folder(folder: Path) -> None:
 
 
 def put_in_folder(folder: Path, name: str, data: bytes) -> None:
-    """A file that is whole or isn't there. It follows no link of other users in its folder."""
+    """Write a file that is whole or isn't there. It follows no link of other users in its folder."""
     new = folder / f".{name}.new"
     try:
         new.unlink(missing_ok=True)
