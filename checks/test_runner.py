@@ -1,10 +1,12 @@
 """Shows that the runner skips a check, and names the module, if a module of Python is not installed. A missing module of
-the repository fails.
+the repository fails. A planted mistake counts as refused only by a check that passes without it.
 """
 
+import shutil
 import subprocess
 import sys
 import unittest
+from pathlib import Path
 from unittest import mock
 
 from checks import TOP
@@ -48,3 +50,33 @@ class Runner(Check):
         )
         self.same("status and errors", (0, ""), (ran.returncode, ran.stderr))
         self.holds("checks are listed", "test_support.Support.test_file\n" in ran.stdout)
+
+
+# Each row of the table: what is looked for in a file that has "one two two", by which check, and how the row ends.
+MISTAKES = (
+    ("one", "grep -q one file", "refused ("),
+    ("one", "grep -q two file", "NOT REFUSED ("),
+    ("two", "grep -q two file", "CAN'T BE MADE: file has it 2 times: 'two'"),
+    ("one", "grep -q six file", "FAILS WITHOUT A MISTAKE (status 1): grep -q six file"),
+)
+
+
+class Mistakes(Check):
+    """`tools/mistakes` over tables of one row."""
+
+    def test_rows(self) -> None:
+        for old, check, end in MISTAKES:
+            top = Path(self.folder()) / "top"
+            (top / "checks" / "mistakes").mkdir(parents=True)
+            (top / "tools").mkdir()
+            shutil.copy(TOP / "tools" / "mistakes", top / "tools")
+            (top / "file").write_text("one two two")
+            row = f"[[mistake]]\nfile = 'file'\nold = '{old}'\nnew = ''\nharms = 'x'\n"
+            (top / "checks" / "mistakes" / "part.toml").write_text(f"{row}check = '{check}'\n")
+            ran = subprocess.run([top / "tools" / "mistakes"], capture_output=True, text=True)
+            is_refused = end.startswith("refused")
+            self.holds(f"{old} by {check}: {end}", end in ran.stdout, ran.stdout + ran.stderr)
+            last = "1 refused, 0 not" if is_refused else "0 refused, 1 not"
+            self.same("the last line", last, ran.stdout.splitlines()[-1])
+            self.same("its status", int(not is_refused), ran.returncode)
+            self.same("the file", "one two two", (top / "file").read_text())
