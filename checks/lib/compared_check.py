@@ -11,8 +11,6 @@ import sys
 import tempfile
 
 PROGRAM, FOLDER, TOP = "@program@", "@folder@", "@top@"
-# The endings of the files that a verifier needs.
-ENDINGS = ("", "-wal", "-newest")
 
 
 def journal_of(words: list[str]) -> str | None:
@@ -27,7 +25,7 @@ def compare(path: str) -> dict[str, object] | None:
     """Return both verdicts about a copy of the journal. Return None if it can't be copied whole, because a service writes it or a file isn't plain."""
     sys.dont_write_bytecode = True
     sys.path.insert(0, TOP)
-    from checks.lib.second_verifier import verdict_of
+    from checks.lib.verdict import ENDINGS, verdict_of
 
     real = os.path.realpath(path)
     folder = tempfile.mkdtemp(dir=FOLDER)

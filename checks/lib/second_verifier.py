@@ -5,12 +5,10 @@ import csv
 import io
 import os
 import random
-import re
 import shutil
 import sqlite3
 import subprocess
 import sys
-import tempfile
 import unittest.mock
 from collections.abc import Callable
 from pathlib import Path
@@ -18,6 +16,7 @@ from pathlib import Path
 import verify
 from checks.lib.journal import TABLES, ZEROS, digest_of, newest_line, write_newest
 from checks.lib.showing import NAME, fail, same
+from checks.lib.verdict import ENDINGS, files_of, verdict_of
 
 TOP = Path(__file__).resolve().parent.parent.parent
 SOURCE = TOP / "inspect" / "verify.c"
@@ -27,16 +26,7 @@ STRICT = ["-std=c11", "-Wall", "-Wextra", "-Werror"]
 CHECKED = ["-g", "-O1", "-fsanitize=address,undefined", "-fno-sanitize-recover=all"]
 LIBRARIES = ["-lsqlite3", "-lcrypto"]
 SEED, ROUNDS = 20261130, 420
-ENDINGS = ("", "-wal", "-newest")
 KINDS = ("first", "second", "single", "void")
-# These lines of the verifiers name a number that the check finds faulty, or a journal that it refuses.
-MISSING = re.compile(r"numbers? ([0-9]+)(?: to [0-9]+)? (?:is|are) missing$")
-DAMAGED = re.compile(
-    r"number ([0-9]+) (?:doesn't fit its digest|isn't chained to number [0-9]+|has no First)$"
-)
-REFUSED = re.compile(
-    r"is no entry:|is no spent key:|^spent number|-newest recorded|-wal: |so the program refuses it"
-)
 
 
 def lacking() -> str:
@@ -104,31 +94,6 @@ def said_by_both(second: Second, words: list[str]) -> "subprocess.CompletedProce
     wanted = subprocess.CompletedProcess(words, status, *texts)
     second.compare(words, wanted)
     return wanted
-
-
-def verdict_of(path: str, said: str) -> str | None:
-    """Return what `weighbridge check` says of a journal of which the verifiers said this. Return None if that doesn't follow."""
-    lines = said.splitlines()
-    if "pages damaged" in said or said.startswith("not examined: whether this is a journal"):
-        return None
-    if any(REFUSED.search(it) for it in lines):
-        return "store"
-    with tempfile.TemporaryDirectory() as folder:  # SQLite writes next to what it reads
-        for end, data in files_of(path).items():
-            Path(f"{folder}/journal.db{end}").write_bytes(data)
-        database = sqlite3.connect(f"{folder}/journal.db")
-        ((version,),) = database.execute("SELECT value FROM about").fetchall()
-        ((least, count),) = database.execute("SELECT min(number), count(*) FROM journal").fetchall()
-        database.close()
-    if version != 2:
-        return "store 6 old_version"
-    wrong = [int(found[1]) for it in lines if (found := DAMAGED.match(it))]
-    wrong += [
-        number
-        for it in lines
-        if (found := MISSING.match(it)) and (number := int(found[1])) > (least or 0)
-    ]
-    return f"DAMAGED {min(wrong)}" if wrong else f"SOUND {count}"
 
 
 def agree_with_check(second: Second, path: str, said: str) -> None:
@@ -208,10 +173,6 @@ def changed(data: bytes, chance: random.Random) -> bytes:
         elif chance.random() < 0.3:
             del found[at:]
     return bytes(found)
-
-
-def files_of(path: str) -> dict[str, bytes]:
-    return {it: Path(path + it).read_bytes() for it in ENDINGS if os.path.exists(path + it)}
 
 
 def show_damage_by_chance(
