@@ -38,7 +38,7 @@ from .papers import USUAL
 SCRATCH = tempfile.TemporaryDirectory()
 try:
     os.environ["HYPOTHESIS_STORAGE_DIRECTORY"] = SCRATCH.name
-    from hypothesis import HealthCheck, given, settings
+    from hypothesis import HealthCheck, example, given, settings
     from hypothesis import strategies as some
 except ImportError:
     raise unittest.SkipTest("hypothesis isn't installed") from None
@@ -68,6 +68,7 @@ FIELDS = {
     "digest": ("a" * 64, "a" * 65, '"', "é"),
     "previous": ("0" * 64, "\n", ""),
 }
+RECORD = f"1,K1,first,AB-1,2026-11-30 12:00:00,100,,20,50000,WB1,{'a' * 64},{'0' * 64}"
 ANY_JSON = some.recursive(
     some.none() | some.booleans() | some.integers() | some.floats() | some.text(max_size=8),
     lambda inner: some.lists(inner, max_size=3)
@@ -103,6 +104,7 @@ def changed(draw: some.DrawFn, texts: list[str]) -> str:
 
 
 class LinesOfTheTerminal(unittest.TestCase):
+    @example("S S            kg")
     @given(some.text(alphabet="SDI+- 0123456789kg\r\n²٣", max_size=24) | some.text(max_size=24))
     def test_a_line_is_a_value_only_as_the_terminal_writes_it(self, line: str) -> None:
         value = value_of(line, 1.0)
@@ -142,6 +144,7 @@ class TextsAndExports(unittest.TestCase):
             self.assertEqual(letters, written(found))
             self.assertLessEqual(len(letters.encode()), 512)
 
+    @example([RECORD] * 2)
     @given(
         some.lists(
             some.tuples(*(some.sampled_from(FIELDS[it]) for it in COLUMNS)).map(",".join),
@@ -151,13 +154,7 @@ class TextsAndExports(unittest.TestCase):
     def test_an_export_is_read_or_refused(self, lines: list[str]) -> None:
         self.is_read_or_refused("".join(f"{it}\n" for it in [HEADER, *lines]))
 
-    @given(
-        changed(
-            [
-                f"{HEADER}\n1,K1,first,AB-1,2026-11-30 12:00:00,100,,20,50000,WB1,{'a' * 64},{'0' * 64}\n"
-            ]
-        )
-    )
+    @given(changed([f"{HEADER}\n{RECORD}\n"]))
     def test_a_changed_export_is_read_or_refused(self, export: str) -> None:
         self.is_read_or_refused(export)
 

@@ -282,6 +282,9 @@ class Slow(Served):
         async def much(request: web.Request) -> web.StreamResponse:
             return web.Response(body=b"x" * 30_000_000)
 
+        async def little(request: web.Request) -> web.StreamResponse:
+            return web.Response(body=b"x" * 60_000)
+
         application = web.Application()
         application.add_routes(
             [
@@ -290,6 +293,7 @@ class Slow(Served):
                 web.post("/zero", answer_at_once),
                 web.get("/events", stream),
                 web.get("/much", much),
+                web.get("/little", little),
             ]
         )
         await self.serve(application)
@@ -339,11 +343,22 @@ class Slow(Served):
 
     async def test_one_that_takes_no_response_is_cut(self) -> None:
         await self.serve_weighings()
-        await self.client(b"GET /much HTTP/1.1\r\n" + HOST + b"\r\n", limit=1000)
-        (connection,) = self.connections.of.values()
-        await self.all_are_gone()
-        self.assertIn("it didn't take its whole response", self.said[0])
-        self.assertEqual(0, connection.wire.get_write_buffer_size(), "what waits is let go")
+        # the server waits while it writes much; a little is written at once, and then waits itself
+        for path in (b"/much", b"/little"):
+            self.said.clear()
+            self.connections.lines = Lines()
+            client = socket.socket()
+            self.addCleanup(client.close)
+            client.setsockopt(socket.SOL_SOCKET, socket.SO_RCVBUF, 1)
+            client.connect(("127.0.0.1", self.port))
+            await asyncio.sleep(0.02)
+            (connection,) = self.connections.of.values()
+            served = connection.wire.get_extra_info("socket")
+            served.setsockopt(socket.SOL_SOCKET, socket.SO_SNDBUF, 1)
+            client.sendall(b"GET " + path + b" HTTP/1.1\r\n" + HOST + b"\r\n")
+            await self.all_are_gone()
+            self.assertIn("it didn't take its whole response", self.said[0], path)
+            self.assertEqual(0, connection.wire.get_write_buffer_size(), "what waits is let go")
 
     async def test_a_request_that_is_worked_on_has_its_time(self) -> None:
         await self.serve_weighings()
@@ -441,8 +456,10 @@ class Slow(Served):
         self.assertIn(b" 200 ", await reader.read(200))
         writer.write(b"key=A")
         for _ in range(3):
-            await asyncio.sleep(0.15)
-            writer.write(b"POST /zero HTTP/1.1\r\n" + HOST + b"\r\n")
+            # the time of a head begins with its first piece, and not with the late body
+            for piece in (b"POST /zero HTTP/1.1\r\n", HOST + b"\r\n"):
+                await asyncio.sleep(0.12)
+                writer.write(piece)
             self.assertIn(b" 200 ", await reader.read(200))
         self.assertEqual([], self.said)
 
