@@ -1,7 +1,7 @@
 -- Registrations that are accepted, and those that are refused.
 BEGIN;
 SET LOCAL search_path = test, tap;
-SELECT plan(59);
+SELECT plan(58);
 SET LOCAL client_min_messages = error;
 CREATE FUNCTION pg_temp.registers(bridge text, fields text DEFAULT '', field_values text DEFAULT '') RETURNS text LANGUAGE sql AS $$
 SELECT as_login('ada', format('INSERT INTO head_office.bridge (bridge, retention_days%s) VALUES (%L, 30%s)', fields, bridge, field_values)) $$;
@@ -38,8 +38,7 @@ SELECT is(as_login('ada', $$INSERT INTO head_office.instrument VALUES ('12345678
 SELECT is(as_login('ada', $$INSERT INTO head_office.instrument VALUES ('WB04', 'NOWHERE')$$), '23503', 'a bridge must be registered first');
 SELECT is(as_login('ada', $$UPDATE head_office.instrument SET bridge = 'R2'$$), '42501', 'whose instrument it is stays');
 SELECT is(as_login('ada', $$DELETE FROM head_office.instrument$$), '42501', '  and that it is one');
-SELECT is(as_login('ada', $$UPDATE head_office.bridge SET bridge = 'NEW' WHERE bridge = 'A'$$), '42501', 'a bridge keeps its name');
-SELECT is(as_login('ada', $$DELETE FROM head_office.bridge$$), '42501', '  and isn''t removed');
+SELECT is(as_login('ada', $$DELETE FROM head_office.bridge$$), '42501', 'a bridge isn''t removed');
 
 -- Hauliers
 SELECT is(as_login('ada', $$INSERT INTO head_office.haulier VALUES ('Sand & Kies', 'AB-12')$$), 'done', 'a haulier has plates');

@@ -41,9 +41,9 @@ SELECT is((SELECT coalesce(string_agg(relname, ' ' ORDER BY relname), '') FROM p
 SELECT is(pg_temp.table_rights('ada', 'INSERT'), 'bridge follower haulier instrument journal loader', 'the registrar registers');
 SELECT is(pg_temp.column_rights('ada', 'INSERT'), 'acknowledgement: finding note; office_fault_note: note office_fault; restored: bridge why', '  and acknowledges findings and faults, and names a restored office, under her own name');
 SELECT is(pg_temp.table_rights('ada', 'UPDATE'), '', 'the registrar changes no whole row');
-SELECT is(pg_temp.column_rights('ada', 'UPDATE'), 'bridge: entry_within load_within places plate_years retention_days whole_within zone; journal: note',
-    '  and of a bridge what is registered, but not whose instrument is whose');
-SELECT is(pg_temp.table_rights('ada', 'DELETE'), 'haulier journal loader', 'the registrar removes loaders, plates of hauliers, and journals without entries');
+SELECT is(pg_temp.column_rights('ada', 'UPDATE'), 'bridge: bridge entry_within load_within places plate_years retention_days retired_at whole_within zone; haulier: until; instrument: until; journal: note',
+    '  and of a bridge what is registered, and until when an instrument or a plate is whose');
+SELECT is(pg_temp.table_rights('ada', 'DELETE'), 'former_name haulier journal loader', 'the registrar removes loaders, plates of hauliers, former names, and journals without entries');
 SELECT is(pg_temp.table_rights('ada', it), '', 'the registrar has no right ' || it) FROM unnest('{TRUNCATE,TRIGGER,REFERENCES}'::text[]) it;
 SELECT is(pg_temp.function_rights('ada'), 'digest_of html is_of_age kept_digest_of line_of seal short thousands', 'the registrar calls what a reader does, and seal');
 
@@ -78,9 +78,10 @@ SELECT is(rows($$SELECT proname FROM pg_proc WHERE pronamespace = 'head_office':
     AND NOT coalesce(proconfig, '{}') @> '{"search_path=head_office, pg_temp"}' ORDER BY proname$$), '',
     'each function that runs with other rights looks for names in the schema only');
 SELECT is((SELECT string_agg(proname, ' ' ORDER BY proname) FROM pg_proc WHERE pronamespace = 'head_office'::regnamespace AND prosecdef),
-    'begin_load check_office end_stuck_loads follow_bridge follow_follower follow_journal follow_loader keep_handed_small keep_record_short make_landing make_year note_change note_refusal '
+    'begin_load check_office end_stuck_loads follow_bridge follow_follower follow_journal follow_loader follow_name keep_handed_small keep_names_apart keep_record_short make_landing make_year '
+    'note_change note_refusal one_bridge_at_a_time plate_once '
     'rebuild_sums receipt_of_load refuse_receipt seal take_in wants_whole warn_of_login who_stops',
-    '  and there are twenty-one of them');
+    '  and there are twenty-five of them');
 SELECT is((SELECT proconfig FROM pg_proc WHERE proname = 'take_in' AND pronamespace = 'head_office'::regnamespace) @> '{lock_timeout=60s}', true, 'a load waits for another for a minute at most');
 SELECT is((SELECT proconfig FROM pg_proc WHERE proname = 'seal' AND pronamespace = 'head_office'::regnamespace) @> '{lock_timeout=60s}', true, '  and so does seal');
 SELECT * FROM finish();

@@ -8,7 +8,7 @@
 -- a run that was broken off may have made it
 \if :is_of_sqitch
 \else
-select case when :was between 1 and 7 then 'access exclusive' else 'share row exclusive' end as others_mode,
+select case when :was > 0 then 'access exclusive' else 'share row exclusive' end as others_mode,
     case when :was < 9 then 'access exclusive' else 'share row exclusive' end as handed_mode \gset
 \ir ../upgrading/begin.sql
 -- or a run that ended meanwhile
@@ -453,6 +453,39 @@ create table if not exists restored (
     why      text not null check (why <> ''),
     at       timestamptz not null default now(),
     by       name not null default session_user
+);
+
+-- From when and until when ---------------------------------------------------------------------------------------------------------------
+
+-- An instrument belongs to a bridge, and a plate to a haulier, from `since` on, and until `until`, which isn't part of it.
+alter table instrument add column if not exists since timestamptz not null default '-infinity', add column if not exists until timestamptz not null default 'infinity',
+    drop constraint instrument_pkey, add constraint instrument_pkey primary key (serial, since),
+    drop constraint if exists begins_before_its_end, add constraint begins_before_its_end check (since < until);
+alter table haulier add column if not exists since date not null default '-infinity', add column if not exists until date not null default 'infinity',
+    drop constraint haulier_pkey, add constraint haulier_pkey primary key (plate, haulier, since),
+    drop constraint if exists begins_before_its_end, add constraint begins_before_its_end check (since < until);
+
+-- A bridge that is retired loads nothing any more, and isn't missed. Its entries stay.
+alter table bridge add column if not exists retired_at timestamptz;
+
+-- A bridge may be renamed, and its tables follow. What was written down about it before keeps the former name. Its loads still come under that, until somebody
+-- changes the name at the bridge.
+alter table instrument drop constraint instrument_bridge_fkey, add constraint instrument_bridge_fkey foreign key (bridge) references bridge on update cascade;
+alter table journal drop constraint journal_bridge_fkey, add constraint journal_bridge_fkey foreign key (bridge) references bridge on update cascade;
+alter table follower drop constraint follower_journal_bridge_fkey, drop constraint follower_former_bridge_fkey,
+    add constraint follower_journal_bridge_fkey foreign key (journal, bridge) references journal (journal, bridge) on update cascade on delete cascade,
+    add constraint follower_former_bridge_fkey foreign key (former, bridge) references journal (journal, bridge) on update cascade;
+-- but by such a cascade
+create or replace trigger never_changed before update or truncate on follower for each statement when (pg_trigger_depth() = 0) execute function never_changed();
+alter table loader drop constraint loader_bridge_fkey, add constraint loader_bridge_fkey foreign key (bridge) references bridge on update cascade;
+alter table day_sum drop constraint day_sum_bridge_fkey, add constraint day_sum_bridge_fkey foreign key (bridge) references bridge on update cascade;
+alter table restored drop constraint restored_bridge_fkey, add constraint restored_bridge_fkey foreign key (bridge) references bridge on update cascade;
+create table if not exists former_name (
+    former text collate "C" primary key,
+    bridge text collate "C" not null references bridge on update cascade,
+    at     timestamptz not null default now(),
+    by     name not null default session_user,
+    constraint is_another_name check (former <> bridge)
 );
 \ir ../verify/version_9.sql
 -- A package from before sqitch refuses to run over a file that isn't its own. Otherwise it would put its older functions in the place of these.

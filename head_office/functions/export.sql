@@ -20,6 +20,8 @@ begin
     select bridge, retention_days, places into it.bridge, it.days, it.places from bridge where bridge = of_bridge;
     if not found then
         perform refuse('bridge', format('no bridge %s', of_bridge));
+    elsif exists (select from bridge where bridge = of_bridge and retired_at <= now()) then
+        perform refuse('bridge', format('%s was retired on %s: if it weighs again, UPDATE head_office.bridge SET retired_at = NULL', of_bridge, (select utc(retired_at) from bridge where bridge = of_bridge)));
     elsif fetched > now() + interval '5 minutes' then
         perform refuse('clock', format('fetched at %s, and here it is %s: set the clocks', fetched, date_trunc('second', now())));
     end if;
@@ -59,10 +61,13 @@ create or replace function refuse_others(it taking) returns void language plpgsq
 declare
     other record;
 begin
-    select r.serial, i.bridge into other from taken r left join instrument i using (serial)
-    where r.serial not in (select serial from instrument where bridge = it.bridge) and is_sound((r.number, r.key, r.kind, r.plate, r.moment, r.gross_kg, r.preset_kg, r.interval_kg, r.max_kg, r.serial, r.digest, r.previous)::at_hand) limit 1;
+    select r.serial, r.moment, (select i.bridge from instrument i where i.serial = r.serial and r.moment at time zone 'UTC' >= i.since and r.moment at time zone 'UTC' < i.until) as bridge
+    into other from taken r
+    where not exists (select from instrument i where i.bridge = it.bridge and i.serial = r.serial and r.moment at time zone 'UTC' >= i.since and r.moment at time zone 'UTC' < i.until)
+        and is_sound((r.number, r.key, r.kind, r.plate, r.moment, r.gross_kg, r.preset_kg, r.interval_kg, r.max_kg, r.serial, r.digest, r.previous)::at_hand) limit 1;
     if other.serial is not null then
-        perform refuse('serial', format('serial %s is %s', other.serial, coalesce('registered for ' || other.bridge, 'not registered')));
+        perform refuse('serial', format('serial %s is %s', other.serial, coalesce('registered for ' || other.bridge, 'not registered')
+            || case when exists (select from instrument i where i.serial = other.serial and isfinite(i.since) or isfinite(i.until)) then ' at ' || other.moment else '' end));
     elsif it.is_newest and exists (select from taken where previous is null) then
         perform refuse('form', 'entries of version 1 don''t name the entry before them, so nothing ties the newest to what is stored: load the whole export');
     end if;
@@ -124,7 +129,12 @@ end $$;
 create or replace function is_of_age(moment timestamptz, days integer) returns boolean stable
     return coalesce((now() at time zone 'UTC')::date > (moment at time zone 'UTC')::date + days, true);
 
--- Completes what a load is about, and refuses an export that is older than one that was taken in, doesn't reach what is stored, has no record, or is cut.
+-- Whether a newer export was taken in before. Then this one may still have entries that are missing here. What it lacks may have come or gone after it.
+create or replace function is_overtaken(it taking) returns boolean immutable
+    return coalesce(it.fetched < it.fetched_before, false);
+
+-- Completes what a load is about. Refuses an export that was overtaken and has nothing that is missing here, one that doesn't reach what is stored, has no record, or
+-- is cut.
 create or replace function place(it taking) returns taking language plpgsql as $$
 declare
     last record;
@@ -132,9 +142,6 @@ begin
     select min(number), max(number) into it.lowest, it.highest from taken;
     it.journal := journal_of(it);
     select sealed, fetched_at into it.sealed, it.fetched_before from standing where journal = it.journal;
-    if it.fetched < it.fetched_before then
-        perform refuse('older', format('this export was fetched at %s, and one of %s was loaded before', it.fetched, it.fetched_before));
-    end if;
     if it.sealed >= it.lowest then
         select min(number), max(number) into it.lowest, it.highest from taken where number > it.sealed;
     end if;
@@ -144,6 +151,11 @@ begin
     select number, moment into it.before, it.before_at from entry
     where journal = it.journal and year between it.since and it.until and (number < it.lowest or it.lowest is null) order by number desc limit 1;
     select * into it.since, it.until from years_of(it.journal, coalesce(it.before, it.lowest), it.highest);
+    if is_overtaken(it) and (it.lowest is null or it.highest > coalesce(it.stored, 0) or not exists (
+        select from taken r where r.number > it.sealed and not exists (
+            select from entry e where e.journal = it.journal and e.number = r.number and e.year between it.since and it.until))) then
+        perform refuse('older', format('this export was fetched at %s, and one of %s was loaded before', it.fetched, it.fetched_before));
+    end if;
     if not exists (select from taken where previous is not null) and exists (
         select from entry e where e.journal = it.journal and e.number = it.lowest and e.year between it.since and it.until and e.previous is not null) then
         perform refuse('form', 'the column previous is missing, which this journal has');

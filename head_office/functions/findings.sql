@@ -33,6 +33,15 @@ begin
         when r.previous = repeat('0', 64) then r.number > it.lowest or r.moment::date <= (e.moment at time zone 'UTC')::date + it.days
         else r.number = 1 or r.is_next or e.number is not null end;
 
+    -- a record that comes late, and the stored one above it
+    insert into found
+    select 'unchained', e.number, e.number, format('previous %s, after %s', encode(e.previous, 'hex'), r.digest)
+    from compared r cross join lateral (
+        select e.number, e.previous, e.moment from entry e
+        where e.journal = it.journal and e.number = r.number + 1 and e.year between it.since and it.until and e.previous <> r.own offset 0) e
+    where r.sound and not r.known and r.number < it.stored and not exists (select from compared a where a.number = r.number + 1 and not a.known)
+        and (e.previous <> decode(repeat('00', 32), 'hex') or (e.moment at time zone 'UTC')::date <= r.moment::date + it.days);
+
     insert into found
     select case when s.many > 0 then 'missing' else 'unseen' end, g.a, g.z, format('%s of them stored then', s.many)
     from (select coalesce(number_below, it.before, it.sealed) + 1 as a, number - 1 as z from compared) g
@@ -45,7 +54,7 @@ begin
     -- of the bridge's newest journal: an older export of a former one is no news
     insert into found
     select 'shorter', it.highest + 1, it.stored, 'stored, and the journal ends before'
-    where it.stored > it.highest and it.journal = (select max(journal) from journal where bridge = it.bridge);
+    where it.stored > it.highest and not is_overtaken(it) and it.journal = (select max(journal) from journal where bridge = it.bridge);
 
     insert into found
     select 'clock', 0, 0, format('the bridge''s clock is %s %s', roughly(apart_now()), case when apart_now() > interval '0' then 'ahead' else 'behind' end)
@@ -53,13 +62,13 @@ begin
 
     insert into found
     select 'early', it.before, it.before, format('gone with all before, and kept for %s days', it.days)
-    where not it.is_newest and not it.is_former and it.before is not null and not is_of_age(it.before_at, it.days);
+    where not it.is_newest and not is_overtaken(it) and not it.is_former and it.before is not null and not is_of_age(it.before_at, it.days);
 
     -- places: one for an entry, and one more for an open First
     insert into found
     select 'nearly full', 0, it.highest, format('%s of %s places are taken', taken, it.places)
     from (select count(*) + count(*) filter (where kind = 'first') - count(*) filter (where kind in ('second', 'void')) as taken from compared) t
-    where not it.is_newest and taken > it.places * 0.9 and not exists (
+    where not it.is_newest and not is_overtaken(it) and taken > it.places * 0.9 and not exists (
         select from finding f left join acknowledgement a using (finding)
         where f.journal = it.journal and f.what = 'nearly full' and coalesce(a.at > now() - interval '30 days', true));
 end $$;
@@ -201,7 +210,7 @@ begin
     select it.journal, (select count(*) from compared), it.highest, added, (select count(*) from found), written, it.is_newest, it.fetched, apart_now()
     returning * into done;
     perform write_receipt(it, done.load);
-    update standing set fetched_at = greatest(fetched_at, it.fetched), whole_at = case when it.is_newest then whole_at else coalesce(it.fetched, now()) end
+    update standing set fetched_at = greatest(fetched_at, it.fetched), whole_at = case when it.is_newest then whole_at else greatest(whole_at, it.fetched, case when it.fetched is null then now() end) end
     where journal = it.journal;
     return next format('%s: records %s, added %s, findings %s, new %s', it.bridge, done.records, done.added, done.findings, done.new_findings);
     if done.new_findings = 0 then

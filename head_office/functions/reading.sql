@@ -44,12 +44,13 @@ create or replace view finding_beside_stored as
 create or replace view open_finding as
     select finding, bridge, journal, what, numbers, record, stored, at, means, to_do, rank from finding_beside_stored where acknowledged_at is null and not is_made_up;
 
--- When each bridge's newest journal was heard of last, and whether it fell silent; when its last whole export was loaded, and whether the next is overdue.
+-- When each bridge's newest journal was heard of last, and whether it fell silent; when its last whole export was loaded, and whether the next is overdue. A bridge
+-- that is retired isn't missed.
 -- `apart` is by how much the bridge's clock was ahead of this server's at that load.
 create or replace view heard as
-    select b.bridge, l.journal, l.at as loaded, e.number, e.moment as newest, coalesce(now() - l.at > b.load_within, true) as is_silent,
-        coalesce(now() - e.moment > b.entry_within, e.moment is null and b.entry_within is not null) as is_idle,
-        s.whole_at as whole, l.journal is not null and coalesce(now() - s.whole_at > b.whole_within, true) as is_overdue, l.apart
+    select b.bridge, l.journal, l.at as loaded, e.number, e.moment as newest, coalesce(b.retired_at > now(), true) and coalesce(now() - l.at > b.load_within, true) as is_silent,
+        coalesce(b.retired_at > now(), true) and coalesce(now() - e.moment > b.entry_within, e.moment is null and b.entry_within is not null) as is_idle,
+        s.whole_at as whole, coalesce(b.retired_at > now(), true) and l.journal is not null and coalesce(now() - s.whole_at > b.whole_within, true) as is_overdue, l.apart
     from bridge b
     left join lateral (
         select l.* from load l where l.journal = (select max(j.journal) from journal j where j.bridge = b.bridge) order by l.load desc limit 1) l on true
@@ -58,11 +59,12 @@ create or replace view heard as
         cross join lateral (select e.number, e.moment from entry e where e.journal = y.journal and e.year = y.year and e.number = y.last offset 0) e) e on true
     left join standing s on s.journal = l.journal;
 
--- The tickets of a haulier, with the day of the bridge's own zone. The view looks up his plates one by one. By a condition that they are equal, PostgreSQL may read the
+-- The tickets of a haulier, with the day of the bridge's own zone, on the days for which the plate is registered for him. The view looks up his plates one by one. By a condition that they are equal, PostgreSQL may read the
 -- entries of all plates from the first one to his.
 create or replace view haulier_ticket as
     select h.haulier, t.bridge, t.ticket, t.kind, t.plate, t.first, t.at, (t.at at time zone b.zone)::date as day, t.gross_kg, t.tare_kg, t.net_kg, t.brought
-    from haulier h join ticket t on t.plate = any (array[h.plate]) join bridge b using (bridge);
+    from haulier h join ticket t on t.plate = any (array[h.plate]) join bridge b using (bridge)
+    where (t.at at time zone b.zone)::date >= h.since and (t.at at time zone b.zone)::date < h.until;
 
 -- Loaders of each bridge, how many connections each may open (-1 is all), and how large its temporary files may be.
 create or replace view loader_login as

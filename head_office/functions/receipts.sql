@@ -26,7 +26,7 @@ create or replace function chained(former bytea, digests bytea) returns bytea im
 create or replace function receipt_of_load(of_bridge text) returns text stable language sql security definer set search_path = head_office, pg_temp as $$
     select format('%s.%s.%s', r.journal, r.receipt, encode(r.digest, 'hex'))
     from load l join journal j using (journal) join receipt r using (journal)
-    where j.bridge = of_bridge and l.at = now() and l.by = session_user order by l.load desc, r.receipt desc limit 1
+    where j.bridge = named_now(of_bridge) and l.at = now() and l.by = session_user order by l.load desc, r.receipt desc limit 1
 $$;
 
 -- Writes a fault of the office down, unless an open one says the same.
@@ -50,6 +50,7 @@ declare
     newest receipt;
     said   text;
 begin
+    of_bridge := named_now(of_bridge);
     if not may_load(of_bridge) then
         return null;    -- begin_load says so
     elsif given !~ '^[0-9]{1,9}[.][0-9]{1,9}[.][0-9a-f]{64}$' then

@@ -75,7 +75,9 @@ language plpgsql security definer set search_path = head_office, pg_temp as $$
 begin
     if because not in ('cut', 'form', 'listener', 'unreachable') then
         raise exception 'refused: % is none of the reasons of load', because;
-    elsif not may_load(of_bridge) then
+    end if;
+    of_bridge := named_now(of_bridge);
+    if not may_load(of_bridge) then
         return write_refusal(of_bridge, 'login', format('%s hands nothing in for %s', session_user, of_bridge), fetched);
     end if;
     return write_refusal(of_bridge, because, told, fetched);
@@ -83,7 +85,7 @@ end $$;
 
 -- Whether the next export of a bridge has to be a whole one: none of its newest journal was loaded for too long.
 create or replace function wants_whole(of_bridge text) returns boolean stable language sql security definer set search_path = head_office, pg_temp as $$
-    select not may_load(of_bridge) or coalesce((
+    select not may_load(named_now(of_bridge)) or coalesce((
         select s.whole_at < now() - b.whole_within from bridge b join journal j using (bridge) join standing s using (journal)
-        where b.bridge = of_bridge order by j.journal desc limit 1), true)
+        where b.bridge = named_now(of_bridge) order by j.journal desc limit 1), true)
 $$;

@@ -10,11 +10,12 @@ begin
     end loop;
 end $$;
 grant insert on bridge, instrument, journal, loader, follower, haulier to head_office_registrar;
--- nobody may give an instrument to another bridge
-grant update (zone, retention_days, load_within, entry_within, places, whole_within, plate_years) on bridge to head_office_registrar;
+grant update (bridge, zone, retention_days, load_within, entry_within, places, whole_within, plate_years, retired_at) on bridge to head_office_registrar;
+-- an instrument or plate that was another's before belongs to this one from a moment on
+grant update (until) on instrument, haulier to head_office_registrar;
 grant update (note) on journal to head_office_registrar;
 -- a journal that was registered by mistake: nothing hangs on it yet, or it stays
-grant delete on loader, journal, haulier to head_office_registrar;
+grant delete on loader, journal, haulier, former_name to head_office_registrar;
 grant insert (finding, note) on acknowledgement to head_office_registrar;
 grant insert (office_fault, note) on office_fault_note to head_office_registrar;
 grant insert (bridge, why) on restored to head_office_registrar;

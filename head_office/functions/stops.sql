@@ -54,6 +54,7 @@ language plpgsql security definer set search_path = head_office, pg_temp set loc
 begin
     -- before all else, as an upgrade does
     lock table only handed in row exclusive mode;
+    of_bridge := named_now(of_bridge);
     if not may_load(of_bridge) then
         return write_refusal(of_bridge, 'login', format('%s hands nothing in for %s', session_user, of_bridge), fetched);
     end if;

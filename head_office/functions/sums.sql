@@ -6,10 +6,10 @@ create or replace view computed_open_entry as
         where kind <> 'single' order by plate, journal, number desc) e
     where e.kind = 'first' and e.number > (select sealed from standing s where s.journal = e.journal);
 
--- Vehicles on site, over all bridges: what is open in each bridge's newest journal.
+-- Vehicles on site, over all bridges: what is open in each bridge's newest journal. None is at a bridge that is retired.
 create or replace view on_site as
     select j.bridge, o.plate, o.number, o.since, o.gross_kg
-    from open_entry o join (select bridge, max(journal) as journal from journal group by bridge) j using (journal);
+    from open_entry o join (select bridge, max(journal) as journal from journal join bridge using (bridge) where coalesce(retired_at > now(), true) group by bridge) j using (journal);
 
 -- The row of each journal and year, computed from the entries.
 create or replace view computed_journal_year as

@@ -11,6 +11,7 @@ declare
     reason text;
     why    text;
 begin
+    of_bridge := named_now(of_bridge);
     begin
         it := admit(of_bridge, is_newest, fetched);
         perform refuse_others(it);

@@ -11,7 +11,7 @@ table acknowledgement: finding bigint not null, note text not null, at timestamp
 table advice: what text not null, means text not null, to_do text not null, rank integer not null
 table applied_file: name text not null, sha256 text not null, at timestamp with time zone not null
 table bridge: bridge text C not null, zone text not null, retention_days integer not null, load_within interval not null, entry_within interval
-table bridge: places integer, whole_within interval not null, plate_years integer
+table bridge: places integer, whole_within interval not null, plate_years integer, retired_at timestamp with time zone
 table change: change bigint not null, at timestamp with time zone not null, by name C not null, of_table name C not null, was jsonb, is_now jsonb
 table checked_receipt: journal integer not null, receipt integer not null
 table day_sum: day date not null, bridge text C not null, tickets bigint not null, gross_kg bigint not null, net_kg bigint not null
@@ -27,12 +27,14 @@ table entry_before: previous bytea, year integer not null
 table finding: finding bigint not null, journal integer not null, what text not null, first bigint not null, last bigint not null
 table finding: record text not null, at timestamp with time zone not null
 table follower: bridge text C not null, journal integer not null, former integer not null
+table former_name: former text C not null, bridge text C not null, at timestamp with time zone not null, by name C not null
 table guard_run: is_one boolean not null, at timestamp with time zone not null
 table handed: number bigint not null, key text C not null, kind text C not null, plate text C not null, moment timestamp without time zone not null
 table handed: gross_kg integer, preset_kg integer, interval_kg integer not null, max_kg integer not null, serial text C not null
 table handed: digest text C not null, login name C not null, within xid8 not null, previous text C
-table haulier: haulier text not null, plate text C not null
-table instrument: serial text C not null, bridge text C not null
+table haulier: haulier text not null, plate text C not null, since date not null, until date not null
+table instrument: serial text C not null, bridge text C not null, since timestamp with time zone not null
+table instrument: until timestamp with time zone not null
 table journal: journal integer not null, bridge text C not null, since timestamp with time zone not null, note text
 table journal_year: journal integer not null, year integer not null, first bigint not null, last bigint not null, entries bigint not null
 table journal_year: received_at timestamp with time zone not null, begins bigint not null, since integer not null, until integer not null
@@ -75,6 +77,7 @@ indexes of entry: entry_by_key, entry_by_moment, entry_by_plate
 indexes of entry_before: entry_before_by_key, entry_before_by_moment, entry_before_by_plate, entry_before_pkey unique
 indexes of finding: finding_by_time, finding_once unique, finding_pkey unique
 indexes of follower: follower_former_key unique, follower_pkey unique
+indexes of former_name: former_name_pkey unique
 indexes of guard_run: guard_run_pkey unique
 indexes of haulier: haulier_pkey unique
 indexes of instrument: instrument_pkey unique
@@ -106,10 +109,11 @@ constraints of entry: digest_fits c, form c, form_of_previous c, weights_of_kind
 constraints of entry_before: digest_fits c, entry_before_pkey p, form c, form_of_previous c, of_year c, weights_of_kind c, whole_second c
 constraints of finding: finding_journal_fkey f, finding_pkey p, finding_what_fkey f
 constraints of follower: comes_after c, follower_former_bridge_fkey f, follower_former_key u, follower_journal_bridge_fkey f, follower_pkey p
+constraints of former_name: former_name_bridge_fkey f, former_name_pkey p, is_another_name c
 constraints of guard_run: guard_run_pkey p, one_row c
 constraints of handed: handed_moment_check c
-constraints of haulier: form_of_haulier c, haulier_pkey p
-constraints of instrument: instrument_bridge_fkey f, instrument_pkey p, instrument_serial_check c
+constraints of haulier: begins_before_its_end c, form_of_haulier c, haulier_pkey p
+constraints of instrument: begins_before_its_end c, instrument_bridge_fkey f, instrument_pkey p, instrument_serial_check c
 constraints of journal: journal_bridge_fkey f, journal_of_bridge u, journal_pkey p
 constraints of journal_year: journal_year_journal_fkey f, journal_year_pkey p
 constraints of load: load_journal_fkey f, load_pkey p
