@@ -45,7 +45,7 @@ SELECT is(pg_temp.column_rights('ada', 'UPDATE'), 'bridge: bridge entry_within l
     '  and of a bridge what is registered, and until when an instrument or a plate is whose');
 SELECT is(pg_temp.table_rights('ada', 'DELETE'), 'former_name haulier journal loader', 'the registrar removes loaders, plates of hauliers, former names, and journals without entries');
 SELECT is(pg_temp.table_rights('ada', it), '', 'the registrar has no right ' || it) FROM unnest('{TRUNCATE,TRIGGER,REFERENCES}'::text[]) it;
-SELECT is(pg_temp.function_rights('ada'), 'digest_of html is_of_age kept_digest_of line_of seal short thousands', 'the registrar calls what a reader does, and seal');
+SELECT is(pg_temp.function_rights('ada'), 'digest_of html is_of_age kept_digest_of line_of seal set_aside short take_back thousands', 'the registrar calls what a reader does, seal, and the two that correct');
 
 SELECT is(rows($$SELECT rolname, relname FROM pg_roles, pg_class WHERE rolname IN ('ada', 'bridge_north', 'office') AND relkind = 'S'
     AND relnamespace = 'head_office'::regnamespace AND has_sequence_privilege(rolname, pg_class.oid, 'USAGE, SELECT, UPDATE')$$), '', 'nobody who logs in counts a sequence up');
@@ -72,16 +72,16 @@ SELECT is(rows($$SELECT rolname FROM pg_roles WHERE rolname ~ '^head_office' AND
 SELECT is(rows($$SELECT DISTINCT member::regrole::text FROM pg_auth_members WHERE roleid = 'head_office'::regrole AND member <> current_user::regrole$$), '(head_office_guard) (head_office_storer)',
     'only the role that stores and the one that ends connections are members of the owner');
 SELECT is(rows($$SELECT proname, pg_get_userbyid(proowner) FROM pg_proc WHERE pronamespace = 'head_office'::regnamespace AND pg_get_userbyid(proowner) <> 'head_office'$$),
-    '(take_in,head_office_storer) (end_stuck_loads,head_office_guard) (who_stops,head_office_guard)',
-    'take_in runs as the role that stores, two as the one that ends connections, and all others are the owner''s');
+    '(take_in,head_office_storer) (take_back,head_office_storer) (end_stuck_loads,head_office_guard) (who_stops,head_office_guard)',
+    'take_in and take_back run as the role that stores, two as the one that ends connections, and all others are the owner''s');
 SELECT is(rows($$SELECT proname FROM pg_proc WHERE pronamespace = 'head_office'::regnamespace AND prosecdef
     AND NOT coalesce(proconfig, '{}') @> '{"search_path=head_office, pg_temp"}' ORDER BY proname$$), '',
     'each function that runs with other rights looks for names in the schema only');
 SELECT is((SELECT string_agg(proname, ' ' ORDER BY proname) FROM pg_proc WHERE pronamespace = 'head_office'::regnamespace AND prosecdef),
     'begin_load check_office end_stuck_loads follow_bridge follow_follower follow_journal follow_loader follow_name keep_handed_small keep_names_apart keep_record_short make_landing make_year '
     'note_change note_refusal one_bridge_at_a_time plate_once '
-    'rebuild_sums receipt_of_load refuse_receipt seal take_in wants_whole warn_of_login who_stops',
-    '  and there are twenty-five of them');
+    'rebuild_sums receipt_of_load refuse_receipt seal set_aside take_back take_in wants_whole warn_of_login who_stops',
+    '  and there are twenty-seven of them');
 SELECT is((SELECT proconfig FROM pg_proc WHERE proname = 'take_in' AND pronamespace = 'head_office'::regnamespace) @> '{lock_timeout=60s}', true, 'a load waits for another for a minute at most');
 SELECT is((SELECT proconfig FROM pg_proc WHERE proname = 'seal' AND pronamespace = 'head_office'::regnamespace) @> '{lock_timeout=60s}', true, '  and so does seal');
 SELECT * FROM finish();

@@ -8,6 +8,7 @@ from checks.lib.head_office import DAY, OfficeCheck, written
 from checks.lib.ports import free_port
 
 SECONDS = 3  # in which a page is made
+SET_ASIDE = "SELECT head_office.set_aside(max(journal), {1}, {1}, '{2}') FROM head_office.journal WHERE bridge = '{0}'"
 
 
 class Pages(OfficeCheck):
@@ -34,12 +35,13 @@ class Pages(OfficeCheck):
         return self.office.page()
 
     def find(self) -> str:
-        """Load a journal with two findings, and return the page."""
+        """Load a journal with two findings, set an entry aside, and return the page."""
         office = self.office
         book = office.book("FOUND", 30, age=DAY)
         office.load("FOUND", office.export(book, 25))
         book.change(20, gross=9_000).chain(20)
         office.load("FOUND", book.change(3, key="OTHER"))
+        office.told(SET_ASIDE.format("FOUND", 4, "<i>" + "false " * 150))
         return office.page()
 
     def test_many_bridges(self) -> None:
@@ -69,6 +71,14 @@ class Pages(OfficeCheck):
         found = re.findall(r"<dt>(.*?)</dt>", page)
         kinds = set(re.findall(r'<td title="[^"]*">([a-z ]+)</td>', page))
         is_once = found and len(set(found)) == len(found) and kinds <= set(found)
+        corrected = re.search(r"<h3>Corrections of the last week</h3>.*", page)
+        what = "the page has the correction, with its reason as a text"
+        is_so = (
+            corrected
+            and '<td>FOUND</td><td class="n">1 of 4</td><td>set aside</td><td>registers</td>'
+            in corrected[0]
+        )
+        self.holds(what, is_so and "&lt;i&gt;false false" in page and "<i>" not in page, page)
         what = "the page says once what to do about each kind of finding"
         self.holds(what, is_once, (found, kinds))
 

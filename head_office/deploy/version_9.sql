@@ -487,6 +487,49 @@ create table if not exists former_name (
     by     name not null default session_user,
     constraint is_another_name check (former <> bridge)
 );
+
+-- Corrections ----------------------------------------------------------------------------------------------------------------------------
+
+-- Entries that were set aside, since they are false, or that came back. `takes_back` is the correction that this one takes back.
+create table if not exists correction (
+    correction bigint generated always as identity primary key,
+    journal    integer not null references journal,
+    first      bigint not null,
+    last       bigint not null,
+    entries    bigint not null,
+    takes_back bigint,
+    why        text not null,
+    at         timestamptz not null default now(),
+    by         name not null default session_user,
+    constraint taken_back_once unique (takes_back),
+    constraint takes_back_a_correction foreign key (takes_back) references correction,
+    constraint why_says_something check (why ~ '\S' and length(why) <= 1000)
+);
+
+-- The entries that are set aside, as they came. `receipt` is the one of the load that took it in. Once the plates of its year are dropped, an entry has no key, plate
+-- and digest here either.
+create table if not exists set_aside_entry (
+    journal     integer not null,
+    number      bigint not null,
+    key         text collate "C",
+    kind        text collate "C" not null,
+    plate       text collate "C",
+    moment      timestamptz not null,
+    gross_kg    integer,
+    preset_kg   integer,
+    interval_kg integer not null,
+    max_kg      integer not null,
+    serial      text collate "C" not null,
+    digest      bytea,
+    received_at timestamptz not null,
+    previous    bytea,
+    year        integer not null,
+    receipt     integer,
+    correction  bigint not null references correction,
+    primary key (journal, number, correction),
+    constraint digest_fits check (digest = digest_of(number, key, kind, plate, moment at time zone 'UTC', gross_kg, preset_kg, interval_kg, max_kg, serial,
+        encode(previous, 'hex')))
+);
 \ir ../verify/version_9.sql
 -- A package from before sqitch refuses to run over a file that isn't its own. Otherwise it would put its older functions in the place of these.
 insert into applied_file (name, sha256) values ('1.sql', repeat('0', 64)) on conflict (name) do update set sha256 = excluded.sha256, at = now();

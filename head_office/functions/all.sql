@@ -18,6 +18,7 @@ set local search_path = head_office;
 \ir storing.sql
 \ir findings.sql
 \ir receipts.sql
+\ir corrections.sql
 \ir take_in.sql
 \ir reading.sql
 \ir seal.sql

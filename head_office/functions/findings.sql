@@ -121,8 +121,10 @@ begin
         select what, number, moment, number - row_number() over (partition by what order by number) as run
         from (
             select number, moment, case when moment > least(it.fetched, now()) at time zone 'UTC' + interval '5 minutes' then 'ahead'
-                when number > coalesce(it.stored, 0) and moment < it.fetched_before at time zone 'UTC' - interval '1 minute' - back then 'dated back' end as what
-            from compared where sound and not known) n
+                when number > coalesce(it.stored, 0) and moment < it.fetched_before at time zone 'UTC' - interval '1 minute' - back
+                    -- others had its number when those exports came
+                    and not exists (select from set_aside_entry s where s.journal = it.journal and s.number = c.number) then 'dated back' end as what
+            from compared c where sound and not known) n
         where what is not null) r
     group by what, run;
 

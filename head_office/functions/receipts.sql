@@ -76,7 +76,8 @@ end $$;
 
 -- Checks what was taken in since the last check, or all of it. Each receipt is computed again, and each of its entries is held against its digest. The whole check also
 -- compares sums, open Firsts and sealed years with what the entries say, and looks for entries that no load took in. Returns a line for each open fault, and one at the
--- end. Entries of years whose plates were dropped have no digest any more, so their receipts are checked no further.
+-- end. Entries of years whose plates were dropped have no digest any more, so their receipts are checked no further. A receipt also has its
+-- entries that were set aside since, and not those that came later in their place.
 create or replace function check_office(whole boolean) returns setof text
 language plpgsql security definer set search_path = head_office, pg_temp set work_mem = '64MB' set jit = off as $$
 declare
@@ -88,6 +89,7 @@ begin
     end if;
     create temporary table found_receipt on commit drop as
     select r.journal, j.bridge, r.receipt, r.at, r.numbers, r.entries, r.digest, f.digest as former, s.sealed,
+        exists (select from set_aside_entry e where e.journal = r.journal and r.numbers @> e.number) as has_aside,
         r.receipt - coalesce(lag(r.receipt) over (partition by r.journal order by r.receipt), case when not whole then c.receipt end, 0) - 1 as missing
     from receipt r join journal j using (journal) join standing s using (journal) left join checked_receipt c using (journal)
     left join receipt f on f.journal = r.journal and f.receipt = r.receipt - 1
@@ -95,12 +97,18 @@ begin
     insert into office_check (is_whole, receipts, entries, faults)
     select whole, count(*), coalesce(sum(entries), 0), 0 from found_receipt returning * into done;
     for one in
-        select f.*, e.many, e.own, e.wrong
+        select f.*, e.many, e.own, e.wrong, e.is_dropped
         from found_receipt f cross join lateral (
-            select count(*) as many, chained(f.former, string_agg(e.digest, ''::bytea order by e.number)) as own,
+            select count(*) as many, chained(f.former, string_agg(e.digest, ''::bytea order by e.number)) as own, coalesce(bool_or(e.digest is null), false) as is_dropped,
                 min(e.number) filter (where e.digest <> digest_of(e.number, e.key, e.kind, e.plate, e.moment at time zone 'UTC', e.gross_kg, e.preset_kg, e.interval_kg,
                     e.max_kg, e.serial, encode(e.previous, 'hex'))) as wrong
-            from entry e where e.journal = f.journal and e.number between greatest(lower(f.numbers), f.sealed + 1) and upper(f.numbers) - 1 and f.numbers @> e.number) e
+            from (
+                select number, key, kind, plate, moment, gross_kg, preset_kg, interval_kg, max_kg, serial, digest, previous from entry e
+                where e.journal = f.journal and e.number between greatest(lower(f.numbers), f.sealed + 1) and upper(f.numbers) - 1 and f.numbers @> e.number
+                    and not (f.has_aside and exists (select from receipt n where n.journal = f.journal and n.receipt > f.receipt and n.numbers @> e.number))
+                union all
+                select number, key, kind, plate, moment, gross_kg, preset_kg, interval_kg, max_kg, serial, digest, previous from set_aside_entry s
+                where f.has_aside and s.journal = f.journal and s.receipt = f.receipt) e) e
         order by f.journal, f.receipt
     loop
         if one.missing > 0 then
@@ -109,7 +117,7 @@ begin
         if one.wrong is not null then
             perform write_fault('entry', one.bridge, format('%s: entry %s of journal %s doesn''t fit its digest', one.bridge, one.wrong, one.journal));
         end if;
-        if lower(one.numbers) > one.sealed and (one.own <> one.digest or one.many <> one.entries) then
+        if lower(one.numbers) > one.sealed and (one.own <> one.digest and not one.is_dropped or one.many <> one.entries) then
             perform write_fault('receipt', one.bridge, format('%s: of the %s entries that receipt %s of journal %s took in on %s, %s', one.bridge, one.entries, one.receipt,
                 one.journal, utc(one.at), case when one.many <> one.entries then one.many || ' are here' else 'one has another digest' end));
         end if;

@@ -19,7 +19,7 @@ grant delete on loader, journal, haulier, former_name to head_office_registrar;
 grant insert (finding, note) on acknowledgement to head_office_registrar;
 grant insert (office_fault, note) on office_fault_note to head_office_registrar;
 grant insert (bridge, why) on restored to head_office_registrar;
-grant execute on function seal(text, integer) to head_office_registrar;
+grant execute on function seal(text, integer), set_aside(integer, bigint, bigint, text), take_back(bigint, text) to head_office_registrar;
 grant insert (number, key, kind, plate, moment, gross_kg, preset_kg, interval_kg, max_kg, serial, digest, previous) on handed to head_office_loader;
 grant execute on function take_in(text, boolean, timestamptz), note_refusal(text, text, text, timestamptz), wants_whole(text), begin_load(text, timestamptz),
     refuse_receipt(text, text), receipt_of_load(text) to head_office_loader;
@@ -32,6 +32,7 @@ grant execute on function digest_of(bigint, text, text, text, timestamp, integer
 -- From here on only a superuser can take the roles that store and that end connections.
 set local role none;
 alter function head_office.take_in(text, boolean, timestamptz) owner to head_office_storer;
+alter function head_office.take_back(bigint, text) owner to head_office_storer;
 alter function head_office.who_stops(text) owner to head_office_guard;
 alter function head_office.end_stuck_loads() owner to head_office_guard;
 grant execute on function head_office.who_stops(text) to head_office;

@@ -46,6 +46,7 @@ begin
     for one in select j.journal, s.sealed from journal j join standing s using (journal) where j.bridge = of_bridge order by j.journal loop
         select coalesce((select number - 1 from entry where journal = one.journal and moment >= ends order by number limit 1),
             (select max(number) from entry where journal = one.journal)) into up_to;
+        update set_aside_entry set key = null, plate = null, digest = null, previous = null where journal = one.journal and moment < ends and digest is not null;
         continue when up_to is null or up_to <= one.sealed;
         if exists (select from open_finding f where f.journal = one.journal and split_part(f.numbers, '-', 1)::bigint <= up_to) then
             raise exception 'refused: findings of % up to number % aren''t acknowledged', of_bridge, up_to;

@@ -17,6 +17,7 @@ begin
         perform refuse_others(it);
         it := place(it);
         perform compare(it);
+        perform leave_aside(it);
         added := store(it);
         perform find_in_export(it);
         perform find_in_entries(it);

@@ -14,6 +14,8 @@ table bridge: bridge text C not null, zone text not null, retention_days integer
 table bridge: places integer, whole_within interval not null, plate_years integer, retired_at timestamp with time zone
 table change: change bigint not null, at timestamp with time zone not null, by name C not null, of_table name C not null, was jsonb, is_now jsonb
 table checked_receipt: journal integer not null, receipt integer not null
+table correction: correction bigint not null, journal integer not null, first bigint not null, last bigint not null, entries bigint not null
+table correction: takes_back bigint, why text not null, at timestamp with time zone not null, by name C not null
 table day_sum: day date not null, bridge text C not null, tickets bigint not null, gross_kg bigint not null, net_kg bigint not null
 table day_sum: brought_kg bigint not null, taken_kg bigint not null, preset_kg bigint not null
 table ended_connection: ended bigint not null, at timestamp with time zone not null, login name C not null, pid integer not null, why text not null
@@ -58,6 +60,10 @@ table sealed_entry: moment timestamp with time zone not null, gross_kg integer, 
 table sealed_entry: max_kg integer not null, serial text C not null, partner bigint
 table sealed_year: journal integer not null, year integer not null, first bigint not null, last bigint not null, entries bigint not null
 table sealed_year: digest bytea not null, kept_digest bytea not null, at timestamp with time zone not null, by name C not null
+table set_aside_entry: journal integer not null, number bigint not null, key text C, kind text C not null, plate text C
+table set_aside_entry: moment timestamp with time zone not null, gross_kg integer, preset_kg integer, interval_kg integer not null
+table set_aside_entry: max_kg integer not null, serial text C not null, digest bytea, received_at timestamp with time zone not null
+table set_aside_entry: previous bytea, year integer not null, receipt integer, correction bigint not null
 table standing: journal integer not null, fetched_at timestamp with time zone, whole_at timestamp with time zone, sealed bigint not null
 table version: version integer not null, at timestamp with time zone not null
 type at_hand: number bigint, key text C, kind text C, plate text C, moment timestamp without time zone, gross_kg integer, preset_kg integer
@@ -71,6 +77,7 @@ indexes of applied_file: applied_file_pkey unique
 indexes of bridge: bridge_pkey unique
 indexes of change: change_pkey unique
 indexes of checked_receipt: checked_receipt_pkey unique
+indexes of correction: correction_pkey unique, taken_back_once unique
 indexes of day_sum: day_sum_pkey unique
 indexes of ended_connection: ended_connection_by_login, ended_connection_pkey unique
 indexes of entry: entry_by_key, entry_by_moment, entry_by_plate
@@ -94,6 +101,7 @@ indexes of refusal: refusal_by_login, refusal_by_time, refusal_pkey unique
 indexes of restored: restored_pkey unique
 indexes of sealed_entry: sealed_entry_pkey unique
 indexes of sealed_year: sealed_year_pkey unique
+indexes of set_aside_entry: set_aside_entry_pkey unique
 indexes of standing: standing_pkey unique
 indexes of version: version_pkey unique
 constraints of acknowledgement: acknowledgement_finding_fkey f, acknowledgement_pkey p, note_says_something c
@@ -103,6 +111,7 @@ constraints of bridge: bridge_bridge_check c, bridge_entry_within_check c, bridg
 constraints of bridge: bridge_zone_check c, places_of_a_journal c, plate_years_is_positive c, whole_within_is_positive c
 constraints of change: change_pkey p
 constraints of checked_receipt: checked_receipt_journal_fkey f, checked_receipt_pkey p
+constraints of correction: correction_journal_fkey f, correction_pkey p, taken_back_once u, takes_back_a_correction f, why_says_something c
 constraints of day_sum: day_sum_bridge_fkey f, day_sum_pkey p
 constraints of ended_connection: ended_connection_pkey p
 constraints of entry: digest_fits c, form c, form_of_previous c, weights_of_kind c, whole_second c
@@ -127,6 +136,7 @@ constraints of refusal: refusal_pkey p
 constraints of restored: restored_bridge_fkey f, restored_pkey p, restored_why_check c
 constraints of sealed_entry: sealed_entry_journal_fkey f, sealed_entry_pkey p
 constraints of sealed_year: sealed_year_journal_fkey f, sealed_year_pkey p
+constraints of set_aside_entry: digest_fits c, set_aside_entry_correction_fkey f, set_aside_entry_pkey p
 constraints of standing: standing_journal_fkey f, standing_pkey p
 constraints of version: version_pkey p
 ', E'\n') line where line <> ''
