@@ -44,7 +44,7 @@ CALL weigh('NORTH', 'first', 'P-8', 9000, age => '2 hours');
 SELECT alike(load('NORTH', fetched => present() - interval '1 hour'), 'NORTH: records 7, added 0,%', 'the bridge''s own ones aren''t stored');
 SELECT is(findings('NORTH'), '{unseen 9-4294967294,differs 6,differs 7,shorter 8-4294967295}', '  which is found');
 
--- Who may, and what is refused
+-- A correction that is refused changes nothing.
 SELECT is(pg_temp.corrects(format('set_aside(%s, 6, 8, ''x'')', journal_of('NORTH')), login), '42501: permission denied for function set_aside', 'a correction is the registrar''s, and not of ' || login)
     FROM unnest('{office,bridge_north}'::text[]) login;
 SELECT is(pg_temp.corrects('take_back(1, ''x'')', 'office'), '42501: permission denied for function take_back', '  also to take one back');
@@ -100,7 +100,7 @@ SELECT alike(pg_temp.aside(4294967295, 4294967295, 'it was false'), '%: 1 entrie
 SELECT is(pg_temp.sums(), '(3,70000)', '  and doesn''t count');
 SELECT is(pg_temp.checked(), 'office: 3 receipts with 11 entries checked, open faults 0', '  and belongs to its receipt');
 
--- What the office checks
+-- The check of the office includes what is set aside.
 ALTER TABLE head_office.set_aside_entry DROP CONSTRAINT digest_fits;
 UPDATE head_office.set_aside_entry SET gross_kg = 1000 WHERE number = 7;
 SELECT alike(pg_temp.checked(), '%: NORTH: entry 7 of journal % doesn''t fit its digest%', 'an entry that is set aside is checked');

@@ -457,29 +457,31 @@ create table if not exists restored (
 
 -- From when and until when ---------------------------------------------------------------------------------------------------------------
 
--- An instrument belongs to a bridge, and a plate to a haulier, from `since` on, and until `until`, which isn't part of it.
-alter table instrument add column if not exists since timestamptz not null default '-infinity', add column if not exists until timestamptz not null default 'infinity',
-    drop constraint instrument_pkey, add constraint instrument_pkey primary key (serial, since),
-    drop constraint if exists begins_before_its_end, add constraint begins_before_its_end check (since < until);
-alter table haulier add column if not exists since date not null default '-infinity', add column if not exists until date not null default 'infinity',
-    drop constraint haulier_pkey, add constraint haulier_pkey primary key (plate, haulier, since),
-    drop constraint if exists begins_before_its_end, add constraint begins_before_its_end check (since < until);
-
--- A bridge that is retired loads nothing any more, and isn't missed. Its entries stay.
-alter table bridge add column if not exists retired_at timestamptz;
-
--- A bridge may be renamed, and its tables follow. What was written down about it before keeps the former name. Its loads still come under that, until somebody
--- changes the name at the bridge.
-alter table instrument drop constraint instrument_bridge_fkey, add constraint instrument_bridge_fkey foreign key (bridge) references bridge on update cascade;
-alter table journal drop constraint journal_bridge_fkey, add constraint journal_bridge_fkey foreign key (bridge) references bridge on update cascade;
-alter table follower drop constraint follower_journal_bridge_fkey, drop constraint follower_former_bridge_fkey,
-    add constraint follower_journal_bridge_fkey foreign key (journal, bridge) references journal (journal, bridge) on update cascade on delete cascade,
-    add constraint follower_former_bridge_fkey foreign key (former, bridge) references journal (journal, bridge) on update cascade;
--- but by such a cascade
-create or replace trigger never_changed before update or truncate on follower for each statement when (pg_trigger_depth() = 0) execute function never_changed();
-alter table loader drop constraint loader_bridge_fkey, add constraint loader_bridge_fkey foreign key (bridge) references bridge on update cascade;
-alter table day_sum drop constraint day_sum_bridge_fkey, add constraint day_sum_bridge_fkey foreign key (bridge) references bridge on update cascade;
-alter table restored drop constraint restored_bridge_fkey, add constraint restored_bridge_fkey foreign key (bridge) references bridge on update cascade;
+-- An instrument belongs to a bridge, and a plate to a haulier, from `since` on, and until `until`, which isn't part of it. A bridge that is retired loads nothing any
+-- more, and isn't missed. Its entries stay. A bridge may be renamed, and its tables follow. Refusals and changes from before keep the former name. Its loads still come
+-- under that, until somebody changes the name at the bridge. If something is missing that these need, the file in verify/ says so below.
+do $$
+begin
+    alter table instrument add column if not exists since timestamptz not null default '-infinity', add column if not exists until timestamptz not null default 'infinity',
+        drop constraint instrument_pkey, add constraint instrument_pkey primary key (serial, since),
+        drop constraint if exists begins_before_its_end, add constraint begins_before_its_end check (since < until),
+        drop constraint instrument_bridge_fkey, add constraint instrument_bridge_fkey foreign key (bridge) references bridge on update cascade;
+    alter table haulier add column if not exists since date not null default '-infinity', add column if not exists until date not null default 'infinity',
+        drop constraint haulier_pkey, add constraint haulier_pkey primary key (plate, haulier, since),
+        drop constraint if exists begins_before_its_end, add constraint begins_before_its_end check (since < until);
+    alter table bridge add column if not exists retired_at timestamptz;
+    alter table journal drop constraint journal_bridge_fkey, add constraint journal_bridge_fkey foreign key (bridge) references bridge on update cascade;
+    alter table follower drop constraint follower_journal_bridge_fkey, drop constraint follower_former_bridge_fkey,
+        add constraint follower_journal_bridge_fkey foreign key (journal, bridge) references journal (journal, bridge) on update cascade on delete cascade,
+        add constraint follower_former_bridge_fkey foreign key (former, bridge) references journal (journal, bridge) on update cascade;
+    -- but by such a cascade
+    create or replace trigger never_changed before update or truncate on follower for each statement when (pg_trigger_depth() = 0) execute function never_changed();
+    alter table loader drop constraint loader_bridge_fkey, add constraint loader_bridge_fkey foreign key (bridge) references bridge on update cascade;
+    alter table day_sum drop constraint day_sum_bridge_fkey, add constraint day_sum_bridge_fkey foreign key (bridge) references bridge on update cascade;
+    alter table restored drop constraint restored_bridge_fkey, add constraint restored_bridge_fkey foreign key (bridge) references bridge on update cascade;
+exception when undefined_column or undefined_object or undefined_table then
+    null;
+end $$;
 create table if not exists former_name (
     former text collate "C" primary key,
     bridge text collate "C" not null references bridge on update cascade,
@@ -490,7 +492,7 @@ create table if not exists former_name (
 
 -- Corrections ----------------------------------------------------------------------------------------------------------------------------
 
--- Entries that were set aside, since they are false, or that came back. `takes_back` is the correction that this one takes back.
+-- Entries that were set aside, because they are false, or that count again. `takes_back` is the correction that this one takes back.
 create table if not exists correction (
     correction bigint generated always as identity primary key,
     journal    integer not null references journal,
