@@ -267,6 +267,11 @@ class Service(Closing):
 
         wait_until(wanted, self.indication, is_so, seconds)
 
+    def next_vehicle(self, load: int) -> None:
+        """Let the bridge be empty, and then put a load on it."""
+        self.put(0)
+        self.put(load)
+
     def kill(self) -> None:
         """End it at once, even while it is held."""
         self.process.send_signal(signal.SIGKILL)
@@ -371,3 +376,15 @@ def get(service: HasOffice, target: str, timeout: float = 60) -> Answer | None:
 
 def post(service: HasOffice, target: str, body: str = "", timeout: float = 60) -> Answer | None:
     return exchange(service, request_bytes("POST", target, body), timeout)
+
+
+def weigh(service: HasOffice, form: str, seconds: float = 20, pause: float = 0) -> Answer:
+    """Return the answer to a weighing, asked again until it is stored. A refusal changes nothing."""
+
+    def ask() -> Answer:
+        return post(service, "/weighings", form) or (0, "")
+
+    def is_stored(answer: Answer) -> bool:
+        return answer[0] == 201
+
+    return wait_until(form, ask, is_stored, seconds, pause)
