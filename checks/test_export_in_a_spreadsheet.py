@@ -112,8 +112,7 @@ class ExportInASpreadsheet(Check):
 
     def weigh(self, number: int, target: str, **form: str) -> None:
         """Put the next load onto the cleared bridge, and weigh it."""
-        self.service.put(0)
-        self.service.put(9170 - 100 * number)
+        self.service.next_vehicle(9170 - 100 * number)
         body = "&".join(f"{name}={value}" for name, value in {"key": f"K{number}", **form}.items())
         answer = bridge.post(self.service, target, body)
         self.assertEqual(201, answer and answer[0], f"{target} with the plate {form['plate']}")

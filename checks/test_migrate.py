@@ -347,8 +347,7 @@ def show_real_refused(folder: str) -> None:
 def show_service(it: Folders, count: int, number: int, key: str, used: int = 409) -> None:
     """Show that a service continues in the new file with the next number, and knows a spent key."""
     with bridge.Service(BUILT, it.new, bridge.Played(200.0), "--capacity", "1000") as service:
-        service.put(0)
-        service.put(9170)
+        service.next_vehicle(9170)
         answer = bridge.post(service, "/weighings", f"key={key}&kind=first&plate=ZZ-1")
         same(f"{it.name}: a key that was used", used, answer and answer[0])
         status, body = bridge.post(service, "/weighings", "key=N1&kind=first&plate=ZZ-1") or (0, "")

@@ -92,8 +92,7 @@ class ServeFewFiles(Check):
     def show_weighing(self, limit: int) -> None:
         """Show that a weighing is stored while silent clients use the files."""
         self.files_become("all clients are gone", limit - FILES_FOR_CLIENTS)
-        self.service.put(0)
-        self.service.put(9170)
+        self.service.next_vehicle(9170)
         streams = self.silent(FILES_FOR_CLIENTS)
         self.files_become("every file but one is taken again", limit - 1)
         body = "key=K1&kind=first&plate=AB-12"

@@ -73,8 +73,7 @@ class Bridge:
             target, body = "/voids", f"key={key}&plate={plate}"
         else:
             target, body = "/weighings", f"key={key}&kind={kind}&plate={plate}"
-            self.service.put(0)
-            self.service.put(load)
+            self.service.next_vehicle(load)
         answer = bridge.post(self.service, target, body)
         if answer is None or answer[0] != 201:
             raise SystemExit(f"{key}: {answer}")
