@@ -63,8 +63,7 @@ class PrintingCounter(CounterWithPrinter):
         self.same("of which the journal has nothing", (1, []), (len(rows), found))
         again = bridge.ask("POST", "/weighings", form)[:2]
         self.same("its request again is the same text", (201, slip), again)
-        bridge.next_vehicle(4070)
-        status, ticket = bridge.weigh("paper-2", "second", "AB-12")
+        status, ticket = bridge.weigh_next(4070, "paper-2", "second", "AB-12")
         self.becomes("a Second too", 2, lambda: len(played.printed))
         self.same("a request again prints nothing", [0, 0], marks_of(played.printed))
         legal = Printed(played.printed[1], 576).legal()
@@ -110,8 +109,7 @@ class PrintingCounter(CounterWithPrinter):
         bridge, played = self.bridge, self.played
         for number, name in enumerate(("paper_out", "cover_open", "offline"), 1):
             played.state = name
-            bridge.next_vehicle(9170)
-            bridge.weigh(f"paper-{number}", "single", f"S-{number}", 5000)
+            bridge.weigh_next(9170, f"paper-{number}", "single", f"S-{number}", 5000)
             self.becomes(
                 f"{name} is told",
                 [(number, name)],
@@ -131,8 +129,7 @@ class PrintingCounter(CounterWithPrinter):
             time.sleep(1.5)
             self.same("once, as the original", [0], marks_of(played.printed[count:]))
         played.gone()
-        bridge.next_vehicle(9170)
-        bridge.weigh("paper-4", "single", "S-4", 5000)
+        bridge.weigh_next(9170, "paper-4", "single", "S-4", 5000)
         self.becomes("gone is told", ["gone"], self.reasons)
         status = bridge.ask("DELETE", f"/jobs/{self.jobs()[0]['job']}")[0]
         self.same("one that waits can be dropped", 200, status)
@@ -167,12 +164,10 @@ class PrintingCounter(CounterWithPrinter):
         played.rate = 8000
         plates = [f"K-{it}" for it in range(KILLS)]
         for at, plate in enumerate(plates):
-            bridge.next_vehicle(9170)
-            status, said = bridge.weigh(f"kill-{at}", "single", plate, 5000)
+            status, said = bridge.weigh_next(9170, f"kill-{at}", "single", plate, 5000)
             self.holds(f"{plate} is weighed", status == 201, said)
             time.sleep(rolls.uniform(0, 2))
-            bridge.kill_counter()
-            bridge.start_counter()
+            bridge.restart_counter()
         played.rate = None
         self.becomes(
             "after each kill what waits is printed",

@@ -99,16 +99,14 @@ class ByTheBrowser(CounterCheck, PaperCheck):
             self.comes(what, lambda: GIVEN in clerk.text("#others"))
             # Enter doesn't react for 0.7 s after a dialog
             time.sleep(1.2)
-            clerk.keys(ENTER)
-            clerk.sees(words)
+            clerk.sees_after(ENTER, words)
 
     def test_by_the_browser(self) -> None:
         self.bridge = self.new_bridge(settings=SETTINGS).start_counter()
         self.bridge.put(0)
         clerk = self.new_clerk(at_of(self.bridge.http))
         clerk.sees("The bridge is empty")
-        clerk.keys(F9)
-        clerk.sees("Zero is set.")
+        clerk.sees_after(F9, "Zero is set.")
         self.weigh(clerk)
         ticket = self.bridge.ask("GET", "/tickets/2", port=self.bridge.office)[1]
         pictures = []
@@ -189,8 +187,7 @@ class WithPrinter(CounterWithPrinter):
         bridge, played = self.bridge, self.played
         clerk = self.new_clerk(at_of(bridge.http), width=1000, height=640)
         clerk.sees("The bridge is empty")
-        clerk.keys(F9)
-        clerk.sees("Zero is set.")
+        clerk.sees_after(F9, "Zero is set.")
         bridge.put(9170)
         clerk.sees("Type the plate.")
         clerk.is_ready_for("HB-KW-77")
