@@ -4,6 +4,7 @@ import base64
 import os
 import re
 import time
+from pathlib import Path
 
 from checks.lib.case import PROGRAM
 from checks.lib.clerk import ENTER, F8, F9, Clerk, at_of
@@ -45,16 +46,9 @@ def printed_by(clerk: Clerk, size: str, path: str) -> str:
     """Write what the browser prints on a size of paper, as PDF, and return its path."""
     width, height, _ = PAPERS[size]
     margins = {f"margin{it}": 0.157 for it in ("Top", "Bottom", "Left", "Right")}
-    data = clerk.browser.tool(
-        "Page.printToPDF",
-        paperWidth=width,
-        paperHeight=height,
-        preferCSSPageSize=False,
-        printBackground=False,
-        **margins,
-    )["data"]
-    with open(path, "wb") as file:
-        file.write(base64.b64decode(data))
+    how: dict[str, object] = {"preferCSSPageSize": False, "printBackground": False, **margins}
+    made = clerk.browser.tool("Page.printToPDF", paperWidth=width, paperHeight=height, **how)
+    Path(path).write_bytes(base64.b64decode(made["data"]))
     return path
 
 
@@ -223,16 +217,10 @@ class WithPrinter(CounterWithPrinter):
         self.becomes(what, (4, nothing), lambda: (len(played.printed), clerk.text("#jobs")))
 
     def write_picture(self, clerk: Clerk, path: str) -> None:
-        clerk.browser.tool(
-            "Emulation.setDeviceMetricsOverride",
-            width=1000,
-            height=640,
-            deviceScaleFactor=0.7,
-            mobile=False,
-        )
+        size = {"width": 1000, "height": 640, "deviceScaleFactor": 0.7, "mobile": False}
+        clerk.browser.tool("Emulation.setDeviceMetricsOverride", **size)
         time.sleep(0.3)
-        with open(path, "wb") as file:
-            file.write(clerk.browser.picture())
+        Path(path).write_bytes(clerk.browser.picture())
 
     def looks(self) -> None:
         """Look at the bar, the list and the dialog for free lines on a telephone and in the dark: nothing sideways, nothing faint."""
