@@ -1,6 +1,7 @@
 """Devices with a fault every two seconds at random, whose value shows when they held it: each is a step number times seven and three, and a step lasts
 20 ms. So each line that a reader passes on shows how old it is, and whether the device held that value at all."""
 
+import contextlib
 import os
 import random
 import socket
@@ -9,6 +10,7 @@ import threading
 import time
 import tty
 from collections.abc import Callable
+from pathlib import Path
 from typing import Protocol
 
 from checks.lib import bridge
@@ -102,11 +104,9 @@ class FaultyTcp(Faulty):
             pass  # it was closed
 
     def served(self, stream: socket.socket) -> None:
-        try:
+        with contextlib.suppress(OSError):  # the reader opened another
             self.serve(stream)
             stream.close()
-        except OSError:
-            pass  # the reader opened another
 
     def serve(self, stream: socket.socket) -> None:
         """Serve a reader until it leaves, or the device is away."""
@@ -347,17 +347,15 @@ class FaultyIio(Faulty):
             self.value = None if fault else value
 
     def show(self, fault: str, text: str) -> None:
-        path = os.path.join(self.folder, self.CHANNEL)
+        path, new = Path(self.folder, self.CHANNEL), Path(self.folder, f"{self.CHANNEL}.new")
         if fault == "away":
-            if os.path.exists(path):
-                os.remove(path)
+            path.unlink(missing_ok=True)
             return
         if fault == "hangs":
-            os.mkfifo(path + ".new")
+            os.mkfifo(new)
         else:
-            with open(path + ".new", "w") as it:
-                it.write(text)
-        os.rename(path + ".new", path)
+            new.write_text(text, encoding="ascii")
+        new.rename(path)
 
     def age(self, value: int, at: float) -> float | None:
         """Return 0 while the file holds the value, until the next is written, however long this machine takes for it."""
