@@ -10,6 +10,7 @@ import subprocess
 import threading
 import time
 from collections.abc import Callable
+from contextlib import suppress
 from types import TracebackType
 from typing import IO, Any, Protocol, Self
 
@@ -88,6 +89,33 @@ class Closing:
         self.close()
 
 
+class Listening(Closing):
+    """A device or program that is played at a port of this machine. It serves each client in a thread of its own."""
+
+    def __init__(self, host: str = HOST) -> None:
+        self.listener = socket.create_server((host, 0))
+        self.port: int = self.listener.getsockname()[1]
+        threading.Thread(target=self.accept, daemon=True).start()
+
+    def accept(self) -> None:
+        with suppress(OSError):  # it was closed
+            while True:
+                stream, _ = self.listener.accept()
+                stream.setsockopt(socket.IPPROTO_TCP, socket.TCP_NODELAY, 1)
+                threading.Thread(target=self.served, args=(stream,), daemon=True).start()
+
+    def served(self, stream: socket.socket) -> None:
+        with suppress(OSError):  # the client opened another
+            self.serve(stream)
+
+    def serve(self, stream: socket.socket) -> None:
+        """Serve a client until it leaves."""
+        raise NotImplementedError
+
+    def close(self) -> None:
+        self.listener.close()
+
+
 class Converter(Closing, threading.Thread):
     """Sends lines at a pace until it is silenced. `load` returns the line of a number."""
 
@@ -109,10 +137,8 @@ class Converter(Closing, threading.Thread):
             self.start()
 
     def run(self) -> None:
-        try:
+        with suppress(OSError):
             self.feed(self.listener.accept()[0])
-        except OSError:
-            pass
 
     def feed(self, stream: socket.socket) -> None:
         """Send lines until the client leaves or the converter ends. It sends nothing later of a silence."""

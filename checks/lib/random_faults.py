@@ -83,38 +83,22 @@ class Faulty:
         self.over.set()
 
 
-class FaultyTcp(Faulty):
-    """A device that listens at a port."""
+class FaultyTcp(Faulty, bridge.Listening):
+    """A device that listens at a port. It serves a reader until that leaves, or the device is away."""
 
     def begin(self) -> None:
-        self.listener = socket.create_server((bridge.HOST, 0))
-        self.at = f"{bridge.HOST}:{self.listener.getsockname()[1]}"
-        threading.Thread(target=self.accept, daemon=True).start()
-
-    def accept(self) -> None:
-        try:
-            while True:
-                stream, _ = self.listener.accept()
-                stream.setsockopt(socket.IPPROTO_TCP, socket.TCP_NODELAY, 1)
-                if self.fault == "away":
-                    stream.close()
-                else:
-                    threading.Thread(target=self.served, args=(stream,), daemon=True).start()
-        except OSError:
-            pass  # it was closed
+        bridge.Listening.__init__(self)
+        self.at = f"{bridge.HOST}:{self.port}"
 
     def served(self, stream: socket.socket) -> None:
-        with contextlib.suppress(OSError):  # the reader opened another
-            self.serve(stream)
+        if self.fault != "away":
+            super().served(stream)
+        with contextlib.suppress(OSError):
             stream.close()
 
-    def serve(self, stream: socket.socket) -> None:
-        """Serve a reader until it leaves, or the device is away."""
-        raise NotImplementedError
-
     def close(self) -> None:
-        super().close()
-        self.listener.close()
+        Faulty.close(self)
+        bridge.Listening.close(self)
 
 
 class FaultyModbus(FaultyTcp):

@@ -147,7 +147,7 @@ def reads_odd_answers() -> None:
 def reads_one_odd(
     name: str, folder: str, answers: odd_modbus.Answers, least: int, most: int
 ) -> None:
-    server = odd_modbus.OddModbus(bridge.HOST, answers)
+    server = odd_modbus.OddModbus(answers)
     command = [f"{READERS}/modbus", "--tcp", f"{bridge.HOST}:{server.port}", "--address", "0"]
     streams = {"stdout": subprocess.PIPE, "stderr": subprocess.DEVNULL}
     reader = begun(command, text=True, env=with_pymodbus(folder), **streams)
@@ -176,7 +176,7 @@ def comes_back() -> None:
 
 
 def comes_back_after(name: str, period: float, off: float) -> None:
-    device = SirDevice(bridge.HOST, period)
+    device = SirDevice(period)
     command = [f"{READERS}/text", "--tcp", f"{bridge.HOST}:{device.port}", "--preset", "sir"]
     reader = begun(command, stdout=subprocess.PIPE, stderr=subprocess.DEVNULL, text=True)
     lines: list[tuple[float, str]] = []
