@@ -20,34 +20,37 @@ from typing import Any
 from checks.lib.case import Check
 from checks.lib.installed import install
 
-SETUP = """bridge = "WB01"
-after_minutes = 1
-counter = "127.0.0.1:{counter}"
-office = "127.0.0.1:{office}"
-night = false
-network_time = false
-disks = ["{box}"]
-least_free_mb = 1
-[[to]]
-name = "chat"
-kind = "webhook"
-url = "http://127.0.0.1:{hook}/hook"
-allow_http = true
-headers = {{ Authorization = "Bearer S3cret" }}
-[[to]]
-name = "owner"
-kind = "mail"
-address = "owner@example.com"
-from = "bridge@example.com"
-program = "{box}/sendmail"
-[[to]]
-name = "duty"
-kind = "sms"
-url = "http://127.0.0.1:{hook}/sms?key=S3cret"
-allow_http = true
-number = "+491701234567"
-body = {{ to = "{{to}}", text = "{{text}}" }}
-"""
+SETUP = "\n".join(
+    [
+        'bridge = "WB01"',
+        "after_minutes = 1",
+        'counter = "127.0.0.1:{counter}"',
+        'office = "127.0.0.1:{office}"',
+        "night = false",
+        "network_time = false",
+        'disks = ["{box}"]',
+        "least_free_mb = 1",
+        "[[to]]",
+        'name = "chat"',
+        'kind = "webhook"',
+        'url = "http://127.0.0.1:{hook}/hook"',
+        "allow_http = true",
+        'headers = {{ Authorization = "Bearer S3cret" }}',
+        "[[to]]",
+        'name = "owner"',
+        'kind = "mail"',
+        'address = "owner@example.com"',
+        'from = "bridge@example.com"',
+        'program = "{box}/sendmail"',
+        "[[to]]",
+        'name = "duty"',
+        'kind = "sms"',
+        'url = "http://127.0.0.1:{hook}/sms?key=S3cret"',
+        "allow_http = true",
+        'number = "+491701234567"',
+        'body = {{ to = "{{to}}", text = "{{text}}" }}',
+    ]
+)
 SENDMAIL = """#!/bin/sh
 echo "arguments: $*" >>{box}/mails
 cat >>{box}/mails

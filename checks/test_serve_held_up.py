@@ -111,7 +111,7 @@ class ServeHeldUp(Check):
     seconds = 90
 
     def start(self, converter: bridge.Converter, *options: str, entries: int = 0) -> bridge.Service:
-        """Start a service over a journal of so many old entries."""
+        """Start a service over a journal that has this number of old entries."""
         file = os.path.join(self.folder(), "journal.db")
         if entries:
             make_journal(file, entries, 400 * DAY)
