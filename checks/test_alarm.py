@@ -14,6 +14,7 @@ import os
 import subprocess
 import threading
 import time
+from pathlib import Path
 from typing import Any
 
 from checks.lib.case import Check
@@ -101,34 +102,27 @@ class Bridge:
         self.write("sendmail", SENDMAIL.format(box=box), 0o700)
 
     def write(self, name: str, text: str, mode: int) -> None:
-        path = os.path.join(self.box, name)
-        with open(path, "w", encoding="ascii") as file:
-            file.write(text)
-        os.chmod(path, mode)
+        path = Path(self.box, name)
+        path.write_text(text, encoding="ascii")
+        path.chmod(mode)
 
     def run(self, *words: str) -> tuple[int, str]:
         more = ["--setup", f"{self.box}/setup.toml", "--state", f"{self.box}/state"]
-        ran = subprocess.run(
-            [self.script, *words, *more], capture_output=True, text=True, timeout=120
-        )
+        command = [self.script, *words, *more]
+        ran = subprocess.run(command, capture_output=True, text=True, timeout=120)
         return ran.returncode, ran.stdout + ran.stderr
 
     def minute(self) -> tuple[int, str]:
         """Look as if the last look was a minute ago."""
-        path = os.path.join(self.box, "state", "state.json")
-        with open(path, encoding="utf-8") as file:
-            state = json.load(file)
+        path = Path(self.box, "state", "state.json")
+        state = json.loads(path.read_text(encoding="utf-8"))
         state["uptime"] = max(0.0, state["uptime"] - 60)
-        with open(path, "w", encoding="utf-8") as file:
-            json.dump(state, file)
+        path.write_text(json.dumps(state), encoding="utf-8")
         return self.run("run")
 
     def mails(self) -> str:
-        try:
-            with open(os.path.join(self.box, "mails"), encoding="ascii") as file:
-                return file.read()
-        except FileNotFoundError:
-            return ""
+        path = Path(self.box, "mails")
+        return path.read_text(encoding="ascii") if path.exists() else ""
 
 
 def health(*faults: str) -> bytes:

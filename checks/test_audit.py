@@ -9,6 +9,7 @@ import os
 import re
 import subprocess
 import sys
+from pathlib import Path
 
 from checks import TOP
 from checks.lib.case import Check
@@ -17,19 +18,11 @@ from checks.lib.installed import install
 
 def by_hand(path: str) -> int:
     """Return the status of the program that inspection.md gives for a check by another hand."""
-    with open(TOP / "docs" / "inspection.md", encoding="utf-8") as file:
-        found = re.search(r"^python3 - trail\.jsonl << 'END'\n(.*?)^END$", file.read(), re.M | re.S)
+    page = (TOP / "docs" / "inspection.md").read_text(encoding="utf-8")
+    found = re.search(r"^python3 - trail\.jsonl << 'END'\n(.*?)^END$", page, re.M | re.S)
     assert found is not None, "inspection.md has no check of the trail by another hand"
     words = [sys.executable, "-I", "-", path]
     return subprocess.run(words, input=found[1], capture_output=True, text=True).returncode
-
-
-def changed(path: str, data: bytes, script: str) -> tuple[int, int]:
-    """Return what the program and the other hand find in these bytes."""
-    with open(path, "wb") as file:
-        file.write(data)
-    ran = subprocess.run([script, "check", "--file", path], capture_output=True)
-    return ran.returncode, by_hand(path)
 
 
 class Audit(Check):
@@ -38,21 +31,23 @@ class Audit(Check):
     def setUp(self) -> None:
         box = self.folder()
         self.script, self.state = install(box, "audit", "night", "support"), f"{box}/state"
-        self.path, self.copy = f"{self.state}/trail.jsonl", f"{box}/copy"
+        self.path, self.copy = Path(self.state, "trail.jsonl"), Path(box, "copy")
         os.mkdir(self.state)
 
     def collect(self) -> None:
-        ran = subprocess.run(
-            [self.script, "collect", "--state", self.state], capture_output=True, text=True
-        )
+        words = [self.script, "collect", "--state", self.state]
+        ran = subprocess.run(words, capture_output=True, text=True)
         self.assertEqual((0, ""), (ran.returncode, ran.stderr), "a look")
 
-    def trail(self) -> bytes:
-        with open(self.path, "rb") as file:
-            return file.read()
+    def run_script(self, *words: str) -> tuple[int, str]:
+        """Return the status of the script, and what it prints."""
+        ran = subprocess.run([self.script, *words], capture_output=True, text=True)
+        return ran.returncode, ran.stdout
 
     def found(self, data: bytes) -> tuple[int, int]:
-        return changed(self.copy, data, self.script)
+        """Return what the program and the other hand find in these bytes."""
+        self.copy.write_bytes(data)
+        return self.run_script("check", "--file", str(self.copy))[0], by_hand(str(self.copy))
 
     def test_tests_of_the_part(self) -> None:
         self.passes_unittest("audit")
@@ -60,37 +55,30 @@ class Audit(Check):
     def test_trail(self) -> None:
         self.collect()
         self.collect()
-        data = self.trail()
+        data = self.path.read_bytes()
         self.same("a look without news adds no line", 1, data.count(b"\n"))
         # a setup of this test makes more lines; the trail isn't changed, only added to
         for number in range(2):
             os.remove(f"{self.state}/last.json")
-            with open(self.path, "ab") as file:
-                file.write(b"x" * number + b"cut")
+            self.path.write_bytes(self.path.read_bytes() + b"x" * number + b"cut")
             self.collect()
-        longer = self.trail()
+        longer = self.path.read_bytes()
         self.same("nothing that was written is changed", data, longer[: len(data)])
         # without what was torn, which the other hand calls a line that doesn't fit
         self.same("the program accepts what a cut left", 0, self.found(longer)[0])
-        with open(self.copy, "wb") as file:
-            file.write(longer)
-        with open(self.path, "wb") as file:
-            file.write(data)
-        words = [self.script, "check", "--file", self.path, "--against", self.copy]
-        ran = subprocess.run(words, capture_output=True, text=True)
-        self.same("a cut end", (1, True), (ran.returncode, "its end was cut off" in ran.stdout))
+        self.path.write_bytes(data)
+        words = ("--file", str(self.path), "--against", str(self.copy))
+        status, said = self.run_script("check", *words)
+        self.same("a cut end", (1, True), (status, "its end was cut off" in said))
 
     def test_changes(self) -> None:
         self.collect()
-        data = self.trail()
+        data = self.path.read_bytes()
         lines = data.splitlines(keepends=True)
         self.same("a whole trail", (0, 0), self.found(data))
         for at in (2, len(data) // 2, len(data) - 5):
             byte = bytes([data[at] ^ 1])
             self.same(f"byte {at} changed", (1, 1), self.found(data[:at] + byte + data[at + 1 :]))
         self.same("a line twice", (1, 1), self.found(lines[0] + lines[0]))
-        words = [self.script, "show", "--file", self.path]
-        shown = subprocess.run(words, capture_output=True, text=True)
-        self.same(
-            "it is shown", (0, True), (shown.returncode, "The chain is whole" in shown.stdout)
-        )
+        status, said = self.run_script("show", "--file", str(self.path))
+        self.same("it is shown", (0, True), (status, "The chain is whole" in said))

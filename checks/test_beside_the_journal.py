@@ -19,7 +19,6 @@ unchanged. A start reports the zero that it forgot.
 """
 
 import contextlib
-import hashlib
 import os
 import random
 import shutil
@@ -28,17 +27,17 @@ import subprocess
 import tempfile
 import threading
 import time
+from pathlib import Path
 
 from checks.lib import bridge
 from checks.lib.case import PROGRAM, Check, many, skip_without
-from checks.lib.journal import digest_of, make_journal
+from checks.lib.journal import ZEROS, change, digest_of, make_journal, newest_line
 from checks.lib.program import PROGRAM as BUILT
 from checks.lib.program import printed
 from checks.lib.showing import fail, ok, same
 
 Said = tuple[int, str, str]  # the status of a run, and what it printed and reported
 RATES = [10.0, 50.0]
-ZEROS = "0" * 64
 ENDS = ("", "-wal", "-newest")
 LOOKS = {
     "check": ["check"],
@@ -47,52 +46,33 @@ LOOKS = {
 }
 
 
-def line_of(number: int, digest: str) -> str:
-    text = f"newest {number:010} {digest}"
-    return f"{text} {hashlib.sha256(text.encode()).hexdigest()}\n"
-
-
-def read(path: str) -> bytes | None:
-    if not os.path.exists(path):
-        return None
-    with open(path, "rb") as it:
-        return it.read()
-
-
-def write(path: str, data: bytes) -> None:
-    with open(path, "wb") as it:
-        it.write(data)
-
-
 def newest(path: str) -> int:
     """Return the number that the witness has."""
-    if (witness := read(path + "-newest")) is None:
-        fail(f"{path} has no witness")
-    return max(
-        int(it[7:17])
-        for it in witness.decode().splitlines(keepends=True)
-        if it == line_of(int(it[7:17]), it[18:82])
-    )
+    lines = Path(path + "-newest").read_text(encoding="ascii").splitlines(keepends=True)
+    return max(int(it[7:17]) for it in lines if it == newest_line(int(it[7:17]), it[18:82]))
+
+
+def write(path: str, text: str) -> None:
+    Path(path).write_text(text, encoding="ascii")
+
+
+def show_check(what: str, path: str, wanted: str, status: int = 0, said: str = "") -> None:
+    """Show what a check says of a journal."""
+    same(what, (status, f"{wanted}\n", said), printed("check", "--file", path))
 
 
 def start(path: str, rate: float, *words: str) -> bridge.Service:
     """Start a service whose bridge has a vehicle on it and off it by turns."""
-    return bridge.Service(
-        BUILT,
-        path,
-        bridge.Converter(rate, lambda number: number // 8 % 2 * 9_170),
-        "--pace",
-        f"{rate:.0f}",
-        *words,
-    )
+    converter = bridge.Converter(rate, lambda number: number // 8 % 2 * 9_170)
+    return bridge.Service(BUILT, path, converter, "--pace", f"{rate:.0f}", *words)
 
 
 def weigh(service: bridge.Service, number: int) -> str:
-    """Asks for an entry of this number until it is stored, and gives its slip or ticket."""
+    """Ask for an entry of this number until it is stored. Return the title of its slip or ticket, without `WEIGHING`."""
     body = f"key=W{number}&kind={['second', 'first'][number % 2]}&plate=P-{(number + 1) // 2}"
     while True:
         if (answer := bridge.post(service, "/weighings", body)) and answer[0] == 201:
-            return answer[1]
+            return answer[1].split("\n")[0].removeprefix("WEIGHING ")
 
 
 def stop(service: bridge.Service) -> str:
@@ -106,11 +86,7 @@ def weighed(path: str, rate: float, numbers: range) -> str:
     """Weigh these numbers at a service, and kill it."""
     service = start(path, rate)
     for number in numbers:
-        same(
-            f"entry {number} is {number}",
-            str(number),
-            weigh(service, number).split("\n")[0].split()[2],
-        )
+        same(f"entry {number} is {number}", str(number), weigh(service, number).split()[1])
     return stop(service)
 
 
@@ -127,51 +103,37 @@ def put_back(path: str, folder: str, ends: tuple[str, ...] = ENDS[:2]) -> None:
 
 def started(path: str) -> Said:
     """Return what a start says; a converter of one line ends it."""
+    terminal, office = (f"{bridge.HOST}:{bridge.free_port()}" for _ in range(2))
     with tempfile.NamedTemporaryFile("w") as it:
         it.write("lost\n")
         it.flush()
-        words = [
-            "--terminal",
-            f"{bridge.HOST}:{bridge.free_port()}",
-            "--office",
-            f"{bridge.HOST}:{bridge.free_port()}",
-            "--converter",
-            it.name,
-        ]
+        words = ["--terminal", terminal, "--office", office, "--converter", it.name]
         return printed("serve", "--file", path, *words)
 
 
 def show_accepted(what: str, path: str, count: int, said: str = "") -> None:
     """Show that a check answers and writes nothing, that a start is accepted, and that then the witness is the newest entry's."""
-    before = {end: read(path + end) for end in ENDS}
-    same(
-        f"{what}: a check",
-        (0, f"SOUND {count}\n", said),
-        printed("check", "--file", path),
-    )
-    same(f"{what}: and it writes nothing", before, {end: read(path + end) for end in ENDS})
+    before = files_next_to(path)
+    show_check(f"{what}: a check", path, f"SOUND {count}", said=said)
+    same(f"{what}: and it writes nothing", before, files_next_to(path))
     same(f"{what}: a start", (0, "turns 1\n", said), started(path))
     same(f"{what}: only for its owner", 0o600, os.stat(path + "-newest").st_mode & 0o777)
 
 
-def refusal(words: list[str], path: str) -> tuple[Said, dict[str, bytes | None]]:
-    """Return what a look says, and everything in the folder after it."""
-    return printed(*words, "--file", path), {
-        it: read(os.path.join(os.path.dirname(path), it))
-        for it in os.listdir(os.path.dirname(path))
-        if not os.path.isdir(os.path.join(os.path.dirname(path), it))
-    }
+def files_next_to(path: str) -> dict[str, bytes]:
+    """Return everything in the folder of a journal."""
+    return {it.name: it.read_bytes() for it in Path(path).parent.iterdir() if it.is_file()}
 
 
 def show_refused(what: str, path: str, wanted: str) -> None:
     """Show that a check and both exports refuse it by this line, and change nothing; so does a start, and changes no entry."""
-    _, before = refusal(["--version"], path)
+    before = files_next_to(path)
     for name, words in LOOKS.items():
-        told, after = refusal(words, path)
-        same(f"{what}: nothing is changed by the {name}", before, after)
+        told = printed(*words, "--file", path)
+        same(f"{what}: nothing is changed by the {name}", before, files_next_to(path))
         same_refusal(f"{what}: the {name}", told, wanted)
     same_refusal(f"{what}: a start", started(path), wanted)
-    same_refusal(f"{what}: a check after it", refusal(["check"], path)[0], wanted)
+    same_refusal(f"{what}: a check after it", printed("check", "--file", path), wanted)
 
 
 def same_refusal(what: str, told: Said, wanted: str) -> None:
@@ -191,12 +153,10 @@ def show_kills(folder: str, rate: float) -> None:
         service = start(path, rate)
 
         def ask() -> None:
-            try:
+            with contextlib.suppress(OSError, ValueError):
                 while True:
                     weigh(service, answered[0] + 1)
                     answered[0] += 1
-            except (OSError, ValueError):
-                pass
 
         asking = threading.Thread(target=ask, daemon=True)
         asking.start()
@@ -228,17 +188,12 @@ def show_restores(folder: str, rate: float) -> None:
     newer = os.path.join(folder, "newer")
     copied(path, newer)
     put_back(path, older)
-    show_refused(
-        f"{name}: older files",
-        path,
-        f"{path}: its newest entry is 3, but {path}-newest recorded that 5 was answered",
-    )
+    behind = f"but {path}-newest recorded that 5 was answered"
+    show_refused(f"{name}: older files", path, f"{path}: its newest entry is 3, {behind}")
     show_no_log(name, path, newer)
     put_back(path, newer)
     os.remove(path + "-wal")
-    show_refused(
-        f"{name}: a log that is gone", path, f"but {path}-newest recorded that 5 was answered"
-    )
+    show_refused(f"{name}: a log that is gone", path, behind)
     put_back(path, newer)
     show_accepted(f"{name}: the newer files again", path, 5)
     put_back(path, older, ENDS)
@@ -250,11 +205,7 @@ def show_restores(folder: str, rate: float) -> None:
     show_refused_not(f"{name}: older files without the witness", path, 3)
     same(f"{name}: which is made", 3, newest(path))
     service = start(path, rate)
-    same(
-        f"{name}: and the numbers are given again",
-        "4",
-        weigh(service, 15).split("\n")[0].split()[2],
-    )
+    same(f"{name}: and the numbers are given again", "SLIP 4", weigh(service, 15))
     stop(service)
     put_back(path, newer, ENDS)
 
@@ -267,29 +218,18 @@ def show_no_log(name: str, path: str, newer: str) -> None:
     for what, words in LOOKS.items():
         status, out, err = printed(*words, "--file", half)
         same(f"{name}: a copy without its log, {what}", (0, none), (status, err))
-    same(
-        f"{name}: it says what it said",
-        (0, "SOUND 0\n"),
-        printed("check", "--file", half)[:2],
-    )
+    show_check(f"{name}: it says what it said", half, "SOUND 0", said=none)
     shutil.copy(os.path.join(newer, os.path.basename(path)) + "-newest", f"{half}-newest")
-    status, out, err = printed("check", "--file", half)
     behind = f"{half}: its newest entry is 0, but {half}-newest recorded that 5 was answered. Entries whose tickets were given are missing. Keep all files: see troubleshooting.md, A journal that is behind\n"
-    same(
-        f"{name}: with its witness it is behind, by one line",
-        (1, "", f"{behind}store 2 disk\n"),
-        (status, out, err),
-    )
+    wanted = (1, "", f"{behind}store 2 disk\n")
+    what = f"{name}: with its witness it is behind, by one line"
+    same(what, wanted, printed("check", "--file", half))
     os.remove(f"{half}-newest")
     os.remove(half)
 
 
 def show_refused_not(what: str, path: str, count: int) -> None:
-    same(
-        f"{what}: a check",
-        (0, f"SOUND {count}\n", ""),
-        printed("check", "--file", path),
-    )
+    show_check(f"{what}: a check", path, f"SOUND {count}")
     same(f"{what}: makes none", False, os.path.exists(path + "-newest"))
     same(f"{what}: a start", (0, "turns 1\n", ""), started(path))
 
@@ -297,90 +237,62 @@ def show_refused_not(what: str, path: str, count: int) -> None:
 def show_witnesses(folder: str, rate: float) -> None:
     """Witnesses that say nothing, and one that can't be read."""
     path, name = os.path.join(folder, "served.db"), f"{rate:.0f} a second"
-    whole = (read(path + "-newest") or b"")[148:] * 2
+    witness = Path(path + "-newest")
+    whole = witness.read_text(encoding="ascii")[148:] * 2
     broken = f"{path}-newest: neither of its lines is whole, as after a power cut; the journal isn't compared with it\n"
-    for what, data, said in (
-        ("an empty witness", b"", ""),
-        ("one of zeros", bytes(296), broken),
+    for what, text, said in (
+        ("an empty witness", "", ""),
+        ("one of zeros", "\0" * 296, broken),
         ("one that was cut", whole[:100], broken),
     ):
-        write(path + "-newest", data)
+        write(str(witness), text)
         show_accepted(f"{name}: {what}", path, 5, said)
-        same(f"{name}: {what}: is made again", whole, read(path + "-newest"))
-    write(path + "-newest", line_of(4, ZEROS).encode() + line_of(6, ZEROS).encode()[:147] + b"!")
+        same(f"{name}: {what}: is made again", whole, witness.read_text(encoding="ascii"))
+    write(str(witness), newest_line(4, ZEROS) + newest_line(6, ZEROS)[:147] + "!")
     show_accepted(f"{name}: a witness of an older entry, and a torn line", path, 5)
-    os.remove(path + "-newest")
-    os.mkdir(path + "-newest")
+    witness.unlink()
+    witness.mkdir()
     for words in (["check"], ["export", "--what", "journal"]):
         status, out, err = printed(*words, "--file", path)
-        same(
-            f"{name}: a folder in its place, {words[0]}",
-            (1, "", True, "store 2 disk"),
-            (status, out, err.startswith(f"{path}-newest: "), err.splitlines()[-1]),
-        )
-    os.rmdir(path + "-newest")
-    write(path + "-newest", whole)
+        found = (status, out, err.startswith(f"{path}-newest: "), err.splitlines()[-1])
+        what = f"{name}: a folder in its place, {words[0]}"
+        same(what, (1, "", True, "store 2 disk"), found)
+    witness.rmdir()
+    write(str(witness), whole)
 
 
-def changed(path: str, other: str, *statements: str) -> str:
+def changed(path: str, other: str, *statements: str) -> None:
     """Make a copy of the journal in which these statements were run."""
     for end in ENDS:
         shutil.copy(path + end, other + end)
-    database = sqlite3.connect(other)
-    for it in statements:
-        database.execute(it)
-    database.commit()
-    database.close()
-    return other
+    change(other, *statements)
 
 
 def show_rows(folder: str, rate: float) -> None:
     """Rows that another hand deleted or changed."""
     path, name = os.path.join(folder, "served.db"), f"{rate:.0f} a second"
     other = os.path.join(folder, "changed.db")
-    changed(
-        path,
-        other,
-        "DELETE FROM journal WHERE number = 5",
-        "DELETE FROM open_weighing WHERE number = 5",
-    )
-    show_refused(
-        f"{name}: the newest row deleted",
-        other,
-        f"{other}: its newest entry is 4, but {other}-newest recorded that 5 was answered",
-    )
-    changed(path, other, "DELETE FROM journal WHERE number = 4")
-    same(
-        f"{name}: one before deleted",
-        (1, "DAMAGED 4\n", ""),
-        printed("check", "--file", other),
-    )
-    changed(path, other, "UPDATE journal SET gross_kg = 18360 WHERE number = 5")
-    same(
-        f"{name}: the newest row changed",
-        (1, "DAMAGED 5\n", ""),
-        printed("check", "--file", other),
-    )
-    changed(path, other, "UPDATE journal SET digest = 'no text' WHERE number = 5")
-    same(
-        f"{name}: its digest changed",
-        (1, "DAMAGED 5\n", ""),
-        printed("check", "--file", other),
-    )
-    database = sqlite3.connect(changed(path, other))
-    number, key, plate, moment, previous = database.execute(
-        "SELECT number, request_key, plate, moment, previous FROM journal WHERE number = 5"
-    ).fetchone()
-    database.close()
-    digest = digest_of(number, key, "first", plate, moment, 18_360, "-", previous=previous)
-    changed(
-        path, other, f"UPDATE journal SET gross_kg = 18360, digest = '{digest}' WHERE number = 5"
-    )
-    show_refused(
-        f"{name}: another sound entry in its place",
-        other,
-        f"{other}: entry 5 differs from the entry 5 that {other}-newest recorded",
-    )
+    deletes = [f"DELETE FROM {it} WHERE number = 5" for it in ("journal", "open_weighing")]
+    changed(path, other, *deletes)
+    behind = f"{other}: its newest entry is 4, but {other}-newest recorded that 5 was answered"
+    show_refused(f"{name}: the newest row deleted", other, behind)
+    for what, statement, number in (
+        ("one before deleted", "DELETE FROM journal WHERE number = 4", 4),
+        ("the newest row changed", "UPDATE journal SET gross_kg = 18360 WHERE number = 5", 5),
+        ("its digest changed", "UPDATE journal SET digest = 'no text' WHERE number = 5", 5),
+    ):
+        changed(path, other, statement)
+        show_check(f"{name}: {what}", other, f"DAMAGED {number}", 1)
+    changed(path, other)
+    with contextlib.closing(sqlite3.connect(other)) as database:
+        key, plate, moment, previous = database.execute(
+            "SELECT request_key, plate, moment, previous FROM journal WHERE number = 5"
+        ).fetchone()
+    digest = digest_of(5, key, "first", plate, moment, 18_360, "-", previous=previous)
+    heavier = f"UPDATE journal SET gross_kg = 18360, digest = '{digest}' WHERE number = 5"
+    changed(path, other, heavier)
+    differs = f"{other}: entry 5 differs from the entry 5 that {other}-newest recorded"
+    show_refused(f"{name}: another sound entry in its place", other, differs)
 
 
 def show_purged(folder: str, rate: float) -> None:
@@ -393,14 +305,12 @@ def show_purged(folder: str, rate: float) -> None:
     stop(service)
     same(f"{name}: the witness has a number that is spent", 20, newest(path))
     show_accepted(f"{name}: a journal that was purged", path, 0)
-    same(
-        f"{name}: then it has that number without a digest",
-        2 * line_of(20, ZEROS),
-        (read(path + "-newest") or b"").decode(),
-    )
+    witness = Path(path + "-newest").read_text(encoding="ascii")
+    what = f"{name}: then it has that number without a digest"
+    same(what, 2 * newest_line(20, ZEROS), witness)
     show_accepted(f"{name}: and once more", path, 0)
     service = start(path, rate)
-    same(f"{name}: the next entry is 21", "21", weigh(service, 31).split("\n")[0].split()[2])
+    same(f"{name}: the next entry is 21", "SLIP 21", weigh(service, 31))
     stop(service)
     same(f"{name}: and is witnessed", 21, newest(path))
 
@@ -409,19 +319,12 @@ def show_migrated(folder: str) -> None:
     """Show that a migration makes no witness, and accepts no file that has one."""
     old, new = os.path.join(folder, "version1.db"), os.path.join(folder, "version2.db")
     make_journal(old, 20, version=1)
-    write(new + "-newest", line_of(3, ZEROS).encode())
-    same(
-        "a new file with a witness",
-        (1, "", "store 8 not_empty\n"),
-        printed("migrate", "--file", old, "--to", new),
-    )
+    words = ["migrate", "--file", old, "--to", new]
+    write(new + "-newest", newest_line(3, ZEROS))
+    same("a new file with a witness", (1, "", "store 8 not_empty\n"), printed(*words))
     same("and nothing is made", False, os.path.exists(new))
     os.remove(new + "-newest")
-    same(
-        "a migration",
-        (0, "MIGRATED 20\n", ""),
-        printed("migrate", "--file", old, "--to", new),
-    )
+    same("a migration", (0, "MIGRATED 20\n", ""), printed(*words))
     same("makes no witness", False, os.path.exists(new + "-newest"))
     show_refused_not("a journal that was migrated", new, 20)
     same("the start makes the witness", 20, newest(new))
@@ -430,10 +333,15 @@ def show_migrated(folder: str) -> None:
 def show_zero(folder: str, rate: float) -> None:
     """Show what a start says of the zero that it forgot."""
     path, name = os.path.join(folder, "zero.db"), f"{rate:.0f} a second"
-    for load, kilograms in ((50, "100.0 kg above"), (-3, "6.0 kg below"), (0, "")):
+
+    def begin(load: int) -> tuple[bridge.Service, bridge.Terminal]:
+        """Start a service with this load on the bridge."""
         service = bridge.Service(BUILT, path, bridge.Played(rate), "--pace", f"{rate:.0f}")
         service.converter.put(load)
-        terminal = bridge.Terminal(service)
+        return service, bridge.Terminal(service)
+
+    for load, kilograms in ((50, "100.0 kg above"), (-3, "6.0 kg below"), (0, "")):
+        service, terminal = begin(load)
         same(f"{name}: zero is set at {load}", "Z A", terminal.ask("Z"))
         same(f"{name}: and shown", "S S          0 kg", terminal.ask("SI"))
         stop(service)
@@ -441,24 +349,16 @@ def show_zero(folder: str, rate: float) -> None:
         wanted = line if kilograms else ""
         same(f"{name}: the next start says so", (0, "turns 1\n", wanted), started(path))
         same(f"{name}: and the one after that nothing", (0, "turns 1\n", ""), started(path))
-        service = bridge.Service(BUILT, path, bridge.Played(rate), "--pace", f"{rate:.0f}")
-        service.converter.put(load)
-        terminal = bridge.Terminal(service)
-        same(f"{name}: it sets no zero", f"S S {(load + 5) // 10 * 20:10} kg", terminal.ask("SI"))
+        service, terminal = begin(load)
+        shown = f"S S {bridge.kg_of(load):10} kg"
+        same(f"{name}: it sets no zero", shown, terminal.ask("SI"))
         same(f"{name}: and reports nothing", "", stop(service))
-    write(path + "-zero", b"  12x\n")
+    write(path + "-zero", "  12x\n")
     status, _, err = started(path)
-    same(
-        f"{name}: a note that isn't whole",
-        (0, True),
-        (
-            status,
-            err.startswith(
-                f"{path}-zero: the note of the zero isn't whole, as after a power cut; "
-            ),
-        ),
-    )
-    same(f"{name}: is made again", b"       0\n", read(path + "-zero"))
+    broken = f"{path}-zero: the note of the zero isn't whole, as after a power cut; "
+    same(f"{name}: a note that isn't whole", (0, True), (status, err.startswith(broken)))
+    made = Path(path + "-zero").read_text(encoding="ascii")
+    same(f"{name}: is made again", "       0\n", made)
 
 
 def failing_writes(process: subprocess.Popen[str], path: str) -> subprocess.Popen[str]:
@@ -496,23 +396,14 @@ def show_unwritable(folder: str, rate: float) -> None:
     assert service.process.stderr is not None  # it is a pipe
     err = service.process.stderr.read()
     same(f"{name}: a witness that can't be written ends the service", 1, service.process.poll())
-    same(
-        f"{name}: and is named",
-        f"{path}-newest: it can't be written, so the newest entry isn't answered and nothing more is stored; start again, and repeat the request under its key\nstore 2 disk\n",
-        err,
-    )
+    named = f"{path}-newest: it can't be written, so the newest entry isn't answered and nothing more is stored; start again, and repeat the request under its key\nstore 2 disk\n"
+    same(f"{name}: and is named", named, err)
     same(f"{name}: the weighing isn't answered", [], [it for it in answers if it[0] == 201])
     same(f"{name}: the witness has the entry before", 1, newest(path))
     service = start(path, rate)
-    same(
-        f"{name}: the next start answers it", "WEIGHING TICKET 2", weigh(service, 2).splitlines()[0]
-    )
+    same(f"{name}: the next start answers it", "TICKET 2", weigh(service, 2))
     stop(service)
-    same(
-        f"{name}: it was stored once",
-        (0, "SOUND 2\n", ""),
-        printed("check", "--file", path),
-    )
+    show_check(f"{name}: it was stored once", path, "SOUND 2")
 
 
 class AtARate(Check):

@@ -8,7 +8,7 @@ digest and chained to the one before, and lacks no number between them. Of a dam
 fault, and none below it is. No run crashes or hangs. A file that is refused stays as it is, byte by byte.
 """
 
-import hashlib
+import contextlib
 import os
 import random
 import re
@@ -17,13 +17,14 @@ import sqlite3
 import subprocess
 import tempfile
 from collections import Counter
+from pathlib import Path
 from typing import Any
 
 from checks.lib import bridge
 from checks.lib.case import PROGRAM, Check, many
+from checks.lib.journal import digest_of
 from checks.lib.program import compiled
 from checks.lib.showing import fail
-from checks.lib.waiting import wait_until
 
 # The launcher would double the time of thousands of runs.
 BUILT = compiled()
@@ -46,21 +47,14 @@ def weigh(path: str, numbers: range) -> None:
     with bridge.Service(BUILT, path, converter) as service:
         for number in numbers:
             kind = ["first", "second"][number % 2]
-            body = f"key=K{number}&kind={kind}&plate=P-{number // 2 % 7}"
-            wait_until(
-                body,
-                lambda: bridge.post(service, "/weighings", body),
-                lambda it: it is not None and it[0] == 201,
-                pause=0,
-            )
+            bridge.weigh(service, f"key=K{number}&kind={kind}&plate=P-{number // 2 % 7}")
 
 
 def make_journals(path: str) -> list[Files]:
     """Return the files of a journal of 60 entries without a log, and of one with 11 more in the log."""
     weigh(path, range(60))
-    conn = sqlite3.connect(path)
-    conn.execute("PRAGMA wal_checkpoint(TRUNCATE)")
-    conn.close()
+    with contextlib.closing(sqlite3.connect(path)) as conn:
+        conn.execute("PRAGMA wal_checkpoint(TRUNCATE)")
     whole = {"": bytes_of(path) or b""}
     weigh(path, range(60, 71))
     both = {end: bytes_of(path + end) or b"" for end in ("", "-wal")}
@@ -78,9 +72,8 @@ def broken(chance: random.Random, data: bytes) -> bytes:
         return data[:place]
     if kind == 1:
         count = chance.choice([1, 4, 40, 400, 5_000])
-        return (
-            data[:place] + chance.randbytes(min(count, len(data) - place)) + data[place + count :]
-        )
+        other = chance.randbytes(min(count, len(data) - place))
+        return data[:place] + other + data[place + count :]
     if kind == 2:
         changed = bytearray(data)
         for _ in range(chance.choice([1, 1, 1, 2, 8, 64])):
@@ -90,8 +83,8 @@ def broken(chance: random.Random, data: bytes) -> bytes:
     if kind == 3:
         return data[:page] + bytes(min(PAGE, len(data) - page)) + data[page + PAGE :]
     if kind == 4:
-        other = chance.randrange(len(data)) // PAGE * PAGE
-        return data[:page] + data[other : other + PAGE] + data[page + PAGE :]
+        copied = chance.randrange(len(data)) // PAGE * PAGE
+        return data[:page] + data[copied : copied + PAGE] + data[page + PAGE :]
     if kind == 5:
         return data + chance.randbytes(chance.choice([1, PAGE]))
     return data[:place] + data[place + chance.choice([1, 7, PAGE]) :]
@@ -103,10 +96,7 @@ def run(*words: str) -> Ran:
 
 
 def bytes_of(path: str) -> bytes | None:
-    if not os.path.exists(path):
-        return None
-    with open(path, "rb") as it:
-        return it.read()
+    return Path(path).read_bytes() if os.path.exists(path) else None
 
 
 def rows_of(path: str) -> Rows | None:
@@ -130,22 +120,10 @@ def rows_of(path: str) -> Rows | None:
 def is_sound(row: tuple[Any, ...]) -> bool:
     """Return whether a row has the digest of its text."""
     number, key, kind, plate, moment, gross, preset, interval, most, serial, digest, previous = row
-    lines = [
-        "version 2",
-        f"number {number}",
-        f"key {key}",
-        f"kind {KINDS.get(kind)}",
-        f"plate {plate}",
-        f"moment {moment}",
-        f"gross {'-' if gross is None else gross}",
-        f"preset {'-' if preset is None else preset}",
-        f"interval {interval}",
-        f"max {most}",
-        f"serial {serial}",
-        f"previous {previous}",
-    ]
-    text = "".join(f"{line}\n" for line in lines)
-    return bool(hashlib.sha256(text.encode()).hexdigest() == digest)
+    weights = ("-" if it is None else it for it in (gross, preset))
+    protected = (number, key, str(KINDS.get(kind)), plate, moment, *weights)
+    setup = {"interval": interval, "most": most, "serial": serial, "previous": str(previous)}
+    return bool(digest_of(*protected, **setup) == digest)
 
 
 def judge_check(found: Ran, rows: Rows | None) -> str | None:
@@ -186,18 +164,15 @@ def is_at_fault(number: int, rows: Rows) -> bool:
     return is_faulty(number, rows) or KINDS.get(rows[number][2]) in ("second", "void")
 
 
-def judge_exports(word: str, journal: Ran, tickets: Ran, rows: Rows | None) -> bool:
+def judge_exports(word: str, exports: list[Ran], rows: Rows | None) -> bool:
     """Return whether the exports end as they must after what the check found."""
     if word in ("SOUND", "DAMAGED"):
+        journal, tickets = exports
         whole = journal[0] == 0 and journal[1].count("\n") == len(rows or {}) + 1
         refused = tickets == (1, "", "refused 17 damaged\n")
         return whole and (refused if word == "DAMAGED" else tickets[0] == 0 and tickets[2] == "")
-    return all(
-        end[0] == 1
-        and end[1] == ""
-        and LOG_TOLD.sub("", end[2]) == f"store {number_of(word)} {word}\n"
-        for end in (journal, tickets)
-    )
+    fault = (1, "", f"store {number_of(word)} {word}\n")
+    return all((status, out, LOG_TOLD.sub("", err)) == fault for status, out, err in exports)
 
 
 def number_of(word: str) -> int:
@@ -210,11 +185,9 @@ def try_one(path: str, chance: random.Random, files: Files) -> str:
     end = chance.choice(list(files))
     whole[end] = broken(chance, files[end])
     for name in ("", "-wal"):
-        if os.path.exists(path + name):
-            os.remove(path + name)
+        Path(path + name).unlink(missing_ok=True)
     for name, data in whole.items():
-        with open(path + name, "wb") as it:
-            it.write(data)
+        Path(path + name).write_bytes(data)
     rows = rows_of(path)
     found = run("check", "--file", path)
     word = judge_check(found, rows)
@@ -223,13 +196,10 @@ def try_one(path: str, chance: random.Random, files: Files) -> str:
     is_kept = word in ("foreign", "old_version") or LOG_TOLD.match(found[2])
     if is_kept and {name: bytes_of(path + name) for name in files} != whole:
         fail(f"a file that is refused as {word} was changed")
-    journal, tickets = run("export", "--file", path, "--what", "journal"), run(
-        "export", "--file", path, "--what", "tickets"
-    )
-    if not judge_exports(word, journal, tickets, rows):
-        fail(
-            f"after {word} the exports end with {journal[0]} {journal[2]!r}, {tickets[0]} {tickets[2]!r}"
-        )
+    exports = [run("export", "--file", path, "--what", what) for what in ("journal", "tickets")]
+    if not judge_exports(word, exports, rows):
+        ends = ", ".join(f"{status} {err!r}" for status, _, err in exports)
+        fail(f"after {word} the exports end with {ends}")
     return word
 
 

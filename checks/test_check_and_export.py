@@ -4,10 +4,11 @@
 another program.
 """
 
+import contextlib
 import os
-import shutil
 import sqlite3
 import subprocess
+from pathlib import Path
 
 from checks import TOP
 from checks.lib.case import PROGRAM, Check
@@ -35,15 +36,9 @@ DAMAGED = "refused 17 damaged\n"
 
 
 def rows_of(path: str) -> list[tuple[object, ...]]:
-    connection = sqlite3.connect(path)
-    found = [
-        row
-        for table in ("journal", "spent")
-        for row in connection.execute(f"SELECT * FROM {table}")
-    ]
-    found += connection.execute("PRAGMA integrity_check").fetchall()
-    connection.close()
-    return found
+    asked = ("SELECT * FROM journal", "SELECT * FROM spent", "PRAGMA integrity_check")
+    with contextlib.closing(sqlite3.connect(path)) as connection:
+        return [row for it in asked for row in connection.execute(it)]
 
 
 class CheckAndExport(Check):
@@ -83,19 +78,16 @@ class CheckAndExport(Check):
         self.same("its rows and its integrity after that", before, rows_of(sound))
 
     def test_damaged(self) -> None:
-        what, path = "a changed gross", self.made(
-            "damaged", "UPDATE journal SET gross_kg = 18360 WHERE number = 1"
-        )
+        what, changed = "a changed gross", "UPDATE journal SET gross_kg = 18360"
+        path = self.made("damaged", f"{changed} WHERE number = 1")
         text = JOURNAL_COLUMNS + FIRST.replace("18340", "18360") + SECOND
         self.says(what, CHECK, path, 1, "DAMAGED 1\n")
         self.says(what, JOURNAL, path, 0, text, f"{AS_IT_IS}DAMAGED 1\n")
         self.says(what, TICKETS, path, 1, err=DAMAGED)
         digest = "eba23531a9d727ecf55fe0311e70eb4482f3f871908d8e4fb0018b1c4730bb65"
+        again = f"{changed}, digest = '{digest}' WHERE number = 1"
         for what, statement in (
-            (
-                "a changed gross whose digest was made again",
-                f"UPDATE journal SET gross_kg = 18360, digest = '{digest}' WHERE number = 1",
-            ),
+            ("a changed gross whose digest was made again", again),
             ("a missing number", "UPDATE journal SET number = 3 WHERE number = 2"),
         ):
             path = self.made(what.replace(" ", "_"), statement)
@@ -104,7 +96,7 @@ class CheckAndExport(Check):
 
     def test_no_entries(self) -> None:
         path = os.path.realpath(os.path.join(self.box, "empty.db"))
-        open(path, "wb").close()
+        Path(path).touch()
         none = f"{path}: it has none of the tables of a journal, so no entry was checked; its entries may be in {path}-wal: copy both files: see operating.md, Back up the journal\n"
         what = "a file without a byte"
         self.says(what, CHECK, path, 0, "SOUND 0\n", none)
@@ -116,16 +108,14 @@ class CheckAndExport(Check):
     def test_no_journal(self) -> None:
         folder = os.path.join(self.box, "folder")
         os.mkdir(folder)
-        trace = os.path.join(folder, "trace")
-        with open(trace, "w", encoding="ascii") as file:
-            file.write("r 9170 4\nt SI\n")
+        trace = Path(folder, "trace")
+        trace.write_text("r 9170 4\nt SI\n", encoding="ascii")
         self.says_all("a file that isn't there", os.path.join(folder, "journal.db"), "2 disk")
         self.says_all("a folder that isn't there", f"{self.box}/none/journal.db", "2 disk")
         self.says_all("a folder", folder, "2 disk")
         self.same("files made", ["trace"], os.listdir(folder))
-        self.says_all("a file that is no database", trace, "2 disk")
-        with open(trace, encoding="ascii") as file:
-            self.same("the file after that", "r 9170 4\nt SI\n", file.read())
+        self.says_all("a file that is no database", str(trace), "2 disk")
+        self.same("the file after that", "r 9170 4\nt SI\n", trace.read_text(encoding="ascii"))
 
     def test_other_tables(self) -> None:
         about = os.path.join(self.box, "about.db")
@@ -135,12 +125,11 @@ class CheckAndExport(Check):
         self.says_all("a row with another kind", kind, "4 foreign")
         version = self.made("version", "UPDATE about SET value = 3")
         self.says_all("tables with another version", version, "4 foreign")
-        old, copy = os.path.join(self.box, "old.db"), os.path.join(self.box, "old.copy")
-        write_rows(old, [OLD_FIRST], OLD_TABLES)
-        shutil.copy(old, copy)
-        self.says_all("tables with version 1", old, "6 old_version")
-        with open(old, "rb") as file, open(copy, "rb") as before:
-            self.same("the file of version 1 after that", before.read(), file.read())
+        old = Path(self.box, "old.db")
+        write_rows(str(old), [OLD_FIRST], OLD_TABLES)
+        before = old.read_bytes()
+        self.says_all("tables with version 1", str(old), "6 old_version")
+        self.same("the file of version 1 after that", before, old.read_bytes())
 
     def test_held_by_another(self) -> None:
         path = self.made("held")
@@ -155,11 +144,9 @@ class CheckAndExport(Check):
         path = self.made("sound")
         for words in LOOKS:
             with open("/dev/full", "wb") as full:
+                command = [BUILT, *words, "--file", path]
                 ran = subprocess.run(
-                    [BUILT, *words, "--file", path],
-                    stdin=subprocess.DEVNULL,
-                    stdout=full,
-                    stderr=subprocess.PIPE,
+                    command, stdin=subprocess.DEVNULL, stdout=full, stderr=subprocess.PIPE
                 )
             ended = (ran.returncode, ran.stderr)
             self.same(" ".join(words), (1, b"write fault\n"), ended)

@@ -26,6 +26,7 @@ import re
 import subprocess
 import tempfile
 import time
+from pathlib import Path
 from typing import Any
 
 from checks import TOP
@@ -49,35 +50,21 @@ def rows_of(page: str, pattern: str) -> list[Any]:
 
 def check_refusals() -> None:
     """Show that each refusal and fault has its line, with its name, and that there is no other."""
-    wanted = set(rows_of("rules.md", r"^\| (\d+) \| `(\w+)` \|")) | {
-        ("15", "store"),
-        ("16", "no_ticket"),
-    }
+    wanted = {("15", "store"), ("16", "no_ticket")}
+    wanted |= set(rows_of("rules.md", r"^\| (\d+) \| `(\w+)` \|"))
     wanted |= set(rows_of("http.md", r"^\| \d \| (\d{3}) `(\w+)` \|"))
-    lines = [
-        line.split(" ", 2)
-        for line in read("clients", "refusals.txt").splitlines()
-        if not line.startswith(("#", "counter ", "json ", "retry "))
-    ]
-    same(
-        "numbers and names of refusals.txt",
-        sorted(wanted),
-        sorted((number, name) for number, name, _ in lines),
-    )
+    others = ("#", "counter ", "json ", "retry ")
+    lines = [it for it in read("clients", "refusals.txt").splitlines() if not it.startswith(others)]
+    named = sorted(tuple(line.split(" ", 2)[:2]) for line in lines)
+    same("numbers and names of refusals.txt", sorted(wanted), named)
     same("refusals in rules.md and http.md", 24, len(wanted))
     refusals = sorted((number, name) for number, name in wanted if len(number) < 3)
-    same(
-        "the refusals' table of operating.md",
-        refusals,
-        sorted(rows_of("operating.md", r"^\| `(\d+) (\w+)` \|")),
-    )
+    found = rows_of("operating.md", r"^\| `(\d+) (\w+)` \|")
+    same("the refusals' table of operating.md", refusals, sorted(found))
     statuses = {"2": "410", "15": "503", "16": "404"}
     found = rows_of("integrating.md", r"^\| `(\d+) (\w+)` \| (\d+) \|")
-    same(
-        "the refusals' table of integrating.md",
-        [(*it, statuses.get(it[0], "409")) for it in refusals],
-        sorted(found),
-    )
+    with_statuses = [(*it, statuses.get(it[0], "409")) for it in refusals]
+    same("the refusals' table of integrating.md", with_statuses, sorted(found))
 
 
 class Bridge(bridge.Closing):
@@ -103,11 +90,8 @@ class Bridge(bridge.Closing):
         """Return the keys of the journal, and show that it is sound."""
         answer = bridge.get(self.service, "/journal.csv")
         rows = answer[1].splitlines()[1:] if answer else []
-        same(
-            "the journal is sound",
-            (200, f"SOUND {len(rows)}\n"),
-            bridge.get(self.service, "/check"),
-        )
+        sound = (200, f"SOUND {len(rows)}\n")
+        same("the journal is sound", sound, bridge.get(self.service, "/check"))
         return [row.split(",")[1] for row in rows]
 
 
@@ -140,12 +124,8 @@ def ended(process: subprocess.Popen[str]) -> Ran:
 
 def refused(number: int) -> Ran:
     """Return what a client that is refused by this number ends with."""
-    line = next(
-        line
-        for line in read("clients", "refusals.txt").splitlines()
-        if line.startswith(f"{number} ")
-    )
-    return (1, "", line, "")
+    lines = read("clients", "refusals.txt").splitlines()
+    return (1, "", next(it for it in lines if it.startswith(f"{number} ")), "")
 
 
 def check_day(client: Client, it: Bridge) -> None:
@@ -164,11 +144,8 @@ def check_day(client: Client, it: Bridge) -> None:
     same(f"{name}: nothing to void", refused(13), client.run(port, "void", "CD-34"))
     second = client.run(port, "second", "AB-12")
     same(f"{name}: a second weighing with a key of its own", (0, "WEIGHING TICKET 2"), second[:2])
-    same(
-        f"{name}: its key has 20 characters",
-        True,
-        re.fullmatch("key [0-9a-f]{20}", second[2]) is not None,
-    )
+    is_key = re.fullmatch("key [0-9a-f]{20}", second[2]) is not None
+    same(f"{name}: its key has 20 characters", True, is_key)
     it.put(6500)
     third = client.run(port, "first", "CD-34")
     same(f"{name}: a first weighing with another key", (0, "WEIGHING SLIP 3"), third[:2])
@@ -178,25 +155,23 @@ def check_day(client: Client, it: Bridge) -> None:
     same(f"{name}: no plate", 2, client.run(port, "first")[0])
 
 
+def gateway_of(it: Bridge, plan: list[cutting.Step]) -> cutting.Gateway:
+    """Start a gateway before the office, which answers by this plan."""
+    gateway = cutting.Gateway(it.service.office, plan)
+    gateway.start()
+    return gateway
+
+
 def check_cuts(client: Client, it: Bridge) -> None:
     """Show that a request whose connection is cut again and again is stored once, and that its text is printed whole."""
     it.put(9170)
-    cuts = [0, 5, 12, 22, 60, 120, 145, -100, -1]
-    plan: list[cutting.Step] = [
-        cutting.unheard,
-        *map(cutting.cut, cuts),
-        cutting.unavailable(502),
-        cutting.unavailable(503),
-    ]
-    gateway = cutting.Gateway(it.service.office, plan)
-    gateway.start()
+    cuts = map(cutting.cut, (0, 5, 12, 22, 60, 120, 145, -100, -1))
+    plan = [cutting.unheard, *cuts, cutting.unavailable(502), cutting.unavailable(503)]
+    gateway = gateway_of(it, plan)
     found = client.run(gateway.port, "first", "EF-56", "K5")
     same(f"{client.name}: cut {len(plan)} times", (0, "WEIGHING SLIP 5"), found[:2])
-    same(
-        f"{client.name}: its text is whole",
-        client.run(it.service.office, "first", "EF-56", "K5")[3],
-        found[3],
-    )
+    whole = client.run(it.service.office, "first", "EF-56", "K5")[3]
+    same(f"{client.name}: its text is whole", whole, found[3])
     same(f"{client.name}: how often it asked", len(plan) + 1, len(gateway.seen))
     same(f"{client.name}: each time the same request", 1, len(set(gateway.seen)))
     same(f"{client.name}: entries of its key", 1, it.keys().count("K5"))
@@ -212,8 +187,7 @@ def check_strangers(client: Client, it: Bridge) -> None:
         cutting.unavailable(429, "too many requests"),
         cutting.unavailable(400, "fault 400 bad_request\n"),
     ]
-    gateway = cutting.Gateway(it.service.office, plan)
-    gateway.start()
+    gateway = gateway_of(it, plan)
     found = client.run(gateway.port, "second", "EF-56", "K6")
     same(f"{client.name}: strangers answered", (0, "WEIGHING TICKET 6"), found[:2])
     same(f"{client.name}: how often it asked them", len(plan) + 1, len(gateway.seen))
@@ -222,14 +196,10 @@ def check_strangers(client: Client, it: Bridge) -> None:
 
 def check_damaged(client: Client, it: Bridge) -> None:
     """Show that a client doesn't call a weighing refused of which the office can't say whether it is stored."""
-    gateway = cutting.Gateway(it.service.office, [cutting.unavailable(409, "refused 17 damaged\n")])
-    gateway.start()
+    gateway = gateway_of(it, [cutting.unavailable(409, "refused 17 damaged\n")])
     last = "look for the key K7 in the office's journal.csv, and call the operator"
-    same(
-        f"{client.name}: a damaged entry",
-        (3, "", last, ""),
-        client.run(gateway.port, "second", "EF-56", "K7"),
-    )
+    found = client.run(gateway.port, "second", "EF-56", "K7")
+    same(f"{client.name}: a damaged entry", (3, "", last, ""), found)
 
 
 def check_kill(client: Client, it: Bridge) -> None:
@@ -241,60 +211,42 @@ def check_kill(client: Client, it: Bridge) -> None:
         return b""
 
     it.put(9170)
-    gateway = cutting.Gateway(it.service.office, [killed])
-    gateway.start()
+    gateway = gateway_of(it, [killed])
     process = client.start(gateway.port, "first", "GH-78", "K8")
     it.service.process.wait(20)
     it.start()
     gateway.office = it.service.office
-    same(
-        f"{client.name}: the service was killed and started again",
-        (0, "WEIGHING SLIP 7"),
-        ended(process)[:2],
-    )
+    what = f"{client.name}: the service was killed and started again"
+    same(what, (0, "WEIGHING SLIP 7"), ended(process)[:2])
     same(f"{client.name}: entries of its key", 1, it.keys().count("K8"))
 
 
 def check_paper(it: Bridge) -> None:
     """Show that all of what operating.md pipes to lp comes, and that nothing of a refusal does."""
-    line = re.search(
-        r"^WEIGHBRIDGE=\S+ (/usr/share/weighbridge/clients/weigh\.sh first AB-12 \| lp)$",
-        read("docs", "operating.md"),
-        re.M,
-    )
+    installed = "/usr/share/weighbridge/clients"
+    pattern = rf"^WEIGHBRIDGE=\S+ ({installed}/weigh\.sh first AB-12 \| lp)$"
+    line = re.search(pattern, read("docs", "operating.md"), re.M)
     if line is None:
         fail("operating.md pipes nothing to lp")
+    own = line[1].replace(installed, str(TOP / "clients"))
     with tempfile.TemporaryDirectory() as folder:
-        with open(os.path.join(folder, "lp"), "w") as lp:
-            lp.write(f"#!/bin/sh\ncat >{folder}/paper\n")
-        os.chmod(lp.name, 0o755)
-        environment = {
-            **os.environ,
-            "PATH": f"{folder}:{os.environ['PATH']}",
-            "WEIGHBRIDGE": f"http://{bridge.HOST}:{it.service.office}",
-        }
-        words = (
-            line[1]
-            .replace("/usr/share/weighbridge/clients", str(TOP / "clients"))
-            .replace("AB-12", "LP-1 LP1")
-        )
+        lp, paper = Path(folder, "lp"), Path(folder, "paper")
+        lp.write_text(f"#!/bin/sh\ncat >{paper}\n", encoding="utf-8")
+        lp.chmod(0o755)
+        path, office = f"{folder}:{os.environ['PATH']}", f"{bridge.HOST}:{it.service.office}"
+        environment = {**os.environ, "PATH": path, "WEIGHBRIDGE": f"http://{office}"}
+
+        def printed(key: str) -> str:
+            words = ["sh", "-c", own.replace("AB-12", f"LP-1 {key}")]
+            subprocess.run(words, env=environment, capture_output=True, check=True)
+            return paper.read_text(encoding="utf-8")
+
         for what in ("the paper", "the same again"):
             it.put(9170)
-            subprocess.run(["sh", "-c", words], env=environment, capture_output=True, check=True)
-            with open(os.path.join(folder, "paper")) as paper:
-                same(
-                    f"lp: {what}",
-                    Client("weigh.py").run(it.service.office, "first", "LP-1", "LP1")[3],
-                    paper.read(),
-                )
-        subprocess.run(
-            ["sh", "-c", words.replace("LP1", "LP2")],
-            env=environment,
-            capture_output=True,
-            check=True,
-        )
-        with open(os.path.join(folder, "paper")) as paper:
-            same("lp: nothing of a refusal", "", paper.read())
+            found = printed("LP1")
+            slip = Client("weigh.py").run(it.service.office, "first", "LP-1", "LP1")[3]
+            same(f"lp: {what}", slip, found)
+        same("lp: nothing of a refusal", "", printed("LP2"))
 
 
 class Tables(Check):

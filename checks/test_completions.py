@@ -5,6 +5,7 @@ import os
 import re
 import subprocess
 from collections.abc import Callable
+from typing import Any
 
 from checks import TOP
 from checks.lib.case import PROGRAM, Check, skip_without
@@ -15,37 +16,28 @@ from checks.lib.program import PROGRAM as BUILT
 Offered = Callable[[str, str, list[str]], list[str]]
 
 
+def printed_by(*words: str, **how: Any) -> str:
+    return str(subprocess.run(words, capture_output=True, text=True, check=True, **how).stdout)
+
+
 def offered_by_bash(folder: str, name: str, words: list[str]) -> list[str]:
     """Return what bash offers for the last of these words."""
     function = "_" + name.replace("-", "_")
     script = f'source "{folder}/{name}"; shift; COMP_WORDS=("$@"); COMP_CWORD=$((${{#COMP_WORDS[@]}} - 1)); {function}; printf "%s\\n" "${{COMPREPLY[@]}}"'
-    done = subprocess.run(
-        ["bash", "-c", script, "bash", "words", name, *words],
-        capture_output=True,
-        text=True,
-        check=True,
-        cwd=folder,
+    return sorted(
+        printed_by("bash", "-c", script, "bash", "words", name, *words, cwd=folder).split()
     )
-    return sorted(done.stdout.split())
 
 
 def offered_by_fish(folder: str, name: str, words: list[str]) -> list[str]:
     script = f'source "{folder}/{name}.fish"; complete -C "{" ".join([name, *words])}"'
-    done = subprocess.run(
-        ["fish", "--no-config", "-c", script],
-        capture_output=True,
-        text=True,
-        check=True,
-        cwd=folder,
-        env={**os.environ, "HOME": folder},
-    )
-    return sorted(line.split("\t")[0] for line in done.stdout.splitlines())
+    own = {**os.environ, "HOME": folder}
+    said = printed_by("fish", "--no-config", "-c", script, cwd=folder, env=own)
+    return sorted(line.split("\t")[0] for line in said.splitlines())
 
 
 def options(program: str, *words: str) -> tuple[list[str], str]:
-    text = subprocess.run(
-        [program, *words, "--help"], capture_output=True, text=True, check=True
-    ).stdout
+    text = printed_by(program, *words, "--help")
     # the example after them may begin a line with an option too
     listed = text.split("\nExample")[0]
     return sorted(re.findall(r"^ +(?:-\w, )?(--[\w-]+)", listed, re.M)), text
@@ -64,13 +56,8 @@ def offered_by_zsh(folder: str, name: str, words: list[str]) -> list[str]:
     """Return what zsh's functions of completion get, for the last of these words."""
     command = words[0] if len(words) > 1 else ""
     given = {**os.environ, "STATE": "words" if command else "command", "COMMAND": command}
-    done = subprocess.run(
-        ["zsh", "-f", "-c", ZSH, "zsh", f"{folder}/_{name}"],
-        capture_output=True,
-        text=True,
-        check=True,
-        env=given,
-    )
+    script = ["zsh", "-f", "-c", ZSH, "zsh", f"{folder}/_{name}"]
+    done = subprocess.run(script, capture_output=True, text=True, check=True, env=given)
     if done.stderr:
         return [done.stderr]
     rows = done.stdout.split(f"arguments {command}\n")[-1].splitlines()
@@ -105,11 +92,9 @@ class Completions(Check):
             self.same(f"{shell}: the subcommands of {name}", commands, sorted({*found} - {"help"}))
             self.same(f"{shell}: the options of {name}", own, offered(folder, name, ["--"]))
             for command in commands:
-                self.same(
-                    f"{shell}: the options of {name} {command}",
-                    options(program, command)[0],
-                    offered(folder, name, [command, "--"]),
-                )
+                own, _ = options(program, command)
+                found = offered(folder, name, [command, "--"])
+                self.same(f"{shell}: the options of {name} {command}", own, found)
         for what, wanted, words in (
             ("what export may print", ["journal", "tickets"], ["export", "--what", ""]),
             ("files for --file", ["a_journal.db"], ["check", "--file", "a_j"]),

@@ -76,12 +76,12 @@ class Row:
     @property
     def proved(self) -> list[tuple[str, str, list[str]]]:
         """Return what is proved, as crate, call and the clauses that are named of it."""
-        found = []
-        for part in self.text("Proved").split(";"):
-            crate, _, calls = part.strip().partition(":")
-            for call, clauses in re.findall(r"`([^`]+)`(?: \(([^)]*)\))?", calls):
-                found.append((crate.strip(" `"), call, re.findall(r"`([^`]+)`", clauses)))
-        return found
+        parts = [it.strip().partition(":") for it in self.text("Proved").split(";")]
+        return [
+            (crate.strip(" `"), call, re.findall(r"`([^`]+)`", clauses))
+            for crate, _, calls in parts
+            for call, clauses in re.findall(r"`([^`]+)`(?: \(([^)]*)\))?", calls)
+        ]
 
 
 def rows_of(lines: list[str]) -> tuple[list[Row], list[Line]]:

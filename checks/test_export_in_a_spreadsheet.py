@@ -16,6 +16,7 @@ import io
 import os
 import subprocess
 import zipfile
+from pathlib import Path
 from xml.etree import ElementTree
 from xml.etree.ElementTree import Element
 
@@ -38,17 +39,13 @@ NUMBER_LIKE = ("007", "1E5", "MAR-10")
 
 def workbook(folder: str, text: str) -> list[Cells]:
     """Return the cells of the workbook that ssconvert makes of an export: a list of rows, each of its cells by column."""
-    export, book = os.path.join(folder, "export.csv"), os.path.join(folder, "export.xlsx")
-    with open(export, "w") as it:
-        it.write(text)
+    export, book = f"{folder}/export.csv", f"{folder}/export.xlsx"
+    Path(export).write_text(text, encoding="ascii")
     subprocess.run(["ssconvert", export, book], check=True, capture_output=True)
     with zipfile.ZipFile(book) as it:
         shared = "xl/sharedStrings.xml"
-        texts = (
-            [part.findtext(f"{SHEET}t") for part in ElementTree.fromstring(it.read(shared))]
-            if shared in it.namelist()
-            else []
-        )
+        parts = [*ElementTree.fromstring(it.read(shared))] if shared in it.namelist() else []
+        texts = [part.findtext(f"{SHEET}t") for part in parts]
         sheet = ElementTree.fromstring(it.read("xl/worksheets/sheet1.xml"))
     return [row_of(row, texts) for row in sheet.iter(f"{SHEET}row")]
 
@@ -112,8 +109,7 @@ class ExportInASpreadsheet(Check):
 
     def weigh(self, number: int, target: str, **form: str) -> None:
         """Put the next load onto the cleared bridge, and weigh it."""
-        self.service.put(0)
-        self.service.put(9170 - 100 * number)
+        self.service.next_vehicle(9170 - 100 * number)
         body = "&".join(f"{name}={value}" for name, value in {"key": f"K{number}", **form}.items())
         answer = bridge.post(self.service, target, body)
         self.assertEqual(201, answer and answer[0], f"{target} with the plate {form['plate']}")
@@ -124,9 +120,8 @@ class ExportInASpreadsheet(Check):
 
     def test_journal_of_a_bridge(self) -> None:
         folder = self.folder()
-        self.service = self.enterContext(
-            bridge.Service(BUILT, f"{folder}/journal.db", bridge.Played(100.0))
-        )
+        service = bridge.Service(BUILT, f"{folder}/journal.db", bridge.Played(100.0))
+        self.service = self.enterContext(service)
         self.weigh(1, "/weighings", kind="first", plate="AB-12")
         self.weigh(2, "/weighings", kind="first", plate="CD-34")
         self.weigh(3, "/weighings", kind="second", plate="AB-12")

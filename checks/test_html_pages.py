@@ -8,6 +8,7 @@ import re
 import subprocess
 import sys
 import tempfile
+from pathlib import Path
 from typing import Any, ClassVar
 from urllib.parse import unquote
 
@@ -53,8 +54,7 @@ class Page(html.parser.HTMLParser):
         self.anchors: set[str] = set()
         self.parts: list[str] = []
         self.inside = 0
-        with open(path, encoding="utf-8") as file:
-            self.feed(file.read())
+        self.feed(Path(path).read_text(encoding="utf-8"))
 
     def handle_starttag(self, tag: str, attrs: list[tuple[str, str | None]]) -> None:
         named = {name: value or "" for name, value in attrs}
@@ -99,12 +99,8 @@ def show_contents(pages: dict[str, Page]) -> None:
     wanted = {it.removesuffix(".md") for it in os.listdir(TOP / "docs") if it.endswith(".md")}
     there = {it.removesuffix(".html") for it in pages}
     same("each page of docs/ is there", [], sorted(wanted - there))
-    found = {
-        path: LEFT_OVER.findall("".join(page.parts))[:3]
-        for path, page in pages.items()
-        if LEFT_OVER.search("".join(page.parts))
-    }
-    same("no mark-up is left over", {}, found)
+    found = {path: LEFT_OVER.findall("".join(page.parts))[:3] for path, page in pages.items()}
+    same("no mark-up is left over", {}, {path: it for path, it in found.items() if it})
 
 
 class HtmlPages(Check):
@@ -112,16 +108,13 @@ class HtmlPages(Check):
 
     needs = ("mkdocs",)
     seconds = 30
-    work: ClassVar[tempfile.TemporaryDirectory[str]]
     site: ClassVar[str]
     pages: ClassVar[dict[str, Page]]
 
     @classmethod
     def setUpClass(cls) -> None:
         super().setUpClass()
-        cls.work = tempfile.TemporaryDirectory()
-        cls.addClassCleanup(cls.work.cleanup)
-        cls.site = f"{cls.work.name}/site"
+        cls.site = f"{cls.enterClassContext(tempfile.TemporaryDirectory())}/site"
         words = [sys.executable, str(TOP / "packaging" / "html"), cls.site]
         made = subprocess.run(words, capture_output=True, text=True)
         same("the pages are made", (0, ""), (made.returncode, made.stderr[-2000:]))
@@ -156,17 +149,11 @@ class HtmlPages(Check):
         browser = self.browser(1280)
         for query, page in QUERIES:
             browser.go(f"file://{self.site}/search.html?q={query.replace(' ', '+')}")
-            self.becomes(
-                f"the search for {query} finds {page}",
-                True,
-                lambda: any(f"/{page}" in it for it in browser.run(FOUND)),
-            )
+            what = f"the search for {query} finds {page}"
+            self.comes(what, lambda: any(f"/{page}" in it for it in browser.run(FOUND)))
         browser.go(f"file://{self.site}/search.html?q=nosuchwordatall")
-        self.becomes(
-            "the search for a word of no page",
-            "No page has all of these words.",
-            lambda: browser.run(f"return {RESULTS}.textContent.trim()"),
-        )
+        none, said = "No page has all of these words.", f"return {RESULTS}.textContent.trim()"
+        self.becomes("the search for a word of no page", none, lambda: browser.run(said))
 
     @skip_without("chromium", "chromedriver")
     def test_narrow_screen(self) -> None:

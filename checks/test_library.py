@@ -37,6 +37,7 @@ INLINE = {PREFIX + it for it in ("in", "lost", "reply_text", "error", "state")}
 CALLS = TOP / "checks/lib/library_calls.c"
 INCLUDES = "#include <weighbridge_terminal.h>\n"
 WARNINGS = "-Wall -Wextra -Wpedantic -Wold-style-cast -Wconversion -Wshadow -Wzero-as-null-pointer-constant"
+SANITIZERS = "-fsanitize=address,undefined -fno-sanitize-recover=all"
 DOXYFILE = """INPUT={header} {declarations}
 OUTPUT_DIRECTORY={box}/doxygen
 QUIET=YES
@@ -254,13 +255,8 @@ class Library(Check):
         self.same("under valgrind", self.lib.wanted, found)
         made = self.box / "made"
         shutil.copytree(self.lib.documents / "examples", made)
-        found = said(
-            "sh",
-            "-c",
-            "make -s && ./example",
-            cwd=made,
-            more={**self.lib.sysroot, **self.lib.loaded},
-        )
+        more = {**self.lib.sysroot, **self.lib.loaded}
+        found = said("sh", "-c", "make -s && ./example", cwd=made, more=more)
         self.same("by its Makefile", self.lib.wanted, found)
 
     @skip_without("cmake")
@@ -285,11 +281,7 @@ class Library(Check):
             ("in C", CALLS, "cc -std=c11 -Wall -Wextra -Wpedantic -Werror -g"),
             ("without assertions", CALLS, "cc -std=c11 -Wall -Wextra -Werror -O3 -DNDEBUG"),
             ("in C++", in_cc, "c++ -std=c++17 -Wall -Wextra -Werror"),
-            (
-                "with sanitizers",
-                CALLS,
-                "cc -std=c11 -g -fsanitize=address,undefined -fno-sanitize-recover=all",
-            ),
+            ("with sanitizers", CALLS, f"cc -std=c11 -g {SANITIZERS}"),
         ):
             self.same(f"each call, {name}", ok, self.run_by(source, *words.split()))
         program = self.compiled(CALLS, "cc", "-std=c11", "-g")
@@ -396,10 +388,8 @@ class Library(Check):
         run = ("qemu-aarch64", "-L", "/usr/aarch64-linux-gnu", "-E", f"LD_LIBRARY_PATH={libraries}")
         for ending in ("a", "so"):
             linked = libraries / f"libweighbridge-terminal.{ending}"
-            for source, wanted in (
-                (self.lib.example, self.lib.wanted),
-                (CALLS, "library_calls: ok"),
-            ):
+            programs = {self.lib.example: self.lib.wanted, CALLS: "library_calls: ok"}
+            for source, wanted in programs.items():
                 program = folder / "program"
                 compile = ("aarch64-linux-gnu-gcc", "-std=c11", f"-I{include}", "-o", program)
                 self.assertEqual("", said(*compile, source, linked))

@@ -21,43 +21,10 @@ from checks.lib.case import Check, many
 Parts = dict[str, Any]  # the parts of a setup
 Event = tuple[Any, ...]
 COMMANDS = [
-    "S",
-    "SI",
-    "SIR",
-    "SIR",
-    "Z",
-    "T",
-    "TA",
-    "TAC",
-    "@",
-    "I0",
-    "I4",
-    "s",
-    "",
-    "S ",
-    " S",
-    "SI\r",
-    "TA 5000 kg",
-    "TA 100 kg",
-    "TA 0.010 kg",
-    "TA 12.5 kg",
-    "TA 9.999 kg",
-    "TA 1 g",
-    "TA x",
-    "TA ",
-    "TA 60010 kg",
-    "TA 18340 kg",
-    "TA 9999999.999 kg",
-    "TA 00000001 kg",
-    "I1",
-    "TI",
-    "SIR 1",
-    "x" * 40,
-    "x" * 41,
-    "x" * 42,
-    "TA 0000001." + "0" * 40 + " kg",
-    "S\0",
-    "\xff",
+    *("S", "SI", "SIR", "SIR", "Z", "T", "TA", "TAC", "@", "I0", "I4", "s", "", "S ", " S", "SI\r"),
+    *("TA 5000 kg", "TA 100 kg", "TA 0.010 kg", "TA 12.5 kg", "TA 9.999 kg", "TA 1 g", "TA x"),
+    *("TA ", "TA 60010 kg", "TA 18340 kg", "TA 9999999.999 kg", "TA 00000001 kg", "I1", "TI"),
+    *("SIR 1", "x" * 40, "x" * 41, "x" * 42, "TA 0000001." + "0" * 40 + " kg", "S\0", "\xff"),
 ]
 PIECE = 500
 
@@ -96,22 +63,8 @@ def random_events(setup: Parts, made: random.Random) -> list[Event]:
     pick: Callable[[Sequence[Any]], Any] = made.choice
     whole, chance = made.randint, made.random
     count = setup["max_kg"] // setup["interval_kg"]
-    edges = [
-        0,
-        0,
-        0,
-        count // 5,
-        -(count // 5),
-        195,
-        200,
-        -205,
-        10 * count,
-        10 * count + 95,
-        9170,
-        4070,
-        2_000_000,
-        -2_000_000,
-    ]
+    edges = [0, 0, 0, count // 5, -(count // 5), 195, 200, -205, 10 * count, 10 * count + 95]
+    edges += [9170, 4070, 2_000_000, -2_000_000]
     calm = chance() < 0.7
     level = pick(edges)
     events: list[Event] = []
@@ -140,15 +93,8 @@ def random_events(setup: Parts, made: random.Random) -> list[Event]:
 
 
 def model_of(setup: Parts) -> station_model.Setup:
-    return station_model.Setup(
-        setup["interval_kg"],
-        setup["max_kg"],
-        setup["window"],
-        setup["band"],
-        setup["pace"],
-        setup["wait"],
-        setup["serial"],
-    )
+    parts = ("interval_kg", "max_kg", "window", "band", "pace", "wait", "serial")
+    return station_model.Setup(*(setup[it] for it in parts))
 
 
 def text_of(indication: Any) -> str:
@@ -211,10 +157,8 @@ class LibraryAgainstModel(Check):
     seconds = 600
 
     def test_histories(self) -> None:
-        ran = subprocess.run(
-            [TOP / "library" / "build"], check=True, stdout=subprocess.PIPE, text=True
-        )
-        library = os.path.join(ran.stdout.strip(), "libweighbridge-terminal.so.2")
+        built = subprocess.check_output([TOP / "library" / "build"], text=True).strip()
+        library = os.path.join(built, "libweighbridge-terminal.so.2")
         os.environ["WEIGHBRIDGE_TERMINAL_LIBRARY"] = library
         count = many(100_000)
         pieces = [range(at, min(at + PIECE, 1 + count)) for at in range(1, 1 + count, PIECE)]

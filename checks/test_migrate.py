@@ -26,6 +26,7 @@ removes one. It migrates a journal of 90,000 entries in less than 3 seconds, and
 times. WEIGHBRIDGE_VERSION_1 may name a program 1.0.0, which then makes that journal, in some twenty minutes.
 """
 
+import contextlib
 import os
 import random
 import resource
@@ -35,13 +36,14 @@ import subprocess
 import tempfile
 import time
 from collections.abc import Sequence
+from pathlib import Path
 from typing import Any
 
 import station_model
 
 from checks.lib import bridge, version_one
 from checks.lib.case import PROGRAM, Check, many
-from checks.lib.journal import ZEROS, digest_of, make_journal
+from checks.lib.journal import OLD_FIRST, OLD_TABLES, PAIR, ZEROS, change, digest_of, make_journal
 from checks.lib.program import compiled, printed
 from checks.lib.showing import fail, ok, same
 
@@ -59,26 +61,14 @@ JOURNAL_COLUMNS = (
 )
 TICKET_COLUMNS = "ticket,kind,plate,first,at,gross_kg,tare_kg,net_kg\n"
 
-# The tables of version 1 without that of open weighings, which is made at the first opening.
-TABLES = """
-CREATE TABLE about (name TEXT NOT NULL PRIMARY KEY, value INTEGER NOT NULL) STRICT;
-CREATE TABLE journal (number INTEGER PRIMARY KEY, request_key TEXT NOT NULL UNIQUE, kind INTEGER NOT NULL, plate TEXT NOT NULL, moment INTEGER NOT NULL, gross_kg INTEGER, preset_kg INTEGER, interval_kg INTEGER NOT NULL, max_kg INTEGER NOT NULL, serial TEXT NOT NULL, digest TEXT NOT NULL) STRICT;
-CREATE TABLE spent (request_key TEXT NOT NULL PRIMARY KEY, number INTEGER NOT NULL UNIQUE) STRICT;
-INSERT INTO about VALUES ('version', 1);"""
+# The table of open weighings, which is made at the first opening.
 OPEN_WEIGHING = "CREATE TABLE open_weighing (plate TEXT NOT NULL PRIMARY KEY, number INTEGER NOT NULL UNIQUE) STRICT;"
 
 # Entries without their digest: number, key, kind, plate, moment, gross and preset.
-WORKED: list[Entry] = [
-    (1, "K1", 1, "AB-12", MORNING, 18340, None),
-    (2, "K2", 2, "AB-12", MORNING + 5400, 8140, None),
-]
+WORKED: list[Entry] = [row[:7] for row in PAIR]
 WORKED_DIGESTS = [
-    "1ff0f144d39a8d0890cc2c886fab380c93a9dd98d1d16ca37031b262a56fd3b3",
+    OLD_FIRST[-1],
     "0cc09cd58f03a59c03e87a55f97d3a8262963dcfe6244de45c39d2f4c9e62d56",
-]
-CHAINED_DIGESTS = [
-    "a982a0aaef75f8622de6a96ef3a1d8ddd9de4bd18d9cda420eeb00dfbfcfa68c",
-    "b3b5f9b7b253a32759e7f7696c8248ad2d85333673358587ad599ef71b8e7d3e",
 ]
 MIXED: list[Entry] = [
     *WORKED,
@@ -89,20 +79,16 @@ MIXED: list[Entry] = [
 ]
 PURGED = [(300 + number, key, *rest) for number, key, *rest in MIXED]
 PURGED_KEYS = [(f"P{number}", number) for number in range(1, 301)]
+A_GAP = [WORKED[0], (3, *WORKED[1][1:])]
+OTHER_GROSS = "UPDATE journal SET gross_kg = 18360 WHERE number = {}"
+NO_KIND = "UPDATE journal SET kind = 5 WHERE number = 2"
 
 
 def protected(entry: Entry) -> tuple[Any, ...]:
     """Return the parts of an entry's text."""
-    number, key, kind, plate, moment, gross, preset = entry
-    return (
-        number,
-        key,
-        KINDS[kind],
-        plate,
-        moment,
-        "-" if gross is None else gross,
-        "-" if preset is None else preset,
-    )
+    number, key, kind, plate, moment, *weights = entry
+    shown_weights = ("-" if it is None else it for it in weights)
+    return number, key, KINDS[kind], plate, moment, *shown_weights
 
 
 def old_rows(entries: list[Entry]) -> list[tuple[Any, ...]]:
@@ -142,11 +128,10 @@ def at(moment: int) -> str:
 
 def journal_text(entries: list[Entry]) -> str:
     """Return the export of the journal of version 2 with these entries."""
-    lines = []
-    for number, key, kind, plate, moment, *rest in new_rows(entries):
-        lines.append(
-            ",".join([str(number), key, KINDS[kind], plate, at(moment), *map(shown, rest)]) + "\n"
-        )
+    lines = (
+        ",".join([str(number), key, KINDS[kind], plate, at(moment), *map(shown, rest)]) + "\n"
+        for number, key, kind, plate, moment, *rest in new_rows(entries)
+    )
     return JOURNAL_COLUMNS + "".join(lines)
 
 
@@ -155,18 +140,15 @@ def tickets_text(entries: list[Entry]) -> str:
     lines: list[str] = []
     first: dict[str, tuple[int, int]] = {}
     for number, _, kind, plate, moment, gross, preset in entries:
+        when = at(moment)
         if kind == 1:
             first[plate] = (number, gross)
         elif kind == 2:
             partner, weight = first.pop(plate)
             most, least = max(gross, weight), min(gross, weight)
-            lines.append(
-                f"{number},pair,{plate},{partner},{at(moment)},{most},{least},{most - least}\n"
-            )
+            lines.append(f"{number},pair,{plate},{partner},{when},{most},{least},{most - least}\n")
         elif kind == 3:
-            lines.append(
-                f"{number},preset,{plate},,{at(moment)},{gross},{preset},{gross - preset}\n"
-            )
+            lines.append(f"{number},preset,{plate},,{when},{gross},{preset},{gross - preset}\n")
         else:
             first.pop(plate, None)
     return TICKET_COLUMNS + "".join(lines)
@@ -185,7 +167,7 @@ def make(
     if in_log:
         conn.execute("PRAGMA journal_mode = WAL")
         conn.execute("PRAGMA wal_autocheckpoint = 0")
-    conn.executescript(TABLES + more)
+    conn.executescript(OLD_TABLES + more)
     conn.executemany("INSERT INTO journal VALUES (?,?,?,?,?,?,?,?,?,?,?)", rows)
     conn.executemany("INSERT INTO spent VALUES (?,?)", keys)
     conn.commit()
@@ -203,11 +185,10 @@ def contents(folder: str) -> dict[str, object]:
     for name in sorted(os.listdir(folder)):
         path = os.path.join(folder, name)
         it = os.lstat(path)
-        if not os.path.isfile(path):
-            found[name] = it.st_mode
-            continue
-        with open(path, "rb") as file:
-            found[name] = (file.read(), it.st_mtime_ns, it.st_uid, it.st_gid, it.st_mode)
+        found[name] = it.st_mode
+        if os.path.isfile(path):
+            data = Path(path).read_bytes()
+            found[name] = (data, it.st_mtime_ns, it.st_uid, it.st_gid, it.st_mode)
     return found
 
 
@@ -217,6 +198,10 @@ def run(*words: str) -> tuple[int, str, str]:
 
 def migrate(old: str, new: str) -> tuple[int, str, str]:
     return run("migrate", "--file", old, "--to", new)
+
+
+def mode_of(path: str) -> str:
+    return oct(os.stat(path).st_mode & 0o777)
 
 
 ALL_TABLES = ("about", "journal", "spent", "open_weighing")
@@ -229,15 +214,11 @@ def tables_of(path: str, names: tuple[str, ...] = ALL_TABLES) -> tuple[Any, ...]
         for end in ("", "-wal"):
             if os.path.exists(path + end):
                 shutil.copyfile(path + end, copy + end)
-        conn = sqlite3.connect(copy)
-        rows = [
-            conn.execute(
-                f"SELECT * FROM {name} ORDER BY {'number' if name != 'about' else 'name'}"
-            ).fetchall()
-            for name in names
-        ]
-        integrity = conn.execute("PRAGMA integrity_check").fetchone()[0]
-        conn.close()
+        with contextlib.closing(sqlite3.connect(copy)) as conn:
+            orders = ((name, "name" if name == "about" else "number") for name in names)
+            asked = [f"SELECT * FROM {name} ORDER BY {order}" for name, order in orders]
+            rows = [conn.execute(it).fetchall() for it in asked]
+            integrity = conn.execute("PRAGMA integrity_check").fetchone()[0]
     return integrity, *rows
 
 
@@ -246,24 +227,21 @@ class Folders:
 
     def __init__(self, folder: str, name: str) -> None:
         self.name = name
-        self.of_old, self.of_new = os.path.join(folder, name, "old"), os.path.join(
-            folder, name, "new"
-        )
+        self.of_old, self.of_new = f"{folder}/{name}/old", f"{folder}/{name}/new"
         os.makedirs(self.of_old)
         os.makedirs(self.of_new)
-        self.old, self.new = os.path.join(self.of_old, "journal.db"), os.path.join(
-            self.of_new, "journal.db"
-        )
+        self.old, self.new = f"{self.of_old}/journal.db", f"{self.of_new}/journal.db"
+
+    def words(self) -> list[str]:
+        """Return the command that migrates it."""
+        return [BUILT, "migrate", "--file", self.old, "--to", self.new]
 
     def refuses(self, what: str, fault: str) -> None:
         """Show that a migration is refused by the fault, and that both folders are as before."""
         before = contents(self.of_old), contents(self.of_new)
         same(f"{self.name}: {what}", (1, "", f"store {fault}\n"), migrate(self.old, self.new))
-        same(
-            f"{self.name}: both folders after that",
-            True,
-            before == (contents(self.of_old), contents(self.of_new)),
-        )
+        after = contents(self.of_old), contents(self.of_new)
+        same(f"{self.name}: both folders after that", True, before == after)
 
 
 def show_migrated(
@@ -286,20 +264,13 @@ def show_brought_over(it: Folders, entries: list[Entry], keys: Keys) -> None:
     before = contents(it.of_old)
     same(f"{name}: brought over", (0, f"MIGRATED {len(entries)}\n", ""), migrate(it.old, it.new))
     same(f"{name}: the old file and its folder after that", True, before == contents(it.of_old))
-    same(
-        f"{name}: what is in the new folder",
-        ["journal.db", "journal.db-wal"],
-        sorted(os.listdir(it.of_new)),
-    )
+    made = sorted(os.listdir(it.of_new))
+    same(f"{name}: what is in the new folder", ["journal.db", "journal.db-wal"], made)
     for end in ("", "-wal"):
-        same(
-            f"{name}: the mode of journal.db{end}",
-            "0o600",
-            oct(os.stat(it.new + end).st_mode & 0o777),
-        )
-    made = contents(it.of_new)
+        same(f"{name}: the mode of journal.db{end}", "0o600", mode_of(it.new + end))
+    before = contents(it.of_new)
     same(f"{name}: a second time", (1, "", "store 8 not_empty\n"), migrate(it.old, it.new))
-    same(f"{name}: the new folder after that", True, made == contents(it.of_new))
+    same(f"{name}: the new folder after that", True, before == contents(it.of_new))
     wanted = (
         "ok",
         [("version", 2)],
@@ -308,17 +279,12 @@ def show_brought_over(it: Folders, entries: list[Entry], keys: Keys) -> None:
         sorted(open_rows(entries), key=lambda row: row[1]),
     )
     same(f"{name}: its tables", wanted, tables_of(it.new))
-    same(f"{name}: its check", (0, f"SOUND {len(entries)}\n", ""), run("check", "--file", it.new))
-    same(
-        f"{name}: its journal",
-        (0, journal_text(entries), ""),
-        run("export", "--file", it.new, "--what", "journal"),
-    )
-    same(
-        f"{name}: its tickets",
-        (0, tickets_text(entries), ""),
-        run("export", "--file", it.new, "--what", "tickets"),
-    )
+    for what, text, words in (
+        ("check", f"SOUND {len(entries)}\n", ["check"]),
+        ("journal", journal_text(entries), ["export", "--what", "journal"]),
+        ("tickets", tickets_text(entries), ["export", "--what", "tickets"]),
+    ):
+        same(f"{name}: its {what}", (0, text, ""), run(*words, "--file", it.new))
 
 
 def entries_of(path: str) -> tuple[list[Entry], list[tuple[str, int]]]:
@@ -337,17 +303,13 @@ def show_real(folder: str, name: str, entries: int, keys: int) -> Folders:
     found = entries_of(it.old)
     same(f"{it.name}: its entries and spent keys", (entries, keys), (len(found[0]), len(found[1])))
     show_brought_over(it, *found)
-    same(
-        f"{it.name}: the tickets that 1.0.0 exported",
-        version_one.export_of(name, "tickets"),
-        tickets_text(found[0]),
+    exported = version_one.export_of(name, "tickets")
+    same(f"{it.name}: the tickets that 1.0.0 exported", exported, tickets_text(found[0]))
+    of_old, of_new = (
+        [line.split(",")[:10] for line in text.splitlines()]
+        for text in (version_one.export_of(name, "journal"), journal_text(found[0]))
     )
-    columns = [line.split(",")[:10] for line in version_one.export_of(name, "journal").splitlines()]
-    same(
-        f"{it.name}: ten columns of the journal that 1.0.0 exported",
-        columns,
-        [line.split(",")[:10] for line in journal_text(found[0]).splitlines()],
-    )
+    same(f"{it.name}: ten columns of the journal that 1.0.0 exported", of_old, of_new)
     show_tickets(it, found[0])
     return it
 
@@ -365,21 +327,15 @@ def show_tickets(it: Folders, entries: list[Entry]) -> None:
     tickets = [entry for entry in station.entries if entry.kind in ("second", "single")]
     with bridge.Service(BUILT, it.new, bridge.Played(), "--capacity", "1000") as service:
         found = [bridge.get(service, f"/tickets/{entry.number}") for entry in tickets]
-    same(
-        f"{it.name}: the texts of {len(tickets)} tickets",
-        [(200, station.text_of(entry)) for entry in tickets],
-        found,
-    )
+    wanted = [(200, station.text_of(entry)) for entry in tickets]
+    same(f"{it.name}: the texts of {len(tickets)} tickets", wanted, found)
 
 
 def show_real_refused(folder: str) -> None:
     """Show a journal of 1.0.0 of which an entry was changed, and one from which an entry was removed."""
+    heavier = "UPDATE journal SET gross_kg = gross_kg + 20 WHERE number = 290"
     for name, command, fault in (
-        (
-            "a changed gross",
-            "UPDATE journal SET gross_kg = gross_kg + 20 WHERE number = 290",
-            "9 damaged 290",
-        ),
+        ("a changed gross", heavier, "9 damaged 290"),
         ("an entry less", "DELETE FROM journal WHERE number = 292", "10 gap 292"),
     ):
         it = Folders(folder, f"{name}, of 1.0.0")
@@ -391,8 +347,7 @@ def show_real_refused(folder: str) -> None:
 def show_service(it: Folders, count: int, number: int, key: str, used: int = 409) -> None:
     """Show that a service continues in the new file with the next number, and knows a spent key."""
     with bridge.Service(BUILT, it.new, bridge.Played(200.0), "--capacity", "1000") as service:
-        service.put(0)
-        service.put(9170)
+        service.next_vehicle(9170)
         answer = bridge.post(service, "/weighings", f"key={key}&kind=first&plate=ZZ-1")
         same(f"{it.name}: a key that was used", used, answer and answer[0])
         status, body = bridge.post(service, "/weighings", "key=N1&kind=first&plate=ZZ-1") or (0, "")
@@ -400,82 +355,51 @@ def show_service(it: Folders, count: int, number: int, key: str, used: int = 409
         same(f"{it.name}: the next weighing", (201, f"WEIGHING SLIP {number}"), slip)
         checked = bridge.get(service, "/check")
         same(f"{it.name}: the check of the service", (200, f"SOUND {count + 1}\n"), checked)
-    rows = tables_of(it.new)[2]
-    same(
-        f"{it.name}: it is chained to the last one that was migrated",
-        rows[-2][-2],
-        rows[-1][-1],
-    )
+    *_, last, added = tables_of(it.new)[2]
+    same(f"{it.name}: it is chained to the last one that was migrated", last[-2], added[-1])
 
 
 def show_old_version(it: Folders) -> None:
     """Show that the other subcommands refuse the file of version 1, whose first file stays as it is."""
-    with open(it.old, "rb") as file:
-        before = file.read()
-    for words in (["check"], ["export", "--what", "journal"], ["export", "--what", "tickets"]):
-        same(
-            f"{' '.join(words)} of version 1",
-            (1, "", "store 6 old_version\n"),
-            run(*words, "--file", it.old),
-        )
-    words = [
-        "serve",
-        "--file",
-        it.old,
-        "--terminal",
-        "127.0.0.1:4001",
-        "--office",
-        "127.0.0.1:8080",
-        "--converter",
-        os.devnull,
-    ]
-    same("serve over version 1", (1, "", "store 6 old_version\n"), run(*words))
-    with open(it.old, "rb") as file:
-        same("the file of version 1 after that", True, before == file.read())
+    before = Path(it.old).read_bytes()
+    ports = "--terminal 127.0.0.1:4001 --office 127.0.0.1:8080"
+    for command in (
+        "check",
+        "export --what journal",
+        "export --what tickets",
+        f"serve {ports} --converter {os.devnull}",
+    ):
+        found = run(*command.split(), "--file", it.old)
+        same(f"{command} of version 1", (1, "", "store 6 old_version\n"), found)
+    same("the file of version 1 after that", True, before == Path(it.old).read_bytes())
 
 
 def show_refused(folder: str) -> None:
     """Show each file that is no sound journal of version 1 without a gap."""
-    it = Folders(folder, "a gap")
-    make(it.old, old_rows([WORKED[0], (3, *WORKED[1][1:])]))
-    it.refuses("numbers 1 and 3", "10 gap 2")
-
-    it = Folders(folder, "a changed gross")
-    make(it.old, old_rows(WORKED), more="")
-    change(it.old, "UPDATE journal SET gross_kg = 18360 WHERE number = 1")
-    it.refuses("entry 1", "9 damaged 1")
-
-    it = Folders(folder, "a Second without its First")
-    make(it.old, old_rows([WORKED[0], (2, "K2", 2, "CD-34", MORNING + 5400, 8140, None)]))
-    it.refuses("entry 2", "9 damaged 2")
-
-    it = Folders(folder, "damage above a gap")
-    make(it.old, old_rows([WORKED[0], (3, *WORKED[1][1:])]))
-    change(it.old, "UPDATE journal SET gross_kg = 18360 WHERE number = 3")
-    it.refuses("damage is named before a gap", "9 damaged 3")
-
-    it = Folders(folder, "a row that is none")
-    make(it.old, old_rows(WORKED))
-    change(it.old, "UPDATE journal SET kind = 5 WHERE number = 2")
-    it.refuses("another kind", "4 foreign")
+    alone = [WORKED[0], (2, "K2", 2, "CD-34", MORNING + 5400, 8140, None)]
+    for name, entries, command, what, fault in (
+        ("a gap", A_GAP, "", "numbers 1 and 3", "10 gap 2"),
+        ("a changed gross", WORKED, OTHER_GROSS.format(1), "entry 1", "9 damaged 1"),
+        ("a Second without its First", alone, "", "entry 2", "9 damaged 2"),
+        ("damage above a gap", A_GAP, OTHER_GROSS.format(3), "it is named first", "9 damaged 3"),
+        ("a row that is none", WORKED, NO_KIND, "another kind", "4 foreign"),
+        ("tables of version 3", WORKED, "UPDATE about SET value = 3", "version 3", "4 foreign"),
+    ):
+        it = Folders(folder, name)
+        make(it.old, old_rows(entries))
+        change(it.old, command)
+        it.refuses(what, fault)
 
     it = Folders(folder, "tables of version 2")
     make_journal(it.old, 3)
     it.refuses("version 2", "7 not_version_1")
 
-    it = Folders(folder, "tables of version 3")
-    make(it.old, old_rows(WORKED))
-    change(it.old, "UPDATE about SET value = 3")
-    it.refuses("version 3", "4 foreign")
-
     it = Folders(folder, "no tables")
-    with open(it.old, "wb"):
-        pass
+    Path(it.old).touch()
     it.refuses("a file without a byte", "7 not_version_1")
 
     it = Folders(folder, "no database")
-    with open(it.old, "w") as file:
-        file.write("r 9170 4\nt SI\n")
+    Path(it.old).write_text("r 9170 4\nt SI\n", encoding="ascii")
     it.refuses("a file of text", "2 disk")
     os.remove(it.old)
     it.refuses("no file", "2 disk")
@@ -492,23 +416,14 @@ def show_refused(folder: str) -> None:
     same(f"{it.name}: migrated afterwards", (0, "MIGRATED 2\n", ""), migrate(it.old, it.new))
 
 
-def change(path: str, command: str) -> None:
-    conn = sqlite3.connect(path)
-    conn.execute(command)
-    conn.commit()
-    conn.close()
-
-
 def show_not_empty(folder: str) -> None:
     """Show a new file that isn't a new one."""
     it = Folders(folder, "another file")
     make(it.old, old_rows(WORKED))
-    with open(it.new, "w") as file:
-        file.write("a note\n")
+    Path(it.new).write_text("a note\n", encoding="ascii")
     it.refuses("a file with a byte", "8 not_empty")
     os.remove(it.new)
-    with open(it.new + "-wal", "w") as file:
-        file.write("a log of other days\n")
+    Path(it.new + "-wal").write_text("a log of other days\n", encoding="ascii")
     it.refuses("a log of other days", "8 not_empty")
     os.remove(it.new + "-wal")
     os.mkdir(it.new)
@@ -517,18 +432,16 @@ def show_not_empty(folder: str) -> None:
     os.symlink("elsewhere.db", it.new)
     it.refuses("a link", "2 disk")
     os.remove(it.new)
-    with open(it.new, "w") as file:
-        file.write("a note\n")
+    Path(it.new).write_text("a note\n", encoding="ascii")
     for fault, entries, command in (
-        ("10 gap 2", [WORKED[0], (3, *WORKED[1][1:])], None),
-        ("9 damaged 1", WORKED, "UPDATE journal SET gross_kg = 18360 WHERE number = 1"),
-        ("4 foreign", WORKED, "UPDATE journal SET kind = 5 WHERE number = 2"),
+        ("10 gap 2", A_GAP, ""),
+        ("9 damaged 1", WORKED, OTHER_GROSS.format(1)),
+        ("4 foreign", WORKED, NO_KIND),
     ):
         both = Folders(folder, f"another file, and {fault}")
         both.of_new, both.new = it.of_new, it.new
         make(both.old, old_rows(entries))
-        if command:
-            change(both.old, command)
+        change(both.old, command)
         both.refuses("the old file's fault is reported", fault)
     both = Folders(folder, "another file, and version 2")
     both.of_new, both.new = it.of_new, it.new
@@ -538,40 +451,23 @@ def show_not_empty(folder: str) -> None:
     both.refuses("the old file isn't there", "2 disk")
     os.remove(it.new)
     same("the new file is the old one", (1, "", "store 8 not_empty\n"), migrate(it.old, it.old))
+    no_disk = (1, "", "store 2 disk\n")
     for name in (":memory:", "file:journal.db"):
-        done = subprocess.run(
-            [BUILT, "migrate", "--file", it.old, "--to", name],
-            capture_output=True,
-            text=True,
-            cwd=it.of_new,
-        )
-        same(
-            f"the new file has a name that nothing opens, {name}",
-            (1, "", "store 2 disk\n"),
-            (done.returncode, done.stdout, done.stderr),
-        )
+        with contextlib.chdir(it.of_new):
+            found = migrate(it.old, name)
+        same(f"the new file has a name that nothing opens, {name}", no_disk, found)
         same("nothing is left there", [], os.listdir(it.of_new))
-    same(
-        "the new file lies in no folder",
-        (1, "", "store 2 disk\n"),
-        migrate(it.old, os.path.join(it.of_new, "none", "journal.db")),
-    )
-    with open(it.new, "w"):
-        os.chmod(it.new, 0o640)
+    same("the new file lies in no folder", no_disk, migrate(it.old, f"{it.of_new}/none/journal.db"))
+    Path(it.new).touch()
+    os.chmod(it.new, 0o640)
     gap = Folders(folder, "another file, after a refusal")
-    make(gap.old, old_rows([WORKED[0], (3, *WORKED[1][1:])]))
-    same(
-        "a refusal, with a new file that is there and empty",
-        (1, "", "store 10 gap 2\n"),
-        migrate(gap.old, it.new),
-    )
-    same(
-        "it is there and empty after that",
-        [("journal.db", 0)],
-        [(name, os.path.getsize(os.path.join(it.of_new, name))) for name in os.listdir(it.of_new)],
-    )
+    make(gap.old, old_rows(A_GAP))
+    what = "a refusal, with a new file that is there and empty"
+    same(what, (1, "", "store 10 gap 2\n"), migrate(gap.old, it.new))
+    left = [(file.name, file.stat().st_size) for file in Path(it.of_new).iterdir()]
+    same("it is there and empty after that", [("journal.db", 0)], left)
     same("it is filled", (0, "MIGRATED 2\n", ""), migrate(it.old, it.new))
-    same("with the mode that it had", "0o640", oct(os.stat(it.new).st_mode & 0o777))
+    same("with the mode that it had", "0o640", mode_of(it.new))
 
 
 def show_memory(folder: str) -> None:
@@ -580,17 +476,15 @@ def show_memory(folder: str) -> None:
     make_journal(it.old, 2_000, version=1)
     before, found = contents(it.of_old), set[tuple[object, ...]]()
     for limit in range(4_000_000, 40_000_000, 250_000):
-        words = [BUILT, "migrate", "--file", it.old, "--to", it.new]
         ran = subprocess.run(
-            words,
+            it.words(),
             capture_output=True,
             text=True,
             preexec_fn=lambda: resource.setrlimit(resource.RLIMIT_AS, (limit, limit)),
         )
         if ran.returncode in (0, 1) and ran.stderr != "Error: Kind(OutOfMemory)\n":
-            found.add(
-                (ran.returncode, ran.stdout, ran.stderr, " ".join(sorted(os.listdir(it.of_new))))
-            )
+            left = " ".join(sorted(os.listdir(it.of_new)))
+            found.add((ran.returncode, ran.stdout, ran.stderr, left))
         clear(it.of_new)
     same(
         "out of memory is reported, or all is migrated",
@@ -603,34 +497,23 @@ def show_memory(folder: str) -> None:
 def show_many(folder: str) -> None:
     """Show a journal of many entries: reported on a terminal and nowhere else, and killed at any moment."""
     it = Folders(folder, "many entries")
-    program = os.environ.get("WEIGHBRIDGE_VERSION_1", "")
-    if program:
+    if program := os.environ.get("WEIGHBRIDGE_VERSION_1"):
         version_one.make_many(program, it.old, MANY)
         print("many entries: made by 1.0.0", flush=True)
     else:
-        make(
-            it.old,
-            old_rows(
-                [
-                    (number, f"K{number}", 3, f"P-{number % 5000}", MORNING + number, 18340, 5000)
-                    for number in range(1, MANY + 1)
-                ]
-            ),
-        )
+        singles: list[Entry] = [
+            (number, f"K{number}", 3, f"P-{number % 5000}", MORNING + number, 18340, 5000)
+            for number in range(1, MANY + 1)
+        ]
+        make(it.old, old_rows(singles))
     entries, _ = entries_of(it.old)
     before = contents(it.of_old)
     seconds, kilobytes = min(measured(it) for _ in range(3))
     print(f"many entries: {MANY} took {seconds:.1f} s, and {kilobytes / 1000:.1f} MB", flush=True)
-    same(
-        "many entries: in time and memory",
-        (True, True),
-        (seconds < MOST_SECONDS, 0 < kilobytes < MOST_KILOBYTES),
-    )
-    same(
-        "many entries: migrated, and nothing reported",
-        (0, f"MIGRATED {MANY}\n", ""),
-        migrate(it.old, it.new),
-    )
+    is_small = seconds < MOST_SECONDS, 0 < kilobytes < MOST_KILOBYTES
+    same("many entries: in time and memory", (True, True), is_small)
+    is_migrated = (0, f"MIGRATED {MANY}\n", "")
+    same("many entries: migrated, and nothing reported", is_migrated, migrate(it.old, it.new))
     same("many entries: its tables", ("ok", new_rows(entries)), tables_of(it.new)[0:3:2])
     same("many entries: the check", (0, f"SOUND {MANY}\n", ""), run("check", "--file", it.new))
     clear(it.of_new)
@@ -640,11 +523,8 @@ def show_many(folder: str) -> None:
     chance = random.Random(1)
     whole = 0
     for _ in range(many(50)):
-        process = subprocess.Popen(
-            [BUILT, "migrate", "--file", it.old, "--to", it.new],
-            stdout=subprocess.DEVNULL,
-            stderr=subprocess.DEVNULL,
-        )
+        quiet = subprocess.DEVNULL
+        process = subprocess.Popen(it.words(), stdout=quiet, stderr=quiet)
         time.sleep(chance.uniform(0, 1.1 * seconds))
         process.kill()
         process.wait()
@@ -658,14 +538,9 @@ def show_many(folder: str) -> None:
         whole += out != "SOUND 0\n"
         clear(it.of_new)
     ok(f"many entries: killed, {whole} times with all entries in the new file")
-    same(
-        "many entries: the old file and its folder after that", True, before == contents(it.of_old)
-    )
-    same(
-        "many entries: migrated afterwards",
-        (0, f"MIGRATED {MANY}\n", ""),
-        migrate(it.old, it.new),
-    )
+    is_kept = before == contents(it.of_old)
+    same("many entries: the old file and its folder after that", True, is_kept)
+    same("many entries: migrated afterwards", is_migrated, migrate(it.old, it.new))
 
 
 def memory_of(pid: int) -> int:
@@ -682,9 +557,7 @@ def memory_of(pid: int) -> int:
 def measured(it: Folders) -> tuple[float, int]:
     """Return the seconds of a migration, and the most memory in kB. Remove the files that it made."""
     began, most = time.monotonic(), 0
-    process = subprocess.Popen(
-        [BUILT, "migrate", "--file", it.old, "--to", it.new], stdout=subprocess.DEVNULL
-    )
+    process = subprocess.Popen(it.words(), stdout=subprocess.DEVNULL)
     while process.poll() is None:
         most = max(most, memory_of(process.pid))
         time.sleep(0.005)
@@ -702,25 +575,16 @@ def clear(folder: str) -> None:
 def told_on_a_terminal(it: Folders) -> str:
     """Return what a migration reports on standard error, if that is a terminal."""
     here, there = os.openpty()
-    process = subprocess.Popen(
-        [BUILT, "migrate", "--file", it.old, "--to", it.new],
-        stdin=subprocess.DEVNULL,
-        stdout=subprocess.PIPE,
-        stderr=there,
+    ran = subprocess.run(
+        it.words(), stdin=subprocess.DEVNULL, stdout=subprocess.PIPE, stderr=there, text=True
     )
     os.close(there)
-    out, _ = process.communicate()
-    same(
-        "many entries: printed next to a terminal",
-        (0, f"MIGRATED {MANY}\n".encode()),
-        (process.returncode, out),
-    )
+    printed_next = (ran.returncode, ran.stdout)
+    same("many entries: printed next to a terminal", (0, f"MIGRATED {MANY}\n"), printed_next)
     told = b""
-    try:
+    with contextlib.suppress(OSError):
         while more := os.read(here, 4096):
             told += more
-    except OSError:
-        pass
     os.close(here)
     return told.decode()
 
@@ -736,7 +600,7 @@ class Migrated(Check):
 
     def test_worked_digests(self) -> None:
         self.assertEqual(WORKED_DIGESTS, [row[-1] for row in old_rows(WORKED)], "version 1")
-        self.assertEqual(CHAINED_DIGESTS, [row[-2] for row in new_rows(WORKED)], "version 2")
+        self.assertEqual([row[-2:] for row in PAIR], [row[-2:] for row in new_rows(WORKED)])
 
     def test_worked_pair(self) -> None:
         it = show_migrated(self.box, "the worked pair", WORKED)

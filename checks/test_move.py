@@ -11,6 +11,7 @@ import os
 import shutil
 import time
 from datetime import datetime, timezone
+from pathlib import Path
 
 from weighbridge_move import copied
 from weighbridge_night import night
@@ -25,23 +26,13 @@ from checks.lib.case import PROGRAM, Check
 from checks.lib.machines import Machine, archive, moved
 from checks.lib.program import PROGRAM as BUILT
 from checks.lib.program import printed
-from checks.lib.waiting import wait_until
 
 MORE = ("--pace", "50", "--window", "10")
 
 
 def weigh(service: bridge.Service, key: str, kind: str, plate: str) -> str:
     """Weigh a vehicle, and return the text that was answered."""
-    body = f"key={key}&kind={kind}&plate={plate}"
-    answer = wait_until(
-        f"{plate} is weighed",
-        lambda: bridge.post(service, "/weighings", body),
-        lambda it: it is not None and it[0] == 201,
-        30,
-        0.1,
-    )
-    assert answer is not None
-    return answer[1]
+    return bridge.weigh(service, f"key={key}&kind={kind}&plate={plate}", 30, 0.1)[1]
 
 
 class Parts(Check):
@@ -76,12 +67,9 @@ class Rehearsal(Check):
         """Weigh, copy, weigh again and lose the machine. Return the copy's folder."""
         journal, state = f"{self.box}/lost/journal.db", f"{self.box}/state"
         service = self.served(journal)
-        for key, kind, plate in (
-            ("K1", "first", "AB-12"),
-            ("K2", "first", "XY-7"),
-            ("K3", "second", "AB-12"),
-        ):
-            weigh(service, key, kind, plate)
+        weigh(service, "K1", "first", "AB-12")
+        weigh(service, "K2", "first", "XY-7")
+        weigh(service, "K3", "second", "AB-12")
         setup = Setup("WB01", False, [Place("folder", GB, path=self.disk)], journal)
         world = night.World(
             lambda: datetime.now(timezone.utc),
@@ -119,11 +107,8 @@ class Rehearsal(Check):
         second = Machine(os.path.join(self.box, "second"))
         self.same("a look finds nothing wrong", 0, moved(second, "look", self.disk)[0])
         status, said = moved(second, "continue", self.disk, "--last", "4", "--nothing-later")
-        self.same(
-            "with ticket 4 on paper the copy doesn't continue",
-            (1, True),
-            (status, "4 (1 number)" in said),
-        )
+        what = "with ticket 4 on paper the copy doesn't continue"
+        self.same(what, (1, True), (status, "4 (1 number)" in said))
         self.same("and nothing is in place", [], os.listdir(os.path.dirname(second.journal)))
         found = moved(second, "continue", self.disk, "--last", "3", "--nothing-later")
         self.same("without it the copy continues", (0, ""), found)
@@ -137,8 +122,8 @@ class Rehearsal(Check):
         third = Machine(os.path.join(self.box, "third"))
         found = moved(third, "begin", self.disk, "--serial", "WB01B", "--last", "4")
         self.same("a journal begins under a new serial", (0, ""), found)
-        with open(os.path.join(third.root, "etc/weighbridge.conf"), encoding="utf-8") as file:
-            self.holds("which the setup has", "--serial WB01B " in file.read())
+        setup = Path(third.root, "etc/weighbridge.conf").read_text(encoding="utf-8")
+        self.holds("which the setup has", "--serial WB01B " in setup)
         service = self.served(third.journal, "--serial", "WB01B")
         slip = weigh(service, "K6", "first", "XY-7")
         for it in ("SERIAL WB01B", "FIRST NO 1"):
@@ -146,7 +131,6 @@ class Rehearsal(Check):
         kept = os.path.join(third.root, "srv/kept")
         names = sorted(os.listdir(kept))
         self.same("the evidence and the report are kept", [os.path.basename(copy)], names[:1])
-        with open(os.path.join(kept, names[1]), encoding="utf-8") as file:
-            report = file.read()
+        report = Path(kept, names[1]).read_text(encoding="utf-8")
         for it in ("missing: 4 (1 number)", "First 2  XY-7", "new serial: WB01B"):
             self.holds(f"the report has `{it}`", it in report, report)

@@ -12,6 +12,7 @@ import os
 import threading
 import time
 from datetime import datetime, timezone
+from pathlib import Path
 
 from weighbridge_night import night
 from weighbridge_night.files import digest_of
@@ -119,8 +120,8 @@ class Nights(Check):
             self.same("and is sound", f"SOUND {number}\n", printed("check", "--file", copy)[1])
             for what in ("journal", "tickets"):
                 exported = printed("export", "--file", copy, "--what", what)[1]
-                with open(os.path.join(folder, f"{what}.csv"), encoding="utf-8") as file:
-                    self.same(f"and has its {what}", exported, file.read())
+                text = Path(folder, f"{what}.csv").read_text(encoding="utf-8")
+                self.same(f"and has its {what}", exported, text)
             time.sleep(1.1)  # each copy has a second of its own
         weigher.ended.set()
         weigher.join()

@@ -39,18 +39,15 @@ SHOWN = re.compile(
 
 
 def read(path: str) -> str:
-    with open(os.path.join(TOP, path), encoding="utf-8") as file:
-        return file.read()
+    return (TOP / path).read_text(encoding="utf-8")
 
 
 def spelled(version: str) -> str:
     """Return a version with its points."""
     digits = version.replace("_", "")
-    return (
-        f"{int(digits) // 10000}.{int(digits) // 100 % 100}.{int(digits) % 100}"
-        if digits.isdigit()
-        else version
-    )
+    if not digits.isdigit():
+        return version
+    return f"{int(digits) // 10000}.{int(digits) // 100 % 100}.{int(digits) % 100}"
 
 
 def found() -> Iterator[tuple[str, str]]:

@@ -15,6 +15,8 @@ import subprocess
 import time
 import unittest
 from collections.abc import Iterator
+from contextlib import closing
+from pathlib import Path
 from typing import Any
 
 import random_traces
@@ -55,10 +57,10 @@ class Description:
     """The document, and which of its statuses came."""
 
     def __init__(self) -> None:
-        with open(TOP / "clients" / "openapi.json", encoding="utf-8") as file:
-            self.it = json.load(file)
-        with open(TOP / "counter" / "openapi.json", encoding="utf-8") as file:
-            self.of_both = json.load(file)
+        self.it, self.of_both = (
+            json.loads((TOP / it / "openapi.json").read_text(encoding="utf-8"))
+            for it in ("clients", "counter")
+        )
         self.parts = self.it["components"]
         self.seen: set[tuple[str, str]] = set()
 
@@ -108,9 +110,8 @@ class Description:
             for name, said in response["headers"].items():
                 schema = self.resolved(said, "headers")["schema"]
                 value = fields.get(name, "")
-                if value not in schema.get("enum", [value]) or not re.search(
-                    schema.get("pattern", ""), value
-                ):
+                has_form = re.search(schema.get("pattern", ""), value)
+                if value not in schema.get("enum", [value]) or not has_form:
                     return f"{method} {target}: {status} has {name}: {value!r}"
         if template_of(target) not in self.it["paths"]:
             return None  # the counter may have this route, and the office doesn't
@@ -121,10 +122,8 @@ def requests_of(trace: bytes) -> Iterator[tuple[str, str] | None]:
     """Return the method and target of each request of a trace, None for those of bytes, up to the first line that isn't understood."""
     for line in re.split(rb"\r?\n", trace):
         if line.startswith((b"o ", b"x ")):
-            words = line.split(b" ", 4)
-            yield (words[2].decode("latin-1"), words[3].decode("latin-1")) if line.startswith(
-                b"o "
-            ) and len(words) > 3 else None
+            kind, *words = line.decode("latin-1").split(" ", 4)
+            yield (words[1], words[2]) if kind == "o" and len(words) > 2 else None
 
 
 def ask(
@@ -134,24 +133,16 @@ def ask(
     form: str | None = None,
     fields: dict[str, str] | None = None,
 ) -> tuple[str, str, dict[str, str]]:
-    connection = http.client.HTTPConnection(bridge.HOST, port, timeout=10)
-    try:
+    data = None if form is None else form.encode()
+    if fields is None:
+        fields = {"Content-Length": str(len(data or b""))} if method == "POST" else {}
+    with closing(http.client.HTTPConnection(bridge.HOST, port, timeout=10)) as connection:
         connection.putrequest(method, target, skip_accept_encoding=True)
-        data = None if form is None else form.encode()
-        given = (
-            fields
-            if fields is not None
-            else {"Content-Length": str(len(data or b""))}
-            if method == "POST"
-            else {}
-        )
-        for name, value in given.items():
+        for name, value in fields.items():
             connection.putheader(name, value)
         connection.endheaders(data)
         response = connection.getresponse()
         return str(response.status), response.read().decode(), dict(response.getheaders())
-    finally:
-        connection.close()
 
 
 class Schema(Check):
@@ -164,8 +155,7 @@ class Schema(Check):
         import jsonschema
 
         document = Description()
-        with open(SCHEMA, encoding="utf-8") as file:
-            schema = json.load(file)
+        schema = json.loads(Path(SCHEMA).read_text(encoding="utf-8"))
         for name, it in (("clients", document.it), ("counter", document.of_both)):
             faults = [
                 f"{'/'.join(map(str, fault.absolute_path))}: {fault.message[:200]}"
@@ -258,9 +248,12 @@ class Responses(Check):
             bridge.Service(compiled(), file, converter, "--pace", "50", limit=spared)
         )
         answered = self.answered
-        time.sleep(0.5)
-        load[0] = 9170
-        time.sleep(0.5)
+
+        def next_vehicle() -> None:
+            for load[0] in (0, 9170):
+                time.sleep(0.5)
+
+        next_vehicle()
         answered("POST", "/weighings", "key=K1&kind=first&plate=AB-12", wanted="201")
         answered("POST", "/voids", "key=K2&plate=AB-12", wanted="201")
         for target in ("/indication", "/check", "/journal.csv", "/tickets.csv"):
@@ -280,17 +273,9 @@ class Responses(Check):
                 answered(method.upper(), target, fields={"A": "y" * 8190}, wanted="431")
         resource.prlimit(self.service.process.pid, resource.RLIMIT_FSIZE, (100, 100))
         answered("POST", "/weighings", "key=K3&kind=first&plate=CD-34")
-        load[0] = 0
-        time.sleep(0.5)
-        load[0] = 9170
-        time.sleep(0.5)
+        next_vehicle()
         answered("POST", "/weighings", "key=K4&kind=first&plate=CD-34", wanted="503")
-        for method, target, form in (
-            ("POST", "/voids", "key=K5&plate=CD-34"),
-            ("POST", "/purge", ""),
-            ("GET", "/tickets/1", None),
-            ("GET", "/journal.csv", None),
-            ("GET", "/tickets.csv", None),
-            ("GET", "/check", None),
-        ):
-            answered(method, target, form, wanted="503")
+        answered("POST", "/voids", "key=K5&plate=CD-34", wanted="503")
+        answered("POST", "/purge", "", wanted="503")
+        for target in ("/tickets/1", "/journal.csv", "/tickets.csv", "/check"):
+            answered("GET", target, wanted="503")

@@ -35,6 +35,7 @@ from checks.lib import namespaces
 from checks.lib.bridge import HOST, is_listening
 from checks.lib.case import PROGRAM, Check, lacked, skip_without
 from checks.lib.program import compiled, compiled_converter
+from checks.lib.tried_twice import addresses
 from checks.lib.waiting import wait_until
 
 PACKAGING = TOP / "packaging"
@@ -206,14 +207,8 @@ def sets_zero_by_form(port: int) -> bool | str:
 
 def begin(words: list[str], waits: bool = False, **more: Any) -> Process:
     """Start a program, and wait for its first line if it prints one once it listens."""
-    process = subprocess.Popen(
-        words,
-        stdin=subprocess.DEVNULL,
-        stdout=subprocess.PIPE,
-        stderr=subprocess.DEVNULL,
-        text=True,
-        **more,
-    )
+    quiet, pipe = subprocess.DEVNULL, subprocess.PIPE
+    process = subprocess.Popen(words, stdin=quiet, stdout=pipe, stderr=quiet, text=True, **more)
     if waits and process.stdout:
         process.stdout.readline()
     return process
@@ -261,10 +256,13 @@ class Machine:
         return begin(own, start_new_session=True)
 
     def serve(self, terminal: int, office: int, converter: str) -> Process:
-        words = [f"{self.folder}/weighbridge", "serve", "--file"]
-        words += [f"{self.folder}/journal/journal.db", "--terminal", f"{HOST}:{terminal}"]
-        words += ["--office", f"{HOST}:{office}", "--converter", converter]
-        words += ["--turns", "1000000000"]
+        words = [
+            f"{self.folder}/weighbridge",
+            "serve",
+            "--file",
+            f"{self.folder}/journal/journal.db",
+        ]
+        words += [*addresses(terminal, office, converter), "--turns", "1000000000"]
         return self.begin_at(office, "weighbridge", *words)
 
     def start_counter(self) -> Process:
@@ -297,8 +295,8 @@ def put_users(folder: str) -> None:
         ("passwd", "{0}:x:{1}:{1}::/nonexistent:/usr/sbin/nologin\n"),
         ("group", "{0}:x:{1}:\n"),
     ):
-        with open(f"/etc/{name}", encoding="utf-8") as file:
-            lines = [line for line in file if line.split(":")[0] not in USERS]
+        own = Path("/etc", name).read_text(encoding="utf-8").splitlines(keepends=True)
+        lines = [line for line in own if line.split(":")[0] not in USERS]
         text = "".join([*lines, *(form.format(*it) for it in USERS.items())])
         Path(folder, name).write_text(text, encoding="utf-8")
         subprocess.run(["mount", "--bind", f"{folder}/{name}", f"/etc/{name}"], check=True)
@@ -306,10 +304,8 @@ def put_users(folder: str) -> None:
 
 def put_files(folder: str) -> None:
     """Make the programs, the setups and the folders, each with its owner."""
-    for name, path in (
-        ("weighbridge", compiled()),
-        ("weighbridge-converter", compiled_converter()),
-    ):
+    programs = {"weighbridge": compiled(), "weighbridge-converter": compiled_converter()}
+    for name, path in programs.items():
         subprocess.run(["install", "-m", "0755", path, f"{folder}/{name}"], check=True)
     unneeded = shutil.ignore_patterns("__pycache__", "tests")
     shutil.copytree(TOP / "counter", f"{folder}/counter", ignore=unneeded)
@@ -361,9 +357,13 @@ class OtherUsers(Check):
     def tearDown(self) -> None:
         self.machine.stop()
 
-    def rules(self, what: str, kind: str = "shipped") -> None:
+    def ports(self, what: str, kind: str) -> subprocess.CompletedProcess[str]:
+        """Run the script of the rules below a root of this kind."""
         root = {**os.environ, "ROOT": f"{self.machine.folder}/{kind}"}
-        it = subprocess.run([PORTS, what], env=root, capture_output=True, text=True)
+        return subprocess.run([PORTS, what], env=root, capture_output=True, text=True)
+
+    def rules(self, what: str, kind: str = "shipped") -> None:
+        it = self.ports(what, kind)
         self.same(f"the rules: {what}", (0, ""), (it.returncode, it.stderr))
 
     def load_rules(self, kind: str = "shipped") -> None:
@@ -381,14 +381,11 @@ class OtherUsers(Check):
             file.write(" WEIGHBRIDGE_LISTEN='127.0.0.1:1880' \n")
         for text, wanted in COUNTERS:
             Path(folder, "etc/weighbridge-counter.toml").write_text(text, encoding="utf-8")
-            root = {**os.environ, "ROOT": folder}
-            made = subprocess.run([PORTS, "print"], env=root, capture_output=True, text=True)
-            found = re.findall(r"tcp dport { ([\d,]+) } meta skuid !=", made.stdout)
-            self.same(
-                f"the rules for the counter of {text!r}",
-                (0, ["1880", *wanted], not wanted),
-                (made.returncode, found, "can't be read" in made.stderr),
-            )
+            made = self.ports("print", "odd")
+            ports = re.findall(r"tcp dport { ([\d,]+) } meta skuid !=", made.stdout)
+            found = (made.returncode, ports, "can't be read" in made.stderr)
+            what = f"the rules for the counter of {text!r}"
+            self.same(what, (0, ["1880", *wanted], not wanted), found)
 
     def test_without_the_rules(self) -> None:
         self.show_all(False)
@@ -420,9 +417,8 @@ class OtherUsers(Check):
             ("voids", "refused 13 no_open", "/voids", "key=X2&plate=AB-12"),
         ):
             refused(name, without, ask_as(stranger, it.office, route, body))
-        refused(
-            "gets the journal", "number", first_word(ask_as(stranger, it.office, "/journal.csv"))
-        )
+        found = first_word(ask_as(stranger, it.office, "/journal.csv"))
+        refused("gets the journal", "number", found)
         for host in ("0.0.0.0", "[::ffff:127.0.0.1]"):
             found = ask_as(stranger, it.office, "/purge", "", host)
             refused(f"asks by {host}", "PURGED 0", found)
@@ -475,14 +471,11 @@ class OtherUsers(Check):
 
     def open_many(self, has_rules: bool) -> None:
         """Open connections to the web server from a client on the network, which sends nothing on them."""
-        server = begin([PYTHON, "-c", WEB_SERVER], waits=True)
+        server, most = begin([PYTHON, "-c", WEB_SERVER], waits=True), "100" if has_rules else "130"
         for it in (HOST, "127.0.0.2", "::1"):
             ran = subprocess.run([PYTHON, "-c", OPENS, it], capture_output=True, text=True)
-            self.same(
-                f"of 130 connections of {it} to the web server are accepted",
-                "100" if has_rules else "130",
-                ran.stdout.strip(),
-            )
+            what = f"of 130 connections of {it} to the web server are accepted"
+            self.same(what, most, ran.stdout.strip())
         end(server)
 
     def open_by_the_kernel(self, has_rules: bool) -> None:
@@ -502,11 +495,8 @@ class OtherUsers(Check):
         end(server)
         listed = ["nft", "list", "table", "inet", "probe"]
         counted = subprocess.run(listed, capture_output=True, text=True).stdout
-        self.same(
-            "the terminal's port is reached by what the kernel opens for a stranger",
-            not has_rules,
-            "packets 0 " not in counted,
-        )
+        what = "the terminal's port is reached by what the kernel opens for a stranger"
+        self.same(what, not has_rules, "packets 0 " not in counted)
         subprocess.run(["ip", "mptcp", "endpoint", "flush"], check=True)
         subprocess.run(["nft", "delete", "table", "inet", "probe"], check=True)
 
@@ -538,13 +528,10 @@ class OtherUsers(Check):
             subprocess.run(words_of("weighbridge", *words), check=True)
             script = PACKAGING / "weighbridge/debian/weighbridge.postinst"
             made = subprocess.run([script, "configure", ""], capture_output=True, text=True)
-            self.same(
-                f"a calibration that is a {name} is moved at an installation, or left out",
-                (0, is_moved, False),
-                (made.returncode, os.path.exists(now), os.path.islink(now)),
-            )
-            if os.path.lexists(now):
-                os.remove(now)
+            found = (made.returncode, os.path.exists(now), os.path.islink(now))
+            what = f"a calibration that is a {name} is moved at an installation, or left out"
+            self.same(what, (0, is_moved, False), found)
+            Path(now).unlink(missing_ok=True)
 
     def test_kept_ports_without_the_rules(self) -> None:
         self.show_kept_ports(False)
@@ -552,30 +539,23 @@ class OtherUsers(Check):
     def test_kept_ports_with_the_rules(self) -> None:
         self.load_rules("kept")
         self.show_kept_ports(True)
-        converter = begin(
-            words_of("weighbridge-converter", PYTHON, "-c", PLAYED_CONVERTER, "4000", "0"), True
-        )
-        self.weighs(
-            "the converter itself is heard", converter, "STABLE G          0 kg N          0 kg"
-        )
+        empty = "STABLE G          0 kg N          0 kg"
+        self.weighs("the converter itself is heard", "weighbridge-converter", 0, empty)
 
     def show_kept_ports(self, has_rules: bool) -> None:
         """On a machine with ports above 1023 the stranger takes one while its owner is away, and answers there."""
         false_office = begin(words_of("stranger", PYTHON, "-c", FALSE_OFFICE, "8080"), True)
-        self.same(
-            "what the counter hears of a false office at 8080",
-            "no answer" if has_rules else "FORGED 1",
-            ask_as("weighbridge-counter", 8080, "/tickets/1"),
-        )
+        heard = ask_as("weighbridge-counter", 8080, "/tickets/1")
+        answer = "no answer" if has_rules else "FORGED 1"
+        self.same("what the counter hears of a false office at 8080", answer, heard)
         end(false_office)
-        converter = begin(
-            words_of("stranger", PYTHON, "-c", PLAYED_CONVERTER, "4000", "9170"), True
-        )
         wanted = "refused" if has_rules else "STABLE G      18340 kg N      18340 kg"
-        self.weighs("what a false converter at 4000 weighs", converter, wanted)
+        self.weighs("what a false converter at 4000 weighs", "stranger", 9170, wanted)
 
-    def weighs(self, name: str, converter: Process, wanted: str) -> None:
-        """Show what a service indicates that listens to the converter at port 4000."""
+    def weighs(self, name: str, user: str, load: int, wanted: str) -> None:
+        """Show what a service indicates that listens to this user's converter at port 4000, which sends the load."""
+        words = words_of(user, PYTHON, "-c", PLAYED_CONVERTER, "4000", str(load))
+        converter = begin(words, waits=True)
         service = self.machine.serve(4001, 8080, f"tcp:{HOST}:4000")
         time.sleep(2)
         self.same(name, wanted, ask_as("weighbridge-counter", 8080, "/indication"))

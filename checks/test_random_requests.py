@@ -7,6 +7,7 @@ allow. The numbers of the weighings that were accepted run from 1. At the end of
 `weighbridge check` finds as many sound entries as were accepted and not purged.
 """
 
+import contextlib
 import os
 import random
 import re
@@ -53,6 +54,7 @@ FIELDS = [
 PLATES = ["AB-12", "CD-34", "EF-56", "A", "ab-12", "", "A" * 13, "AB%2D12", "A+B"]
 KINDS = ["first", "second", "single"]
 LOADS = [0, 0, 9_170, 4_070, 200, 190, 30_100, -300]
+COMMANDS = ["SI", "SIR", "S", "Z", "T", "TA 5000 kg", "TAC", "@", "TA", "x"]
 REFUSALS = {
     "1 key_reused",
     "2 gone",
@@ -118,26 +120,18 @@ class Asker:
         pick, chance = self.random.choice, self.random.random()
         if chance < 0.05:
             return self.random.randbytes(self.random.randint(1, 200))
-        method, target = (
-            pick(self.routes)
-            if chance < 0.9
-            else (pick(["GET", "POST", "PUT", "get", "", "OPTIONS"]), pick(TARGETS))
-        )
+        if chance < 0.9:
+            method, target = pick(self.routes)
+        else:
+            method, target = pick(["GET", "POST", "PUT", "get", "", "OPTIONS"]), pick(TARGETS)
         body = self.form() if target in ("/weighings", "/voids") else ""
         fields = [f"Content-Length: {len(body)}"] if method == "POST" else []
         if self.random.random() < 0.1:
             fields += [pick(FIELDS) for _ in range(pick([1, 1, 1, 2, 70]))]
         end = pick(["\r\n"] * 9 + ["\n"])
-        data = (
-            f"{method} {target} HTTP/1.{pick('1111110' + '2')}"
-            + end
-            + "".join(field + end for field in fields)
-            + end
-            + body
-        ).encode()
-        if self.random.random() < 0.1:
-            data = self.damaged(data)
-        return data
+        first = f"{method} {target} HTTP/1.{pick('1111110' + '2')}"
+        data = end.join([first, *fields, "", body]).encode()
+        return self.damaged(data) if self.random.random() < 0.1 else data
 
     def damaged(self, data: bytes) -> bytes:
         place = self.random.randrange(len(data))
@@ -145,17 +139,13 @@ class Asker:
         if kind == 0:
             return data[: place + 1]
         if kind == 1:
-            return (
-                data[:place]
-                + bytes([data[place] ^ 1 << self.random.randrange(8)])
-                + data[place + 1 :]
-            )
+            flipped = bytes([data[place] ^ 1 << self.random.randrange(8)])
+            return data[:place] + flipped + data[place + 1 :]
         if kind == 2:
             return data[:place] + self.random.randbytes(3) + data[place:]
         if kind == 3:
-            return (
-                data[:place] + b"x" * self.random.choice([10, 1_000, 8_100, 9_300]) + data[place:]
-            )
+            more = b"x" * self.random.choice([10, 1_000, 8_100, 9_300])
+            return data[:place] + more + data[place:]
         return data[:place] + data[place + 1 :] or b"x"
 
 
@@ -179,12 +169,11 @@ class Judge:
             if status == "201":
                 self.numbers.add(int(text.group(2)))
             return f"{status} text"
-        if body.startswith("refused "):
-            name = body[len("refused ") :].rstrip("\n")
+        what, _, name = body.rstrip("\n").partition(" ")
+        if what == "refused":
             wanted = STATUS_OF_REFUSAL.get(name.split()[0], "409")
             return f"{status} {name}" if name in REFUSALS and status == wanted else None
-        if body.startswith("fault "):
-            name = body[len("fault ") :].rstrip("\n")
+        if what == "fault":
             return f"{status} fault" if name in FAULTS and name.startswith(status) else None
         if status == "200" and body.startswith(("number,key,", "ticket,kind,")):
             return "200 export"
@@ -210,9 +199,7 @@ def trace_of(asker: Asker, most: int) -> tuple[str, list[bytes]]:
         if chance < 0.25:
             line = f"r {asker.random.choice(LOADS)} {asker.random.choice([1, 4, 4, 5])}"
         elif chance < 0.3:
-            line = "t " + asker.random.choice(
-                ["SI", "SIR", "S", "Z", "T", "TA 5000 kg", "TAC", "@", "TA", "x"]
-            )
+            line = f"t {asker.random.choice(COMMANDS)}"
         else:
             moment += asker.random.choice([0, 1, 1, 60, -1])
             if asker.random.random() < 0.0005:
@@ -241,9 +228,8 @@ def replay(seed: int, most: int, kinds: Counter[str]) -> int:
     """Replay one random trace, and return how many requests it had."""
     asker, judge = Asker(seed), Judge()
     trace, asked = trace_of(asker, most)
-    end = subprocess.run(
-        [BUILT, "replay", "--capacity", "100000"], input=trace.encode(), capture_output=True
-    )
+    words = [BUILT, "replay", "--capacity", "100000"]
+    end = subprocess.run(words, input=trace.encode(), capture_output=True)
     if end.returncode != 0 or end.stderr:
         fail(f"trace {seed} ended with {end.returncode} {end.stderr!r}")
     found = responses_of(end.stdout.decode())
@@ -262,13 +248,11 @@ def send(service: bridge.Service, data: bytes) -> tuple[str, str] | None:
     with socket.create_connection((bridge.HOST, service.office), 60) as stream:
         stream.settimeout(60)
         answer = b""
-        try:
+        with contextlib.suppress(ConnectionError):
             stream.sendall(data)
             stream.shutdown(socket.SHUT_WR)
             while more := stream.recv(1 << 16):
                 answer += more
-        except ConnectionError:
-            pass
     head, parted, body = answer.partition(b"\r\n\r\n")
     return (head.split()[1].decode(), body.decode()) if parted else None
 
@@ -317,6 +301,5 @@ class RandomRequests(Check):
                 self.assertTrue(not data or len(data) > 9_216, f"{data!r} got no response")
                 unanswered += 1
         print(f"{len(answers)} requests, {unanswered} without a response: {shown(judge.kinds)}")
-        self.assertEqual(
-            (0, f"SOUND {judge.entries()}\n", ""), printed("check", "--file", path), "the file"
-        )
+        sound = (0, f"SOUND {judge.entries()}\n", "")
+        self.assertEqual(sound, printed("check", "--file", path), "the file")

@@ -3,6 +3,7 @@
 import os
 import sqlite3
 import subprocess
+from pathlib import Path
 
 from checks.lib import day
 from checks.lib.case import PROGRAM, Check
@@ -25,24 +26,19 @@ class ReplayUnderValgrind(Check):
         """Show that a run prints the same under valgrind, which finds nothing, and ends with this status."""
         log = os.path.join(self.box, "log")
         valgrind = ["valgrind", "--quiet", "--error-exitcode=99", *LEAKS, f"--log-file={log}"]
-        befores: list[list[str]] = [[], valgrind]
-        runs = [
-            subprocess.run(
-                [*before, compiled(), *words],
-                input=given,
-                stdout=subprocess.PIPE,
-                stderr=subprocess.STDOUT,
-                text=True,
+
+        def run(*before: str) -> tuple[int, str]:
+            command, pipe = [*before, compiled(), *words], subprocess.PIPE
+            it = subprocess.run(
+                command, input=given, stdout=pipe, stderr=subprocess.STDOUT, text=True
             )
-            for before in befores
-        ]
-        with open(log, encoding="utf-8", errors="replace") as file:
-            self.same(f"{' '.join(words)}: valgrind's log", "", file.read())
-        self.same(
-            f"{words[0]}, {runs[0].stdout.count(chr(10))} lines",
-            [(wanted, runs[0].stdout)] * 2,
-            [(it.returncode, it.stdout) for it in runs],
-        )
+            return it.returncode, it.stdout
+
+        plain, watched = run(), run(*valgrind)
+        found = Path(log).read_text(encoding="utf-8", errors="replace")
+        self.same(f"{' '.join(words)}: valgrind's log", "", found)
+        what = f"{words[0]}, {plain[1].count(chr(10))} lines"
+        self.same(what, [(wanted, plain[1])] * 2, [plain, watched])
 
     def test_day(self) -> None:
         self.watched(0, "replay", given=day.trace())

@@ -16,6 +16,7 @@ import socket
 import threading
 import time
 from collections.abc import Callable
+from contextlib import suppress
 
 from checks.lib import bridge
 from checks.lib.case import PROGRAM, Check, many
@@ -36,11 +37,9 @@ Kind = Callable[[bridge.Service, threading.Event], None]
 
 def asked(service: bridge.Service) -> bool:
     """Return whether a request for the indication is answered. One that waits for five seconds behind others is closed, and isn't answered late."""
-    try:
-        answer = bridge.get(service, "/indication")
-    except OSError:
-        answer = None
-    return answer is not None and answer[0] == 200
+    with suppress(OSError):
+        return (bridge.get(service, "/indication") or (0, ""))[0] == 200
+    return False
 
 
 class Good(threading.Thread):
@@ -79,23 +78,18 @@ def silent(service: bridge.Service, over: threading.Event) -> None:
         with connect(service) as stream:
             stream.settimeout(0.2)
             while not over.is_set():
-                try:
+                with suppress(TimeoutError):
                     if not stream.recv(1):
                         break
-                except TimeoutError:
-                    pass
 
 
 def drip(service: bridge.Service, over: threading.Event) -> None:
     while not over.is_set():
-        with connect(service) as stream:
-            try:
-                for byte in b"GET /indication HTTP/1.1\r\nX-Slow: " + b"a" * 100:
-                    stream.sendall(bytes([byte]))
-                    if over.wait(2):
-                        return
-            except OSError:
-                pass
+        with connect(service) as stream, suppress(OSError):
+            for byte in b"GET /indication HTTP/1.1\r\nX-Slow: " + b"a" * 100:
+                stream.sendall(bytes([byte]))
+                if over.wait(2):
+                    return
 
 
 def check(service: bridge.Service, over: threading.Event) -> None:
@@ -195,10 +189,8 @@ class ServeBadClients(Check):
         that a bad client requested."""
         over = threading.Event()
         lasted.clear()
-        threads = [
-            threading.Thread(target=kind, args=(self.service, over), daemon=True)
-            for _ in range(clients)
-        ]
+        given = (self.service, over)
+        threads = [threading.Thread(target=kind, args=given, daemon=True) for _ in range(clients)]
         watch, good = Watch(self.service), Good(self.service)
         for thread in (*threads, watch, good):
             thread.start()
@@ -241,16 +233,13 @@ class ServeBadClients(Check):
         readers = [Held(self.service) for _ in range(16)]
         for it in readers:
             it.start()
+
+        def counts() -> tuple[int, int]:
+            answered = sum(it.took > 0 and not it.is_closed for it in readers)
+            return answered, sum(it.took == 0 and it.is_closed for it in readers)
+
         name = "sixteen that read an export slowly: those that are answered, and those that are closed without a byte"
-        self.becomes(
-            name,
-            (4, 12),
-            lambda: (
-                sum(it.took > 0 and not it.is_closed for it in readers),
-                sum(it.took == 0 and it.is_closed for it in readers),
-            ),
-            60 + 30 * exported,
-        )
+        self.becomes(name, (4, 12), counts, 60 + 30 * exported)
         self.tried("while four read an export slowly", 0, silent)
         for it in readers:
             it.over.set()

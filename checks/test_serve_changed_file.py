@@ -6,9 +6,11 @@ returns 503, and the store is closed. Each request that reads the journal return
 terminal continue.
 """
 
+import contextlib
 import os
 import shutil
 import sqlite3
+from pathlib import Path
 
 from checks.lib import bridge, journal
 from checks.lib.case import PROGRAM, Check
@@ -30,33 +32,24 @@ def pages_without_first(path: str) -> dict[int, bytes]:
     """Return the pages of the table's rows, by their places, that differ if the row of the first entry is missing."""
     other = path + ".other"
     shutil.copyfile(path, other)
-    conn = sqlite3.connect(other)
-    conn.execute("DELETE FROM journal WHERE number = 1")
-    conn.commit()
-    conn.close()
-    with open(path, "rb") as here, open(other, "rb") as there:
-        before, after = here.read(), there.read()
-    places = range(PAGE, len(before), PAGE)
+    journal.change(other, "DELETE FROM journal WHERE number = 1")
+    before, after = (Path(it).read_bytes() for it in (path, other))
+    pages = {at: after[at : at + PAGE] for at in range(PAGE, len(before), PAGE)}
     return {
-        at: after[at : at + PAGE]
-        for at in places
-        if before[at : at + PAGE] != after[at : at + PAGE] and after[at] == TABLE_LEAF
+        at: page
+        for at, page in pages.items()
+        if page != before[at : at + PAGE] and page[0] == TABLE_LEAF
     }
 
 
 def open_first_entry(path: str) -> None:
     """Make the first entry an open First. The second entry still holds the digest of before. A check would name it, but none is run."""
-    conn = sqlite3.connect(path)
-    key, moment = conn.execute(
-        "SELECT request_key, moment FROM journal WHERE number = 1"
-    ).fetchone()
+    with contextlib.closing(sqlite3.connect(path)) as conn:
+        asked = "SELECT request_key, moment FROM journal WHERE number = 1"
+        key, moment = conn.execute(asked).fetchone()
     digest = journal.digest_of(1, key, "first", "OPEN", moment, 18340, "-")
-    conn.execute(
-        "UPDATE journal SET kind = 1, plate = 'OPEN', preset_kg = NULL, digest = ? WHERE number = 1",
-        (digest,),
-    )
-    conn.commit()
-    conn.close()
+    opened = f"kind = 1, plate = 'OPEN', preset_kg = NULL, digest = '{digest}'"
+    journal.change(path, f"UPDATE journal SET {opened} WHERE number = 1")
 
 
 class ServeChangedFile(Check):
@@ -66,13 +59,11 @@ class ServeChangedFile(Check):
 
     def weigh(self, body: str) -> bridge.Answer | None:
         """Ask for a weighing until the bridge is as it must be for it."""
-        return wait_until(
-            body,
-            lambda: bridge.post(self.service, "/weighings", body),
-            lambda it: it not in LATER,
-            60,
-            0,
-        )
+
+        def ask() -> bridge.Answer | None:
+            return bridge.post(self.service, "/weighings", body)
+
+        return wait_until(body, ask, lambda it: it not in LATER, 60, 0)
 
     def test_row_that_is_gone(self) -> None:
         path = os.path.join(self.folder(), "journal.db")

@@ -11,6 +11,7 @@ import os
 import socket
 import time
 from collections.abc import Callable
+from pathlib import Path
 from typing import TypeVar
 
 from checks.lib import bridge
@@ -50,27 +51,22 @@ class ServeFewFiles(Check):
 
     def start(self, limit: int) -> bridge.Service:
         """Start a service whose limit of open files is this."""
-        few = os.path.join(self.box, "few")
-        with open(few, "w", encoding="utf-8") as file:
-            file.write(f'#!/bin/sh\nulimit -n {limit}\nexec "{BUILT}" "$@"\n')
-        os.chmod(few, 0o755)
-        return bridge.Service(few, f"{self.box}/journal.db", bridge.Played(20.0))
+        few = Path(self.box, "few")
+        few.write_text(f'#!/bin/sh\nulimit -n {limit}\nexec "{BUILT}" "$@"\n', encoding="utf-8")
+        few.chmod(0o755)
+        return bridge.Service(str(few), f"{self.box}/journal.db", bridge.Played(20.0))
 
     def files_at_rest(self) -> int:
         """Return how many files a service has open that has no client yet."""
         with self.start(256) as service:
-            self.becomes(
-                "a service without clients answers",
-                200,
-                lambda: (bridge.get(service, "/indication") or (0,))[0],
-            )
+            what = "a service without clients answers"
+            self.becomes(what, 200, lambda: (bridge.get(service, "/indication") or (0,))[0])
             return least_files(service)
 
     def silent(self, count: int) -> list[socket.socket]:
         """Connect this many clients that send nothing."""
-        return [
-            socket.create_connection((bridge.HOST, self.service.office), 10) for _ in range(count)
-        ]
+        at = (bridge.HOST, self.service.office)
+        return [socket.create_connection(at, 10) for _ in range(count)]
 
     def files_become(self, what: str, count: int) -> None:
         self.becomes(what, count, lambda: open_files(self.service))
@@ -92,8 +88,7 @@ class ServeFewFiles(Check):
     def show_weighing(self, limit: int) -> None:
         """Show that a weighing is stored while silent clients use the files."""
         self.files_become("all clients are gone", limit - FILES_FOR_CLIENTS)
-        self.service.put(0)
-        self.service.put(9170)
+        self.service.next_vehicle(9170)
         streams = self.silent(FILES_FOR_CLIENTS)
         self.files_become("every file but one is taken again", limit - 1)
         body = "key=K1&kind=first&plate=AB-12"
@@ -123,19 +118,13 @@ class ServeFewFiles(Check):
         self.service = self.enterContext(self.start(limit))
         terminal = self.enterContext(bridge.Terminal(self.service))
         self.same("a terminal", 'I4 A "WB01"', terminal.ask("I4"))
-        self.becomes(
-            "the weight of the empty bridge is stable",
-            "S S          0 kg",
-            lambda: terminal.ask("SI"),
-        )
+        what = "the weight of the empty bridge is stable"
+        self.becomes(what, "S S          0 kg", lambda: terminal.ask("SI"))
         self.show_terminal(terminal, limit)
         self.show_weighing(limit)
         self.show_other_terminal(terminal, limit)
-        self.becomes(
-            "at the end as many files are open as at the start",
-            at_rest,
-            lambda: least_files(self.service),
-        )
+        what = "at the end as many files are open as at the start"
+        self.becomes(what, at_rest, lambda: least_files(self.service))
         answer, took = timed(lambda: bridge.get(self.service, "/check"))
         self.same("and the office answers", (200, "SOUND 1\n"), answer)
         self.holds("within half a second", took < 0.5, took)

@@ -10,39 +10,30 @@ finds only these, and at most the one that was refused.
 
 import os
 import resource
-import signal
-from collections.abc import Callable
+from pathlib import Path
 from typing import Any
 
 from checks.lib import bridge
 from checks.lib.case import PROGRAM, Check
 from checks.lib.program import PROGRAM as BUILT
+from checks.lib.tried_twice import limited
 from checks.lib.waiting import wait_until
 
 LOADS = [0] * 8 + [9_170] * 8
 REFUSED = (503, "refused 15 store\n")
 
 
-def limited(count: int) -> Callable[[], None]:
-    """Let a process write no file longer than this many bytes; a longer write is refused, and doesn't end it."""
-
-    def limit() -> None:
-        signal.signal(signal.SIGXFSZ, signal.SIG_IGN)
-        resource.setrlimit(resource.RLIMIT_FSIZE, (count, count))
-
-    return limit
-
-
-def weigh(service: bridge.Service, number: int) -> bridge.Answer | None:
+def weigh(service: bridge.Service, number: int) -> bridge.Answer:
     """Ask for a weighing until the bridge is as it must be for it."""
     body = f"key=K{number}&kind={['first', 'second'][number % 2]}&plate=P-{number // 2}"
-    return wait_until(
-        body,
-        lambda: bridge.post(service, "/weighings", body),
-        lambda it: it is not None and it[0] != 409,
-        60,
-        0,
-    )
+
+    def ask() -> bridge.Answer:
+        return bridge.post(service, "/weighings", body) or (409, "")
+
+    def is_final(answer: bridge.Answer) -> bool:
+        return answer[0] != 409
+
+    return wait_until(body, ask, is_final, 60, 0)
 
 
 class ServeFullDisk(Check):
@@ -57,31 +48,25 @@ class ServeFullDisk(Check):
 
     def fill(self, count: int) -> list[str]:
         """Weigh until the disk is full, and return the texts of those that returned 201."""
-        log = f"{self.path}-told"
-        with open(log, "w", encoding="ascii") as told:
-            service = self.start("--verbose", limit=limited(count), errors=told)
+        log, limit = Path(f"{self.path}-told"), limited((resource.RLIMIT_FSIZE, count))
+        with log.open("w", encoding="ascii") as told:
+            service = self.start("--verbose", limit=limit, errors=told)
         texts: list[str] = []
-        while (answer := weigh(service, len(texts))) and answer[0] == 201:
+        while (answer := weigh(service, len(texts)))[0] == 201:
             texts.append(answer[1])
         self.same("a full disk", REFUSED, answer)
-        for method, target in (
-            ("POST", "/purge"),
-            ("GET", "/check"),
-            ("GET", "/journal.csv"),
-            ("GET", "/tickets/2"),
-        ):
-            data = bridge.request_bytes(method, target, "" if method == "POST" else None)
-            self.same(f"{target} after the fault", REFUSED, bridge.exchange(service, data))
+        self.same("/purge after the fault", REFUSED, bridge.post(service, "/purge"))
+        for target in ("/check", "/journal.csv", "/tickets/2"):
+            self.same(f"{target} after the fault", REFUSED, bridge.get(service, target))
         self.same("a repeated weighing", REFUSED, weigh(service, 0))
         indication = bridge.get(service, "/indication")
         self.same("the indication continues", 200, indication and indication[0])
         with bridge.Terminal(service) as terminal:
             replies = {terminal.ask("SI")[:3] for _ in range(100)}
         self.holds("the terminal continues", replies <= {"S S", "S D"}, replies)
-        end = service.end()
-        self.same("the service's status at its end", 0, end[2])
-        with open(log, encoding="ascii") as file:
-            lines = [line.rstrip("\n") for line in file if line.startswith("journal: ")]
+        self.same("the service's status at its end", 0, service.end()[2])
+        said = log.read_text(encoding="ascii").splitlines()
+        lines = [line for line in said if line.startswith("journal: ")]
         closed = ["journal: fault of the store 5 closed"] * 5
         self.same("the log", ["journal: fault of the store 2 disk", *closed], lines)
         return texts

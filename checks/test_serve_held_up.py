@@ -22,8 +22,6 @@ under --verbose, if it differs by more than a fifth for a minute.
 
 import os
 import re
-import signal
-import threading
 import time
 from collections.abc import Callable
 from concurrent.futures import ThreadPoolExecutor
@@ -31,6 +29,7 @@ from typing import NamedTuple, TypeVar
 
 from checks.lib import bridge
 from checks.lib.case import PROGRAM, Check
+from checks.lib.counter import Meanwhile, held
 from checks.lib.journal import make_journal
 from checks.lib.program import PROGRAM as BUILT
 from checks.lib.watching import OLD, Watch, load
@@ -76,30 +75,27 @@ def stand_still(
     service: bridge.Service, seconds: float, meanwhile: Callable[[], object] = lambda: None
 ) -> None:
     """Stop the process for this many seconds. Do something a fifth of that time after it stopped."""
-    service.process.send_signal(signal.SIGSTOP)
-    time.sleep(seconds / 5)
-    meanwhile()
-    time.sleep(seconds * 4 / 5)
-    service.process.send_signal(signal.SIGCONT)
+    with held(service.process):
+        time.sleep(seconds / 5)
+        meanwhile()
+        time.sleep(seconds * 4 / 5)
 
 
 def asked_meanwhile(
     service: bridge.Service, seconds: float, ask: Callable[[], bridge.Answer | None]
 ) -> tuple[bridge.Answer | None, float]:
     """Return the answer to a request while the process is stopped for this many seconds, and when it came; None if the connection is closed."""
-    answers: list[tuple[bridge.Answer | None, float]] = []
+    asking: list[Meanwhile] = []
 
-    def asked() -> None:
+    def asked() -> tuple[bridge.Answer | None, float]:
         try:
-            answer = ask()
+            return ask(), time.monotonic()
         except ConnectionError:
-            answer = None
-        answers.append((answer, time.monotonic()))
+            return None, time.monotonic()
 
-    asking = threading.Thread(target=asked)
-    stand_still(service, seconds, asking.start)
-    asking.join(30)
-    return answers[0]
+    stand_still(service, seconds, lambda: asking.append(Meanwhile(asked)))
+    found: tuple[bridge.Answer | None, float] = asking[0].get(30)
+    return found
 
 
 def timed(ask: Callable[[], Found]) -> tuple[Found, float]:
@@ -114,9 +110,12 @@ class ServeHeldUp(Check):
     alone = True
     seconds = 90
 
-    def start(self, converter: bridge.Converter, *options: str) -> bridge.Service:
-        self.file = os.path.join(self.folder(), "journal.db")
-        return self.enterContext(bridge.Service(BUILT, self.file, converter, *options))
+    def start(self, converter: bridge.Converter, *options: str, entries: int = 0) -> bridge.Service:
+        """Start a service over a journal that has this number of old entries."""
+        file = os.path.join(self.folder(), "journal.db")
+        if entries:
+            make_journal(file, entries, 400 * DAY)
+        return self.enterContext(bridge.Service(BUILT, file, converter, *options))
 
     def ends(self, service: bridge.Service) -> None:
         _, err, status = service.end()
@@ -135,9 +134,8 @@ class ServeHeldUp(Check):
         watch.join(30)
         oldest = max(watch.aged, default=0)
         kinds = ", ".join(f"{count} {kind}" for kind, count in sorted(watch.kinds.items()))
-        print(
-            f"{name}: {len(watch.took)} replies ({kinds}), {oldest:.2f} s old at most", flush=True
-        )
+        said = f"{len(watch.took)} replies ({kinds}), {oldest:.2f} s old at most"
+        print(f"{name}: {said}", flush=True)
         self.holds(f"{name}: no reply is made of an old reading", oldest <= OLD, oldest)
         self.holds(f"{name}: the weight comes back", len(watch.aged) > before)
         return watch
@@ -176,8 +174,7 @@ class ServeHeldUp(Check):
         """Request a weighing of a vehicle that drives off while the process is stopped."""
         service = self.start(bridge.Played(RATE))
         for seconds, wanted in ((IN_TIME, 409), (LATE, 0)):
-            service.put(0)
-            service.put(9170)
+            service.next_vehicle(9170)
 
             def drive_off() -> bridge.Answer | None:
                 service.converter.now = 0
@@ -191,10 +188,7 @@ class ServeHeldUp(Check):
 
     def test_exchanges(self) -> None:
         """Hold the office up by a check, both exports and a purge of many entries."""
-        converter = bridge.Converter(RATE, load)
-        file = os.path.join(self.folder(), "journal.db")
-        make_journal(file, ENTRIES, 400 * DAY)
-        service = self.enterContext(bridge.Service(BUILT, file, converter, "--capacity", "100000"))
+        service = self.start(bridge.Converter(RATE, load), "--capacity", "100000", entries=ENTRIES)
         time.sleep(2)
         for name, ask in (
             ("GET /check", lambda: bridge.get(service, "/check")),

@@ -15,9 +15,10 @@ import csv
 import io
 import os
 import random
-import struct
 import threading
 import time
+from contextlib import suppress
+from pathlib import Path
 
 from checks.lib import bridge
 from checks.lib.case import PROGRAM, Check, many
@@ -33,11 +34,7 @@ class Weighing(threading.Thread):
     """Weighs vehicle after vehicle: a First, and then its Second or a Void."""
 
     def __init__(
-        self,
-        service: bridge.Service,
-        number: int,
-        answered: dict[str, str],
-        open_plates: list[str],
+        self, service: bridge.Service, number: int, answered: dict[str, str], open_plates: list[str]
     ) -> None:
         super().__init__(daemon=True)
         self.service, self.number = service, number
@@ -64,7 +61,7 @@ class Weighing(threading.Thread):
                 raise OSError
 
     def run(self) -> None:
-        try:
+        with suppress(OSError, EOFError, ValueError, IndexError):
             while True:
                 self.number += 1
                 key, plate = f"K{self.number}", f"P-{self.number}"
@@ -80,28 +77,18 @@ class Weighing(threading.Thread):
                     self.put(0, 9170)
                     if self.weigh(key, "/weighings", f"key={key}&kind=first&plate={plate}"):
                         self.open_plates.append(plate)
-        except (OSError, EOFError, ValueError, IndexError):
-            pass
 
 
 def ends_in_a_transaction(path: str) -> bool:
     """Return whether the log ends with frames behind its last commit that belong to this log."""
-    try:
-        with open(path + "-wal", "rb") as it:
-            header = it.read(32)
-            if len(header) < 32:
-                return False
-            size = struct.unpack(">I", header[8:12])[0]
-            salts, last = header[16:24], False
-            while True:
-                frame = it.read(24 + size)
-                if len(frame) < 24:
-                    return last
-                if frame[8:16] != salts:
-                    return last
-                last = struct.unpack(">I", frame[4:8])[0] == 0
-    except OSError:
-        return False
+    log = Path(path + "-wal")
+    data, last = log.read_bytes() if log.exists() else b"", False
+    size = int.from_bytes(data[8:12], "big")
+    for at in range(32, len(data) - 23, 24 + size):
+        if data[at + 8 : at + 16] != data[16:24]:
+            break
+        last = not any(data[at + 4 : at + 8])
+    return last
 
 
 def wait_for_request(client: "Weighing", seconds: float) -> None:
@@ -187,8 +174,7 @@ class ServeKilled(Check):
                     was_stored = any(row["key"] == asked[0] for row in rows)
                     during, unanswered = during + 1, unanswered + was_stored
                     pending = (*asked, was_stored)
-        print(
-            f"{len(rows)} entries, {len(answered)} answers 201; {during} kills while a request was being made, of which {unanswered} had"
-            f" stored it without an answer; {torn} logs ended in a transaction that was not committed"
-        )
+        of_kills = f"{during} kills while a request was being made, of which {unanswered} had stored it without an answer"
+        print(f"{len(rows)} entries, {len(answered)} answers 201; {of_kills}")
+        print(f"{torn} logs ended in a transaction that was not committed")
         self.holds("kills came while a request was being made", during)

@@ -22,17 +22,16 @@ seconds later. The service can't know of a request before it is in the queue. So
 from when /proc/net/tcp shows its first byte in the service's socket.
 """
 
-import os
+import contextlib
 import resource
-import signal
 import socket
-import threading
 import time
 from concurrent.futures import ThreadPoolExecutor
 
 from checks.lib import bridge
 from checks.lib.arrivals import Arrivals
 from checks.lib.case import PROGRAM, Check
+from checks.lib.counter import Meanwhile, held
 from checks.lib.program import PROGRAM as BUILT
 from checks.lib.showing import becomes, same
 
@@ -48,9 +47,14 @@ STILL = 4.8
 LOADED = "S S      18340 kg"
 
 
-def part(answer: bridge.Answer | None, number: int) -> int | str:
-    """Return the status of an answer, or its body."""
-    return answer[number] if answer else "no answer"
+def post(service: bridge.Service, target: str, body: str) -> int | None:
+    """Return the status of a request's answer."""
+    answer = bridge.post(service, target, body)
+    return answer and answer[0]
+
+
+def show_entries(what: str, service: bridge.Service, count: int) -> None:
+    same(what, (200, f"SOUND {count}\n"), bridge.get(service, "/check"))
 
 
 def connected(port: int) -> socket.socket:
@@ -78,26 +82,18 @@ def until_closed(stream: socket.socket, seconds: float = 20.0) -> tuple[float | 
 
 
 def answered(
-    port: int, data: bytes, sent: list[bytes] | None = None, arrivals: Arrivals | None = None
+    port: int, data: bytes, sent: list[bytes], arrivals: Arrivals | None = None
 ) -> tuple[float, int]:
-    """Returns for how many seconds a request was there for the service until it was answered or closed, and the status, which is 0 if it was closed.
-    Notes in `sent` that it was sent."""
+    """Return for how many seconds a request was there for the service until it was answered or closed, and the status, which is 0 if it was closed.
+    Note in `sent` that it was sent."""
     with connected(port) as stream:
         client, began = stream.getsockname()[1], time.monotonic()
         stream.sendall(data)
-        if sent is not None:
-            sent.append(data)
+        sent.append(data)
         _, got = until_closed(stream, 60)
         now = time.monotonic()
         since = arrivals.since(client, began) if arrivals else began
         return now - since, int(got.split()[1]) if got.startswith(b"HTTP/1.1 ") else 0
-
-
-def tare_is(service: bridge.Service, wanted: str, what: str) -> None:
-    """Show by a new terminal that the preset tare is the wanted one."""
-    terminal = bridge.Terminal(service)
-    same(what, wanted, terminal.ask("TA"))
-    terminal.close()
 
 
 def show_waiting_commands(service: bridge.Service, name: str) -> None:
@@ -111,18 +107,13 @@ def show_waiting_commands(service: bridge.Service, name: str) -> None:
     waiting.sendall(b"TA 9000 kg\r\n")
     took, got = until_closed(waiting)
     same(f"{name}: a command that waits is closed without a reply", b"", got)
-    same(
-        f"{name}: after two seconds",
-        True,
-        took is not None and LATE_COMMAND - 0.3 < took < LATE_COMMAND + SLACK,
-    )
+    is_in_time = took is not None and LATE_COMMAND - 0.3 < took < LATE_COMMAND + SLACK
+    same(f"{name}: after two seconds", True, is_in_time)
     first.close()
     terminal = bridge.Terminal(service)
-    same(
-        f"{name}: and isn't carried out, nor are those of clients that left",
-        ["TA A          0 kg", "S S        400 kg"],
-        [terminal.ask("TA"), terminal.ask("SI")],
-    )
+    replies = [terminal.ask("TA"), terminal.ask("SI")]
+    what = f"{name}: and isn't carried out, nor are those of clients that left"
+    same(what, ["TA A          0 kg", "S S        400 kg"], replies)
     behind = bridge.Terminal(service)
     behind.send(b"TA 9000 kg\r\n")
     terminal.close()
@@ -157,11 +148,9 @@ def show_idle(service: bridge.Service, name: str, command: bytes) -> bridge.Term
     time.sleep(0.5)
     waiting = bridge.Terminal(service)
     took, _ = until_closed(idle, IDLE + 10)
-    same(
-        f"{name}: after {command!r} it is disconnected after a minute for another",
-        True,
-        took is not None and IDLE - 1 < took < IDLE + SLACK,
-    )
+    is_in_time = took is not None and IDLE - 1 < took < IDLE + SLACK
+    what = f"{name}: after {command!r} it is disconnected after a minute for another"
+    same(what, True, is_in_time)
     same(f"{name}: which is served", 'I4 A "WB01"', waiting.ask("I4"))
     return waiting
 
@@ -169,64 +158,46 @@ def show_idle(service: bridge.Service, name: str, command: bytes) -> bridge.Term
 def show_alone(name: str, terminal: bridge.Terminal) -> None:
     """Show that a terminal stays if nobody waits for it."""
     time.sleep(IDLE + 3)
-    same(
-        f"{name}: without another it stays longer than a minute", 'I4 A "WB01"', terminal.ask("I4")
-    )
+    what = f"{name}: without another it stays longer than a minute"
+    same(what, 'I4 A "WB01"', terminal.ask("I4"))
     terminal.close()
 
 
 def show_stopped(service: bridge.Service, name: str) -> None:
     """Stop the process while something comes."""
-    service.put(0)
-    service.put(9170)
-    same(
-        f"{name}: a weighing",
-        201,
-        part(bridge.post(service, "/weighings", "key=K1&kind=first&plate=AB-12"), 0),
-    )
+    service.next_vehicle(9170)
+    weighing, void = "key=K1&kind=first&plate=AB-12", "key=K2&plate=AB-12"
+    same(f"{name}: a weighing", 201, post(service, "/weighings", weighing))
     terminal = bridge.Terminal(service)
     same(f"{name}: the terminal before", LOADED, terminal.ask("SI"))
-    service.process.send_signal(signal.SIGSTOP)
-    terminal.send(b"TA 9000 kg\r\n")
-    time.sleep(3)
-    service.process.send_signal(signal.SIGCONT)
-    same(
-        f"{name}: stopped for three seconds, the terminal is closed without a reply",
-        b"",
-        until_closed(terminal.stream)[1],
-    )
-    tare_is(service, "TA A          0 kg", f"{name}: and the tare isn't set")
-    service.process.send_signal(signal.SIGSTOP)
-    office = connected(service.office)
-    office.sendall(bridge.request_bytes("POST", "/voids", "key=K2&plate=AB-12"))
-    time.sleep(6)
-    service.process.send_signal(signal.SIGCONT)
-    same(
-        f"{name}: stopped for six seconds, a void is closed without an answer",
-        b"",
-        until_closed(office)[1],
-    )
-    same(f"{name}: and isn't stored", "SOUND 1\n", part(bridge.get(service, "/check"), 1))
-    same(
-        f"{name}: sent again it is",
-        201,
-        part(bridge.post(service, "/voids", "key=K2&plate=AB-12"), 0),
-    )
+    with held(service.process):
+        terminal.send(b"TA 9000 kg\r\n")
+        time.sleep(3)
+    what = f"{name}: stopped for three seconds, the terminal is closed without a reply"
+    same(what, b"", until_closed(terminal.stream)[1])
+    with bridge.Terminal(service) as terminal:
+        same(f"{name}: and the tare isn't set", "TA A          0 kg", terminal.ask("TA"))
+    with held(service.process):
+        office = connected(service.office)
+        office.sendall(bridge.request_bytes("POST", "/voids", void))
+        time.sleep(6)
+    what = f"{name}: stopped for six seconds, a void is closed without an answer"
+    same(what, b"", until_closed(office)[1])
+    show_entries(f"{name}: and isn't stored", service, 1)
+    same(f"{name}: sent again it is", 201, post(service, "/voids", void))
 
 
 def show_silent(service: bridge.Service, name: str) -> None:
     """Show that a weighing behind a thousand silent connections is stored."""
-    service.put(0)
-    service.put(9170)
+    service.next_vehicle(9170)
     silent = []
     for _ in range(1000):
         stream = socket.socket()
         stream.setblocking(False)
         stream.connect_ex((bridge.HOST, service.office))
         silent.append(stream)
-    took, status = answered(
-        service.office, bridge.request_bytes("POST", "/weighings", "key=K3&kind=first&plate=CD-34")
-    )
+    weighing = bridge.request_bytes("POST", "/weighings", "key=K3&kind=first&plate=CD-34")
+    took, status = answered(service.office, weighing, [])
     print(f"{name}: behind a thousand silent connections it took {took:.2f} s", flush=True)
     same(f"{name}: the weighing is stored", 201, status)
     same(f"{name}: in time", True, took < LATE_COMMAND + SLACK)
@@ -236,75 +207,40 @@ def show_silent(service: bridge.Service, name: str) -> None:
 
 def show_many(service: bridge.Service, rate: float, name: str) -> None:
     """More requests at once than turns of five seconds answer, and weighings behind them."""
-    service.put(0)
-    service.put(4070)
+    service.next_vehicle(4070)
     arrivals = Arrivals(service.office)
     becomes(f"{name}: no connection is left of those before", 0, lambda: unanswered(arrivals), 60)
     count = int(rate * LATE_REQUEST * 1.4)
-    found: list[tuple[float, int]] = []
-    behind: list[tuple[float, int]] = []
     sent: list[bytes] = []
-    asking = [
-        threading.Thread(
-            target=lambda: found.append(
-                answered(service.office, bridge.request_bytes("GET", "/indication"), sent, arrivals)
-            ),
-            daemon=True,
-        )
-        for _ in range(count)
-    ]
-    weighing = threading.Thread(
-        target=lambda: behind.append(
-            answered(
-                service.office,
-                bridge.request_bytes("POST", "/weighings", "key=K5&kind=second&plate=CD-34"),
-                sent,
-            )
-        ),
-        daemon=True,
-    )
+    look = bridge.request_bytes("GET", "/indication")
+    late, again = (f"key={key}&kind=second&plate=CD-34" for key in ("K4", "K5"))
+
+    def begin(number: int) -> list[Meanwhile]:
+        return [Meanwhile(answered, service.office, look, sent, arrivals) for _ in range(number)]
+
     stands_still = count > LISTENER
-    if stands_still:
-        service.process.send_signal(signal.SIGSTOP)
     until = time.monotonic() + STILL
-    for it in asking[:BEFORE]:
-        it.start()
-    are_sent(name, sent, min(count, BEFORE))
-    left(
-        service.office,
-        bridge.request_bytes("POST", "/weighings", "key=K4&kind=second&plate=CD-34"),
-    )
-    weighing.start()
-    are_sent(name, sent, min(count, BEFORE) + 1)
-    for it in asking[BEFORE:]:
-        it.start()
-    if stands_still:
-        becomes(
-            f"{name}: the listener's queue is full", True, lambda: arrivals.waiting > LISTENER, 5
-        )
-        time.sleep(max(0, until - time.monotonic()))
-        service.process.send_signal(signal.SIGCONT)
-    for it in [weighing, *asking]:
-        it.join(60)
+    with held(service.process) if stands_still else contextlib.nullcontext():
+        asking = begin(min(count, BEFORE))
+        are_sent(name, sent, len(asking))
+        left(service.office, bridge.request_bytes("POST", "/weighings", late))
+        weighing = bridge.request_bytes("POST", "/weighings", again)
+        behind = Meanwhile(answered, service.office, weighing, sent)
+        are_sent(name, sent, len(asking) + 1)
+        asking += begin(count - len(asking))
+        if stands_still:
+            what = f"{name}: the listener's queue is full"
+            becomes(what, True, lambda: arrivals.waiting > LISTENER, 5)
+            time.sleep(max(0, until - time.monotonic()))
+    _, status = behind.get()
+    found = [it.get() for it in asking]
     arrivals.close()
     tell_many(name, count, found)
-    same(f"{name}: a weighing behind them is closed", [0], [status for _, status in behind])
-    same(
-        f"{name}: no weighing behind them is stored",
-        "SOUND 3\n",
-        part(bridge.get(service, "/check"), 1),
-    )
-    same(
-        f"{name}: the same key again is",
-        201,
-        part(bridge.post(service, "/weighings", "key=K5&kind=second&plate=CD-34"), 0),
-    )
-    same(
-        f"{name}: and again, it is answered",
-        201,
-        part(bridge.post(service, "/weighings", "key=K5&kind=second&plate=CD-34"), 0),
-    )
-    same(f"{name}: as one entry", "SOUND 4\n", part(bridge.get(service, "/check"), 1))
+    same(f"{name}: a weighing behind them is closed", 0, status)
+    show_entries(f"{name}: no weighing behind them is stored", service, 3)
+    same(f"{name}: the same key again is", 201, post(service, "/weighings", again))
+    same(f"{name}: and again, it is answered", 201, post(service, "/weighings", again))
+    show_entries(f"{name}: as one entry", service, 4)
 
 
 def are_sent(name: str, sent: list[bytes], count: int) -> None:
@@ -312,13 +248,13 @@ def are_sent(name: str, sent: list[bytes], count: int) -> None:
 
 
 def unanswered(arrivals: Arrivals) -> int:
-    """Returns the number of connections in the listener's queue, and of sockets of the service and its clients."""
+    """Return the number of connections in the listener's queue, and of sockets of the service and its clients."""
     arrivals.next_poll()
     return arrivals.waiting + arrivals.sockets
 
 
 def tell_many(name: str, count: int, found: list[tuple[float, int]]) -> None:
-    """Judges the answers to the requests at once."""
+    """Judge the answers to the requests at once."""
     kept = [took for took, status in found if status == 200]
     closed = [took for took, status in found if status == 0]
     oldest = max(kept, default=0.0)
@@ -335,9 +271,7 @@ def tell_many(name: str, count: int, found: list[tuple[float, int]]) -> None:
 def start(folder: str, rate: float) -> bridge.Service:
     """Start a service with this rate of turns and an empty bridge."""
     pace = f"{rate:.0f}"
-    service = bridge.Service(
-        BUILT, os.path.join(folder, f"{pace}.db"), bridge.Played(rate), "--pace", pace
-    )
+    service = bridge.Service(BUILT, f"{folder}/{pace}.db", bridge.Played(rate), "--pace", pace)
     service.put(0)
     return service
 

@@ -8,6 +8,7 @@ fails if the second is more than the first by more than 4 kB for each entry that
 import os
 import threading
 import time
+from contextlib import suppress
 
 from checks.lib import bridge
 from checks.lib.case import PROGRAM, Check, many
@@ -43,24 +44,21 @@ def place_of(service: bridge.Service, path: str) -> int:
 
 
 def ask_terminal(service: bridge.Service, counts: dict[str, int]) -> None:
-    try:
+    with suppress(OSError, EOFError):
         terminal = bridge.Terminal(service)
         while True:
             terminal.send(b"SI\r\n" * 50)
             for _ in range(50):
                 terminal.line()
             counts["commands"] += 50
-    except (OSError, EOFError):
-        pass
 
 
 def weigh(service: bridge.Service, counts: dict[str, int]) -> None:
     number = 0
-    try:
+    with suppress(OSError):
         while True:
-            body = (
-                f"key=K{number}&kind={['first', 'second'][number % 2]}&plate=P-{number // 2 % 50}"
-            )
+            kind, plate = ["first", "second"][number % 2], f"P-{number // 2 % 50}"
+            body = f"key=K{number}&kind={kind}&plate={plate}"
             answer = bridge.post(service, "/weighings", body)
             if answer is None:
                 return
@@ -68,8 +66,6 @@ def weigh(service: bridge.Service, counts: dict[str, int]) -> None:
             if answer[0] == 201:
                 number += 1
                 counts["entries"] += 1
-    except OSError:
-        pass
 
 
 class ServeLong(Check):

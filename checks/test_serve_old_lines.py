@@ -12,15 +12,19 @@ starts, and a till requests B's weighing at once, again and again:
 The check tries that twenty times. A plain file is still read whole, from its first line.
 """
 
+import contextlib
 import os
 import signal
 import threading
 import time
+from collections.abc import Callable
+from pathlib import Path
 
 from checks.lib import bridge
 from checks.lib.case import PROGRAM, Check, many
 from checks.lib.program import PROGRAM as BUILT
 from checks.lib.program import printed
+from checks.lib.tried_twice import addresses
 from checks.lib.waiting import wait_until
 
 RATE = 40.0
@@ -64,12 +68,17 @@ class Writer(bridge.Closing, threading.Thread):
             os.close(self.fifo)
 
 
-def weigh(service: bridge.Service, key: str) -> bridge.Answer | None:
-    """Ask for a weighing of B. Return the answer, or None if the connection was closed."""
-    try:
-        return bridge.post(service, "/weighings", f"key={key}&kind=first&plate=BB-22")
-    except OSError:
-        return None
+def weigh(service: bridge.Service, key: str) -> bridge.Answer:
+    """Ask for a weighing of B. Return the answer, whose status is 0 if the connection was closed."""
+    with contextlib.suppress(OSError):
+        return bridge.post(service, "/weighings", f"key={key}&kind=first&plate=BB-22") or (0, "")
+    return 0, ""
+
+
+def weigh_until(
+    service: bridge.Service, key: str, is_so: Callable[[bridge.Answer], bool]
+) -> bridge.Answer:
+    return wait_until(f"the weighing of {key}", lambda: weigh(service, key), is_so, pause=0.005)
 
 
 class ServeOldLines(Check):
@@ -86,25 +95,14 @@ class ServeOldLines(Check):
             while time.monotonic() < over:
                 answers.append(weigh(service, "B1"))
                 shown.append(terminal.ask("SI"))
-        stored = [it for it in answers if it and it[0] == 201]
+        stored = [it for it in answers if it[0] == 201]
         self.same("nothing is stored, because the bridge was never empty", [], stored)
         left = [it for it in shown if "18340" in it]
         self.same("the weight of the vehicle that has left isn't shown", [], left)
-        wait_until(
-            "refused since the bridge wasn't empty",
-            lambda: weigh(service, "B1"),
-            lambda it: it is not None and it[1] == "refused 11 not_cleared\n",
-            pause=0.005,
-        )
+        weigh_until(service, "B1", lambda it: it == (409, "refused 11 not_cleared\n"))
         writer.put(0, STABLE)
         writer.put(B, STABLE)
-        answer = wait_until(
-            "B is weighed",
-            lambda: weigh(service, "B2"),
-            lambda it: it is not None and it[0] == 201,
-            pause=0.005,
-        )
-        slip = answer[1] if answer else ""
+        _, slip = weigh_until(service, "B2", lambda it: it[0] == 201)
         self.holds("B has its own weight", WEIGHT_OF_B in slip and WEIGHT_OF_A not in slip, slip)
 
     def test_fifo(self) -> None:
@@ -127,9 +125,7 @@ class ServeOldLines(Check):
 
     def test_plain_file(self) -> None:
         folder = self.folder()
-        with open(f"{folder}/lines", "w", encoding="ascii") as file:
-            file.write("0\n9170\n9170\n9170\n9170\n")
-        words = ["--file", f"{folder}/plain.db", "--converter", f"{folder}/lines"]
-        for it in ("--terminal", "--office"):
-            words += [it, f"{bridge.HOST}:{bridge.free_port()}"]
+        Path(folder, "lines").write_text("0\n9170\n9170\n9170\n9170\n", encoding="ascii")
+        own = addresses(bridge.free_port(), bridge.free_port(), f"{folder}/lines")
+        words = ["--file", f"{folder}/plain.db", *own]
         self.assertEqual((0, "turns 5\n", ""), printed("serve", *words), "it is read whole")

@@ -18,6 +18,7 @@ import os
 import socket
 import threading
 import time
+from contextlib import suppress
 
 from checks.lib import bridge
 from checks.lib.case import PROGRAM, Check
@@ -74,11 +75,10 @@ class Display(bridge.Terminal):
     def take_the_rest(self) -> None:
         """Take lines until none comes for a second."""
         self.stream.settimeout(1)
-        try:
+        with suppress(TimeoutError):
             while True:
                 self.take()
-        except TimeoutError:
-            self.stream.settimeout(20)
+        self.stream.settimeout(20)
 
     def gaps(self) -> int:
         """Return how often a value isn't that of the line after the one before, though no reading was lost between."""
@@ -191,11 +191,8 @@ class ServeRepetition(Check):
         terminal = self.served_within(HUNG_UP)
         print(f"the next terminal is served after {time.monotonic() - start:.1f} s", flush=True)
         terminal.take_the_rest()
-        self.same(
-            "the next terminal repeats nothing",
-            (['I4 A "WB01"'], []),
-            (terminal.others, terminal.values),
-        )
+        found = (terminal.others, terminal.values)
+        self.same("the next terminal repeats nothing", (['I4 A "WB01"'], []), found)
         asker.over.set()
         asker.join(60)
         self.same("indications that were lost meanwhile", 0, asker.lost)

@@ -7,13 +7,11 @@ The converter is a FIFO, into which the load in a file is written twenty times a
 import os
 import re
 import resource
-import signal
 import socket
-import sqlite3
 import subprocess
 import threading
 import time
-from contextlib import closing
+from contextlib import suppress
 from pathlib import Path
 from typing import Any
 
@@ -22,6 +20,7 @@ from checks.lib.bridge import HOST
 from checks.lib.case import PROGRAM, Check
 from checks.lib.program import PROGRAM as BUILT
 from checks.lib.program import printed
+from checks.lib.tried_twice import limited
 
 EMPTY, FULL = "STABLE G          0 kg N          0 kg", "STABLE G      18340 kg N      18340 kg"
 FIRST = "key=K1&kind=first&plate=AB-12"
@@ -46,12 +45,10 @@ class Fifo:
 
     def write(self) -> None:
         while not self.ended.is_set():
-            try:
-                with open(self.source, "w") as fifo:  # which waits for a service
-                    while not self.ended.wait(0.05):
-                        print(self.now, file=fifo, flush=True)
-            except BrokenPipeError:
-                pass  # the service has ended
+            # opening it waits for a service, and a service that has ended breaks the pipe
+            with suppress(BrokenPipeError), open(self.source, "w") as fifo:
+                while not self.ended.wait(0.05):
+                    print(self.now, file=fifo, flush=True)
 
     def put(self, load: int) -> None:
         """Put a load on the bridge, and wait until it stands still."""
@@ -71,11 +68,9 @@ def over_terminal(port: int, *parts: bytes) -> list[str]:
             time.sleep(0.2)
         stream.shutdown(socket.SHUT_WR)
         said = b""
-        try:
+        with suppress(TimeoutError):
             while more := stream.recv(4096):
                 said += more
-        except TimeoutError:
-            pass
     return said.decode().splitlines()
 
 
@@ -214,17 +209,7 @@ class ServeRoutes(Check):
 
     def test_journal_of_last_year(self) -> None:
         """Show a purge, and what it leaves of a key."""
-        moment, later = 1741593600, 1741599000
-        first = journal.digest_of(1, "K1", "first", "AB-12", moment, 18340, "-")
-        second = journal.digest_of(2, "K2", "second", "AB-12", later, 8140, "-", previous=first)
-        insert = (
-            "INSERT INTO journal VALUES (?, ?, ?, 'AB-12', ?, ?, NULL, 20, 60000, 'WB01', ?, ?)"
-        )
-        with closing(sqlite3.connect(f"{self.box}/old.db")) as base:
-            base.executescript(journal.TABLES)
-            base.execute(insert, (1, "K1", 1, moment, 18340, first, journal.ZEROS))
-            base.execute(insert, (2, "K2", 2, later, 8140, second, first))
-            base.commit()
+        journal.write_rows(f"{self.box}/old.db", journal.PAIR)
         self.start("old.db")
         self.show(
             ("its ticket", "200 WEIGHING TICKET 2", "tickets/2"),
@@ -235,12 +220,7 @@ class ServeRoutes(Check):
 
     def test_log_that_accepts_no_more(self) -> None:
         """Show that the office is refused, and that the scale continues, if the log accepts no more than 300 kB."""
-
-        def limit() -> None:
-            signal.signal(signal.SIGXFSZ, signal.SIG_IGN)
-            resource.setrlimit(resource.RLIMIT_FSIZE, (300 << 10, 300 << 10))
-
-        self.start("small.db", limit=limit)
+        self.start("small.db", limit=limited((resource.RLIMIT_FSIZE, 300 << 10)))
         answers: list[str] = []
         for number in range(1, 41):
             self.converter.put(0)

@@ -38,8 +38,7 @@ class ServeSameKey(Check):
 
     def weigh_at_once(self, bodies: list[str]) -> Answers:
         """Let a vehicle drive onto the cleared bridge. Return the answers to weighings that are sent at the same time, each over a connection of its own."""
-        self.service.put(0)
-        self.service.put(9170)
+        self.service.next_vehicle(9170)
         start = Barrier(len(bodies))
 
         def client(body: str) -> bridge.Answer | None:

@@ -58,9 +58,8 @@ class SignedSums(Check):
 
     def is_verified(self) -> bool:
         command = typed("ssh-keygen -Y verify")
-        return not subprocess.run(
-            command, shell=True, cwd=self.release, capture_output=True
-        ).returncode
+        ran = subprocess.run(command, shell=True, cwd=self.release, capture_output=True)
+        return ran.returncode == 0
 
     def named(self, command: str, folder: Path) -> list[str]:
         """Return the files that a command of the page names."""
@@ -69,10 +68,8 @@ class SignedSums(Check):
 
     def sign(self, key: str, purpose: str) -> None:
         words = ["ssh-keygen", "-q", "-Y", "sign", "-f", str(self.box / key), "-n", purpose]
-        signed = subprocess.run(
-            words, input=self.sums.read_bytes(), capture_output=True, check=True
-        )
-        (self.release / "SHA256SUMS.sig").write_bytes(signed.stdout)
+        it = subprocess.run(words, input=self.sums.read_bytes(), capture_output=True, check=True)
+        (self.release / "SHA256SUMS.sig").write_bytes(it.stdout)
 
     def test_release(self) -> None:
         unsigned = f"{self.sums} is not signed: WEIGHBRIDGE_SIGNING_KEY names no key"
@@ -104,16 +101,13 @@ class SignedSums(Check):
             subprocess.run(["dpkg-deb", "--extract", package, self.root], check=True)
         command = typed("sums=").replace("cd / ", f"cd {self.root} ")
         self.same("the files are those of the list", [], self.named(command, self.release))
-        files = [
-            it
-            for it in self.root.rglob("*")
-            if it.is_file() and not it.is_symlink() and it.relative_to(self.root).parts[0] != "etc"
-        ]
+        plain = [it for it in self.root.rglob("*") if it.is_file() and not it.is_symlink()]
+        files = [it for it in plain if it.relative_to(self.root).parts[0] != "etc"]
         every = f"sha256sum --check --ignore-missing {self.sums}"
         ran = subprocess.run(every, shell=True, cwd=self.root, capture_output=True, text=True)
         self.same("the list has each of them", len(files), ran.stdout.count(": OK\n"))
-        with open(self.root / PAGE_JS, "a") as file:
-            file.write(" ")
+        script = self.root / PAGE_JS
+        script.write_bytes(script.read_bytes() + b" ")
         self.same("a changed file is named", [PAGE_JS], self.named(command, self.release))
 
     def show_other_signatures(self, signers: Path) -> None:

@@ -47,8 +47,7 @@ class Weighing(threading.Thread):
                 self.weigh("/weighings", f"kind=second&plate=P-{number}")
 
     def weigh(self, target: str, form: str) -> None:
-        self.service.put(0)
-        self.service.put(9170 - self.asked % 1000)
+        self.service.next_vehicle(9170 - self.asked % 1000)
         self.asked += 1
         answer = bridge.post(self.service, target, f"key=K{self.asked}&{form}")
         if answer and answer[0] == 201:
@@ -112,11 +111,8 @@ def show_copies(service: bridge.Service, folder: str, file: str) -> None:
     )
     same("the database itself was written meanwhile", True, written(file) > written(early))
     shutil.copyfile(file + "-wal", early + "-wal")
-    same(
-        "a database of before with a log of after",
-        (1, "", "store 2 disk\n"),
-        printed("check", "--file", early),
-    )
+    refused = printed("check", "--file", early)
+    same("a database of before with a log of after", (1, "", "store 2 disk\n"), refused)
 
 
 def exported_rows(text: str) -> list[tuple[str, ...]]:
@@ -128,10 +124,8 @@ def exported_rows(text: str) -> list[tuple[str, ...]]:
 
 
 def shown_rows(file: str) -> list[tuple[str, ...]]:
-    status, out, err = shell(
-        file,
-        "SELECT number, request_key, plate, gross_kg, digest, previous FROM journal ORDER BY number",
-    )
+    columns = "number, request_key, plate, gross_kg, digest, previous"
+    status, out, err = shell(file, f"SELECT {columns} FROM journal ORDER BY number")
     same("the shell reads it", (0, ""), (status, err))
     return [tuple(line.split("|")) for line in out.splitlines()]
 
@@ -141,10 +135,8 @@ def show_in_shell(what: str, file: str, text: str) -> None:
     same(f"{what}: integrity", (0, "ok\n", ""), shell(file, "PRAGMA integrity_check"))
     same(f"{what}: entries", exported_rows(text), shown_rows(file))
     columns = "number, request_key, kind, plate, moment, coalesce(gross_kg, '-'), coalesce(preset_kg, '-'), digest, previous"
-    rows = [
-        line.split("|")
-        for line in shell(file, f"SELECT {columns} FROM journal ORDER BY number")[1].splitlines()
-    ]
+    _, out, _ = shell(file, f"SELECT {columns} FROM journal ORDER BY number")
+    rows = [line.split("|") for line in out.splitlines()]
     digests = [
         digest_of(number, key, KINDS[int(kind)], *more, previous=previous)
         for number, key, kind, *more, _, previous in rows
@@ -190,8 +182,7 @@ class Sqlite3OnTheFile(Check):
         number = 2 * VEHICLES + 1
         played = bridge.Played(200.0)
         with bridge.Service(BUILT, file, played, "--capacity", "100000") as service:
-            service.put(0)
-            service.put(9170)
+            service.next_vehicle(9170)
             answer = bridge.post(service, "/weighings", "key=N1&kind=first&plate=AB-12")
             status, body = answer or (0, "")
             slip = (201, f"WEIGHING SLIP {number}")

@@ -9,6 +9,7 @@
 import os
 import stat
 import subprocess
+from pathlib import Path
 
 from checks.lib.case import Check
 from checks.lib.installed import install
@@ -38,23 +39,18 @@ class Support(Check):
         self.same("the file is written", 0, ran.returncode)
         self.same("where it is", f"{path}: written, ", ran.stdout[: len(path) + 11])
         self.same("only its owner reads it", 0o600, stat.S_IMODE(os.stat(path).st_mode))
-        with open(path, encoding="utf-8") as file:
-            text = file.read()
-        self.same(
-            "parts that are missing", [], [it for it in TITLES if f"\n== {it} ==\n" not in text]
-        )
+        text = Path(path).read_text(encoding="utf-8")
+        missing = [it for it in TITLES if f"\n== {it} ==\n" not in text]
+        self.same("parts that are missing", [], missing)
         setup = "/etc/weighbridge-alarm.toml"
         is_said = f"== {setup} ==\nnot available: " in text or os.path.exists(setup)
         self.holds("a setup that isn't there is named", is_said, text)
-        again = written(path)
-        with open(path, encoding="utf-8") as file:
-            self.same("a file that is there stays", (1, text), (again.returncode, file.read()))
+        again = (written(path).returncode, Path(path).read_text(encoding="utf-8"))
+        self.same("a file that is there stays", (1, text), again)
         gone = written(f"{box}/gone/x")
         words = "No such file or directory; name a new file with --output"
-        self.same(
-            "a folder that isn't there is named",
-            (1, f"weighbridge-support: {box}/gone/x: {words}"),
-            (gone.returncode, gone.stderr.splitlines()[-1]),
-        )
+        wanted = (1, f"weighbridge-support: {box}/gone/x: {words}")
+        found = (gone.returncode, gone.stderr.splitlines()[-1])
+        self.same("a folder that isn't there is named", wanted, found)
         shown = written("-")
         self.same("on the screen", (0, True), (shown.returncode, "== Versions ==" in shown.stdout))

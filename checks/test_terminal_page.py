@@ -20,6 +20,7 @@ import subprocess
 import tempfile
 import threading
 import time
+from pathlib import Path
 from typing import Any
 
 from checks import TOP
@@ -133,10 +134,7 @@ class TerminalPage(Check):
 
     @classmethod
     def setUpClass(cls) -> None:
-        made = [str(TOP / "library" / "build")]
-        cls.built = subprocess.run(
-            made, check=True, stdout=subprocess.PIPE, text=True
-        ).stdout.strip()
+        cls.built = subprocess.check_output([TOP / "library" / "build"], text=True).strip()
         site = cls.enterClassContext(tempfile.TemporaryDirectory())
         shutil.copy(TOP / "library" / "terminal.html", site)
         shutil.copy(os.path.join(cls.built, "weighbridge_terminal.wasm"), site)
@@ -281,13 +279,11 @@ class TerminalPage(Check):
         self.runs("the page runs again")
         browser.run("weighing.stop(); document.getElementById('apply').click(); weighing.stop()")
         browser.run(KEEP_DRAWN)
+        spread = "S waits: the last 4 readings spread over 3 tenths of e (6 kg), and 2 may be."
         for loads, wanted in (
             ([9170] * 3, "S waits for 1 more reading: 4 have to agree."),
             ([9172], "S answers: the last 4 readings are within 2 tenths of e (4 kg)."),
-            (
-                [9173],
-                "S waits: the last 4 readings spread over 3 tenths of e (6 kg), and 2 may be.",
-            ),
+            ([9173], spread),
             ([None], "S waits for 4 more readings: 4 have to agree."),
             ([10] * 4, "S answers: the last 4 readings are the same."),
             ([-3, -3, -3, -4], "S answers: the last 4 readings are within 1 tenth of e (2 kg)."),
@@ -388,8 +384,7 @@ class TerminalPage(Check):
         self.browser.run("scrollTo(0, 0)")
         if PICTURES:
             os.makedirs(PICTURES, exist_ok=True)
-            with open(os.path.join(PICTURES, f"terminal-{name}.png"), "wb") as it:
-                it.write(self.browser.picture())
+            Path(PICTURES, f"terminal-{name}.png").write_bytes(self.browser.picture())
 
     def act(self) -> None:
         """Play a minute's part of a weighing, for the pictures."""

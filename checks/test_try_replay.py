@@ -66,19 +66,12 @@ class TryReplay(Check):
         os.utime(out / "proved" / "stamp", (0, 0))
         with open(out / "building", "w", encoding="utf-8") as held:
             fcntl.flock(held, fcntl.LOCK_EX)
-            second = subprocess.Popen(
-                [TOP / "weighbridge", "--version"],
-                stdout=subprocess.PIPE,
-                stderr=subprocess.PIPE,
-                text=True,
-            )
+            words, pipe = [str(TOP / "weighbridge"), "--version"], subprocess.PIPE
+            second = subprocess.Popen(words, stdout=pipe, stderr=pipe, text=True)
             assert second.stderr is not None  # it is a pipe
             said = second.stderr.readline()
-            self.holds(
-                "it says so",
-                said.startswith("weighbridge: another ./weighbridge is building"),
-                said,
-            )
+            is_said = said.startswith("weighbridge: another ./weighbridge is building")
+            self.holds("it says so", is_said, said)
             self.same("and waits", None, second.poll())
         printed, err = second.communicate(timeout=60)
         self.same("then it continues", (ran(["--version"])[0], ""), (printed, err))

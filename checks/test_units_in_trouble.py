@@ -311,12 +311,8 @@ class UnitsInTrouble(Check):
         began = time.monotonic()
         answer = bridge.weigh("SLOW", seconds=5)
         self.same("an answer is late", "no answer: 28", answer)
-        self.becomes(
-            "the same key is answered once it is stored",
-            str(A),
-            lambda: bridge.gross(bridge.weigh("SLOW", seconds=30)),
-            120,
-        )
+        what = "the same key is answered once it is stored"
+        self.becomes(what, str(A), lambda: bridge.gross(bridge.weigh("SLOW", seconds=30)), 120)
         self.holds("after more than 20 seconds", time.monotonic() - began > 20)
         slow.terminate()
         slow.wait()

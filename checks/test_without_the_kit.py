@@ -20,8 +20,8 @@ INSTALL = "weighbridge: to run a weighbridge, install the package instead: docs/
 
 def first_command() -> str:
     """Return the first command of README.md."""
-    with open(TOP / "README.md", encoding="utf-8") as page:
-        found = re.search(r"(?m)^```sh kit\n(.*\./weighbridge .*)$", page.read())
+    page = (TOP / "README.md").read_text(encoding="utf-8")
+    found = re.search(r"(?m)^```sh kit\n(.*\./weighbridge .*)$", page)
     assert found, "README.md has a command for the kit"
     return found[1]
 
@@ -35,13 +35,8 @@ def write(path: str, text: str) -> None:
 
 def ran(folder: str, path: str, command: str) -> tuple[int, str, list[str]]:
     """Run a command. Returns its status, and what it printed and reported."""
-    it = subprocess.run(
-        ["sh", "-c", command],
-        cwd=folder,
-        env={"PATH": path, "HOME": folder},
-        capture_output=True,
-        text=True,
-    )
+    own, words = {"PATH": path, "HOME": folder}, ["sh", "-c", command]
+    it = subprocess.run(words, cwd=folder, env=own, capture_output=True, text=True)
     return it.returncode, it.stdout, it.stderr.splitlines()
 
 
@@ -53,9 +48,8 @@ class WithoutTheKit(Check):
         self.sources, self.tools, self.broken = (
             f"{folder}/{it}" for it in ("sources", "tools", "broken")
         )
-        shutil.copytree(
-            TOP / "crates", f"{self.sources}/crates", ignore=shutil.ignore_patterns("out")
-        )
+        unneeded = shutil.ignore_patterns("out")
+        shutil.copytree(TOP / "crates", f"{self.sources}/crates", ignore=unneeded)
         shutil.copy(TOP / "weighbridge", self.sources)
         os.chmod(f"{self.sources}/weighbridge", 0o755)
         shutil.copy(TOP / "crates.txt", self.sources)

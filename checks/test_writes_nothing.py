@@ -10,22 +10,22 @@
 
 import os
 import random
+import re
 import shutil
-import sqlite3
 import subprocess
 import time
 from collections.abc import Callable
+from pathlib import Path
 
 from checks import TOP
 from checks.lib import bridge
 from checks.lib.case import PROGRAM, Check, many, skip_without
 from checks.lib.program import PROGRAM as BUILT
-from checks.lib.journal import make_journal
-from checks.lib.waiting import wait_until
+from checks.lib.journal import change, make_journal
 
 VERIFY = str(TOP / "inspect" / "verify.py")
 NOBODY = 65_534
-WRITING = ("O_WRONLY", "O_RDWR", "O_CREAT", "O_TRUNC")
+WRITING = re.compile("O_WRONLY|O_RDWR|O_CREAT|O_TRUNC")
 CALLS = "open,openat,openat2,creat,mkdir,mkdirat,unlink,unlinkat,rmdir,rename,renameat,renameat2,link,linkat,symlink,symlinkat,truncate,chmod,fchmodat"
 LOOKS = {
     "check": [BUILT, "check", "--file"],
@@ -41,13 +41,7 @@ def left_by_a_kill(path: str) -> None:
     with bridge.Service(BUILT, path, converter) as service:
         for number in range(4):
             kind = ["first", "second"][number % 2]
-            body = f"key=W{number}&kind={kind}&plate=P-{number // 2}"
-            wait_until(
-                body,
-                lambda: bridge.post(service, "/weighings", body),
-                lambda it: it is not None and it[0] == 201,
-                pause=0,
-            )
+            bridge.weigh(service, f"key=W{number}&kind={kind}&plate=P-{number // 2}")
 
 
 def without_log(path: str) -> None:
@@ -58,33 +52,25 @@ def without_log(path: str) -> None:
 
 def with_empty_log(path: str) -> None:
     make_journal(path, 50)
-    open(path + "-wal", "w").close()
+    Path(path + "-wal").touch()
 
 
-def change(path: str, statement: str) -> None:
+def changed(path: str, statement: str) -> None:
     make_journal(path, 50)
-    with sqlite3.connect(path) as database:
-        database.execute(statement)
-    database.close()
+    change(path, statement)
 
 
-def write(path: str, data: bytes) -> None:
-    with open(path, "wb") as it:
-        it.write(data)
-
-
+UPDATE = "UPDATE journal SET"
 CASES: dict[str, Callable[[str], object]] = {
     "left by a kill": left_by_a_kill,
     "without its log": without_log,
     "with an empty log": with_empty_log,
     "of other hands, without open weighings": lambda path: make_journal(path, 50),
     "of version 1": lambda path: make_journal(path, 50, version=1),
-    "damaged": lambda path: change(path, "UPDATE journal SET gross_kg = 18360 WHERE number = 7"),
-    "with a row of another kind": lambda path: change(
-        path, "UPDATE journal SET kind = 5 WHERE number = 7"
-    ),
-    "without a byte": lambda path: write(path, b""),
-    "no database": lambda path: write(path, b"r 9170 4\nt SI\n"),
+    "damaged": lambda path: changed(path, f"{UPDATE} gross_kg = 18360 WHERE number = 7"),
+    "with a row of another kind": lambda path: changed(path, f"{UPDATE} kind = 5 WHERE number = 7"),
+    "without a byte": lambda path: Path(path).touch(),
+    "no database": lambda path: Path(path).write_bytes(b"r 9170 4\nt SI\n"),
 }
 
 
@@ -92,10 +78,9 @@ def standing(folder: str) -> dict[str, tuple[object, ...]]:
     """Return everything in a folder: names, bytes, modes and times."""
     found: dict[str, tuple[object, ...]] = {}
     for name in [".", *sorted(os.listdir(folder))]:
-        path = os.path.join(folder, name)
-        seen = os.stat(path)
-        with open(path if name != "." else os.devnull, "rb") as it:
-            found[name] = (it.read(), seen.st_mode, seen.st_ino, seen.st_mtime_ns, seen.st_ctime_ns)
+        path = Path(folder, name)
+        seen, data = path.stat(), path.read_bytes() if path.is_file() else b""
+        found[name] = (data, seen.st_mode, seen.st_ino, seen.st_mtime_ns, seen.st_ctime_ns)
     return found
 
 
@@ -107,11 +92,9 @@ def look(
     traced: str = "",
 ) -> tuple[int, str, str]:
     """Return the status of a look, and what it printed and reported, of the journal by its own name."""
-    words = (
-        ["strace", "-f", "-qq", "-o", traced, "-e", f"trace={CALLS}", *words] if traced else words
-    )
+    by = ["strace", "-f", "-qq", "-o", traced, "-e", f"trace={CALLS}"] if traced else []
     it = subprocess.run(
-        [*words, path],
+        [*by, *words, path],
         stdin=subprocess.DEVNULL,
         capture_output=True,
         text=True,
@@ -130,11 +113,7 @@ def written_in(folder: str, traced: str) -> list[str]:
     """Return the calls in a trace that write in the folder."""
     with open(traced, errors="replace") as it:
         calls = [line for line in it if f'"{folder}' in line]
-    return [
-        line
-        for line in calls
-        if "open" not in line.split("(")[0] or any(word in line for word in WRITING)
-    ]
+    return [line for line in calls if "open" not in line.split("(")[0] or WRITING.search(line)]
 
 
 # Mounts a folder so that it can't be written, or one of 256 kB, and runs the words behind it.

@@ -20,6 +20,7 @@ Usage: checks/year [--days N] [--weighings M]. N is 300 if it isn't given, and a
 200 if it isn't given.
 """
 
+import contextlib
 import csv
 import glob
 import os
@@ -343,10 +344,8 @@ class Year:
         it.store(asked)
 
     def ask_in_vain(self, asked: Asked) -> None:
-        try:
+        with contextlib.suppress(OSError):
             bridge.post(self.bridge.running, asked.target, asked.body)
-        except OSError:
-            pass
 
     def full_disk(self) -> None:
         """Fill the disk of the PC, weigh until a weighing is refused, and let the night and the alarm find it so."""
@@ -365,11 +364,8 @@ class Year:
             if answer is None or answer[0] != 201:
                 break
             it.note(asked, answer[1])
-        same(
-            f"{self.clock.now:%d %B}: the disk is full, and a weighing is refused after {number}",
-            (503, "refused 15 store\n"),
-            answer,
-        )
+        what = f"{self.clock.now:%d %B}: the disk is full, and a weighing is refused after {number}"
+        same(what, (503, "refused 15 store\n"), answer)
         it.converter.put(0, 12)
         refused = self.clock.now
         steps = self.night()
@@ -446,11 +442,9 @@ class Year:
             else:
                 self.quiet_night()
             if number == 1 or number % 25 == 0 or number == len(self.days):
-                print(
-                    f"{self.clock.now:%d %B}: day {number}, {sum(map(len, self.histories.values()))} entries; the night"
-                    f" took {self.nights[-1]:.1f} s",
-                    flush=True,
-                )
+                said = f"day {number}, {sum(map(len, self.histories.values()))} entries"
+                took = f"the night took {self.nights[-1]:.1f} s"
+                print(f"{self.clock.now:%d %B}: {said}; {took}", flush=True)
 
     # The end.
 
@@ -462,11 +456,8 @@ class Year:
         checked = ran(self.program, "check", "--file", journal)
         same_or_fail(f"{journal}: check", f"SOUND {count}", checked)
         said = said_by_both(second, [journal])
-        same_or_fail(
-            f"{journal}: both verifiers",
-            (0, f"entries: {count}, faults: 0"),
-            (said.returncode, said.stdout.decode().splitlines()[-1]),
-        )
+        found = (said.returncode, said.stdout.decode().splitlines()[-1])
+        same_or_fail(f"{journal}: both verifiers", (0, f"entries: {count}, faults: 0"), found)
         wanted = [it.fields() for it in self.histories[serial][last - count : last]]
         same_or_fail(f"{journal}: its entries", wanted, [it[:10] for it in rows])
         return count
@@ -476,9 +467,8 @@ class Year:
         for serial, stored in disk.stored.items():
             folder = os.path.join(root, serial)
             found = copies_of(os.listdir(folder))
-            same_or_fail(
-                f"{what}: the copies that stay", staying(stored), {it.name for it in found}
-            )
+            names = {it.name for it in found}
+            same_or_fail(f"{what}: the copies that stay", staying(stored), names)
             size = 0
             for it in found:
                 path = os.path.join(folder, it.name)

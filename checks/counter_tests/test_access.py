@@ -35,8 +35,7 @@ class Access(AtThePage):
     def setUp(self) -> None:
         super().setUp()
         for key, plate in (("a-1", "AA-11"), ("a-2", "BB-22")):
-            self.bridge.next_vehicle(9170)
-            self.bridge.weigh(key, "first", plate)
+            self.bridge.weigh_next(9170, key, "first", plate)
         self.bridge.ask("POST", "/voids", {"key": "a-3", "plate": "AA-11"})
         self.bridge.keep_tare("CC-33", 5000)
         self.becomes("the lists are there", "3", lambda: self.clerk.text("#today-count"))
@@ -62,32 +61,22 @@ class Access(AtThePage):
     def test_names(self) -> None:
         found = self.has_names("the page")
         regions = {name for role, name in found if role in REGIONS}
-        self.same(
-            "its regions have names",
-            {"Weight", "Next step", "Weigh", "Zero, print, search", "On site 1", "Today 3"},
-            {name.split(" ·")[0] for name in regions} - {""},
-        )
+        named = {"Weight", "Next step", "Weigh", "Zero, print, search", "On site 1", "Today 3"}
+        self.same("its regions have names", named, {it.split(" ·")[0] for it in regions} - {""})
         self.same("no region is without one", False, "" in regions)
         headings = [name for role, name in found if role == "heading"]
         self.same("its headings", ["Kieswerk Wellum", "On site 1"], headings[:2])
         roles = [role for role, _ in found]
         what = "two lists, with a row for each vehicle on site and each entry of today"
         self.same(what, (2, 1 + 3), (roles.count("list"), roles.count("listitem")))
-        menus = [name for role, name in found if role == "button" and name.endswith(MENU)]
-        self.same(
-            "each row's menu names its plate and its slip",
-            ["AA-11, Slip 1", "AA-11, Slip 3", "BB-22, Slip 2", "BB-22, Slip 2"],
-            sorted(it.partition(":")[0] for it in menus),
-        )
-        rows = [name for role, name in found if role == "button" and "weighing" in name]
-        self.same(
-            "a weighing that was withdrawn is named so",
-            [True, False],
-            [
-                next(it for it in rows if it.startswith(plate)).endswith(", withdrawn")
-                for plate in ("AA-11", "BB-22")
-            ],
-        )
+        buttons = [name for role, name in found if role == "button"]
+        menus = sorted(it.partition(":")[0] for it in buttons if it.endswith(MENU))
+        wanted = ["AA-11, Slip 1", "AA-11, Slip 3", "BB-22, Slip 2", "BB-22, Slip 2"]
+        self.same("each row's menu names its plate and its slip", wanted, menus)
+        for plate, is_withdrawn in (("AA-11", True), ("BB-22", False)):
+            row = next(it for it in buttons if "weighing" in it and it.startswith(plate))
+            what = f"a weighing that was withdrawn is named so: {plate}"
+            self.same(what, is_withdrawn, row.endswith(", withdrawn"))
         self.clerk.run(SPEAK)
         first = self.clerk.content("#spoken")
         self.same("Alt and W read the weight aloud", "STABLE Gross 18,340 kg", first)

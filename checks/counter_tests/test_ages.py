@@ -1,5 +1,6 @@
 """How old a weight may be on the page, and how soon the page says what is wrong: over what is killed, held, slow, gone or suspended."""
 
+import math
 import os
 import signal
 import subprocess
@@ -89,11 +90,9 @@ class Ages(AtThePage):
         """Measure from the converter's line to the page."""
         bridge, clerk, network = self.bridge, self.clerk, self.network
         delays = self.never_old("on a good network")
-        self.holds(
-            "a change of load is at the page in at most 120 ms, median",
-            delays and delays[len(delays) // 2] <= 0.12,
-            f"{1000 * delays[len(delays) // 2]:.0f} ms with the look itself" if delays else "none",
-        )
+        median = delays[len(delays) // 2] if delays else math.inf
+        what = "a change of load is at the page in at most 120 ms, median"
+        self.holds(what, median <= 0.12, f"{1000 * median:.0f} ms with the look itself")
         network.delay, network.speed = 0.3, 8000
         time.sleep(2)
         self.never_old("on a slow network of 300 ms and 8 kB a second")
@@ -114,9 +113,7 @@ class Ages(AtThePage):
             os.kill(it, signal.SIGCONT)
         time.sleep(0.3)
         kg = clerk.kg()
-        self.holds(
-            "a browser that was suspended shows no old weight",
-            kg in (None, 8140) and len(suspended) > 1,
-            f"{kg}, {len(suspended)} processes",
-        )
+        is_so = kg in (None, 8140) and len(suspended) > 1
+        what = "a browser that was suspended shows no old weight"
+        self.holds(what, is_so, f"{kg}, {len(suspended)} processes")
         self.becomes("and then the new one", 8140, clerk.kg)

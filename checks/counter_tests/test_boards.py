@@ -69,6 +69,5 @@ class Boards(CounterCheck):
         bridge.put(4070)
         self.becomes("then both have a weight again", b"\x02    8140KG ", yard.newest)
         self.becomes("toledo too", b"\x0220   8140     0", ramp.newest)
-        bridge.kill_counter()
-        bridge.start_counter()
+        bridge.restart_counter()
         self.comes("a new start of the counter finds the line", yard.newest)

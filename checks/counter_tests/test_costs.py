@@ -9,6 +9,7 @@ import statistics
 import subprocess
 import threading
 import time
+from pathlib import Path
 from typing import Any, ClassVar
 
 from checks.lib.bridge import HOST, Closing, kg_of, sizes_of
@@ -105,16 +106,15 @@ class Attack(CounterCheck):
         bridge = self.new_bridge()
         kept = {"kg": 5000, "until": "2099-01-01", "by": "anna" * 10}
         os.makedirs(f"{bridge.folder}/state", mode=0o700, exist_ok=True)
-        with open(f"{bridge.folder}/state/tares.json", "w", encoding="utf-8") as file:
-            json.dump({f"T{at:04}": kept for at in range(2000)}, file)
+        tares = json.dumps({f"T{at:04}": kept for at in range(2000)})
+        Path(bridge.folder, "state/tares.json").write_text(tares, encoding="utf-8")
         bridge.start_counter()
         streams = self.enterContext(Streams(bridge.http, 1))
         pages = [self.enterContext(Stubborn(bridge.http)) for _ in range(20)]
         began, asked = time.monotonic(), 0
         while time.monotonic() < began + 15:
-            bridge.converter.now = (
-                900 - bridge.converter.now
-            )  # so that weights come at each reading
+            # so that weights come at each reading
+            bridge.converter.now = 900 - bridge.converter.now
             bridge.keep_tare(f"T{asked % 2000:04}", 5000 + 20 * (asked % 50))
             bridge.ask("POST", "/lists/refresh", body="")
             asked += 1
@@ -181,10 +181,8 @@ class Costs(AtTheCounter):
         (counter, memory), service = self.spent()
         rate = streams.bytes / (time.monotonic() - since) / self.pages / 1000
         ages = self.ages_of(streams, since)
-        print(
-            f"{what} readings a second, each another: counter {counter:.1f} % of a core, {memory:.0f} MB, service {service:.1f} %; {rate:.2f} kB/s a page",
-            flush=True,
-        )
+        said = f"counter {counter:.1f} % of a core, {memory:.0f} MB, service {service:.1f} %; {rate:.2f} kB/s a page"
+        print(f"{what} readings a second, each another: {said}", flush=True)
         what = f"{what}: each has a stream that stays"
         self.holds(what, len(streams.heard) == self.pages and streams.ended == 0)
         if self.pages == 20:

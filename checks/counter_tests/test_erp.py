@@ -6,6 +6,7 @@ import shutil
 import sqlite3
 import subprocess
 import sys
+from pathlib import Path
 
 from checks.lib.bridge import HOST, Closing
 from checks.lib.case import PROGRAM
@@ -33,8 +34,8 @@ class Erp(Closing):
     def __init__(self, bridge: Bridge) -> None:
         self.bridge, self.path = bridge, f"{bridge.folder}/erp.db"
         self.script = f"{bridge.folder}/fetch.py"
-        with open(self.script, "w", encoding="utf-8") as file:
-            file.write(block_of("python").replace("PAUSE = 5 ", "PAUSE = 0.2 "))
+        script = block_of("python").replace("PAUSE = 5 ", "PAUSE = 0.2 ")
+        Path(self.script).write_text(script, encoding="utf-8")
         self.start()
 
     def start(self) -> None:
@@ -69,8 +70,7 @@ class Programs(CounterCheck):
 
     def single(self, plate: str) -> None:
         """Weigh a vehicle with a tare, through the counter."""
-        self.bridge.next_vehicle(LOAD)
-        status, text = self.bridge.weigh(f"erp-{plate}", "single", plate, TARE)
+        status, text = self.bridge.weigh_next(LOAD, f"erp-{plate}", "single", plate, TARE)
         self.holds(f"{plate} has a ticket", status == 201, text)
 
     def pair(self, plate: str) -> None:
@@ -94,15 +94,15 @@ class Programs(CounterCheck):
 
         def run() -> list[str]:
             subprocess.run(["sh", "-c", script], cwd=folder, check=True)
-            with open(f"{folder}/added.csv", encoding="utf-8") as file:
-                return [it.split(",")[0] for it in file.read().splitlines()]
+            lines = Path(folder, "added.csv").read_text(encoding="utf-8").splitlines()
+            return [it.split(",")[0] for it in lines]
 
         self.same("the first table has each ticket", ["ticket", "1", "2"], run())
         self.same("the same table adds none", ["ticket"], run())
         self.single("TABLE-3")
         self.same("a later table adds the new ticket", ["ticket", "3"], run())
-        with open(f"{folder}/known.csv", encoding="utf-8") as file:
-            self.same("each ticket is known once", 3, len(file.read().splitlines()))
+        known = Path(folder, "known.csv").read_text(encoding="utf-8").splitlines()
+        self.same("each ticket is known once", 3, len(known))
         failing = script.replace(": import", "false import")
         self.single("TABLE-4")
         it = subprocess.run(["sh", "-c", failing], cwd=folder, check=False)
@@ -139,17 +139,15 @@ class Programs(CounterCheck):
         bridge.start_service()
         bridge.wait_until_up()
         self.single("AFTER-8")
-        bridge.kill_counter()
-        bridge.start_counter()
+        bridge.restart_counter()
         self.single("AFTER-9")
         ever |= self.stored()
         has("over restarts of service and counter it fetches each ticket")
 
         bridge.kill_counter()
         bridge.kill_service()
-        for name in os.listdir(bridge.folder):
-            if name.startswith("journal.db"):
-                os.unlink(f"{bridge.folder}/{name}")
+        for it in Path(bridge.folder).glob("journal.db*"):
+            it.unlink()
         self.copy_journal(copy, bridge.folder)
         bridge.start_service()
         self.pair("AGAIN-9")

@@ -4,7 +4,6 @@ import random
 import re
 import shutil
 import socket
-import subprocess
 import time
 from pathlib import Path
 from typing import Any
@@ -12,6 +11,7 @@ from typing import Any
 from checks.lib.case import PROGRAM
 from checks.lib.counter import NO_TARE, Bridge, Meanwhile, Till, held
 from checks.lib.counter_case import AtTheCounter
+from checks.lib.nginx import replaced
 
 from checks import TOP
 
@@ -69,14 +69,11 @@ def without_reset(folder: str) -> str:
     # next to the program, as the package has it
     shutil.copy(TOP / "clients" / "refusals.txt", copy)
     path = copy / "weighbridge_counter" / "terminal.py"
+    closes = ("self.transport.abort()", "self.transport.close()")
     text = path.read_text(encoding="utf-8")
-    for old, new in (
-        ('"ii", 1, 0', '"ii", 0, 0'),
-        ("self.transport.abort()", "self.transport.close()"),
-    ):
-        assert text.count(old) == 1, old
-        text = text.replace(old, new)
-    path.write_text(text, encoding="utf-8")
+    path.write_text(
+        replaced(path.name, text, ('"ii", 1, 0', '"ii", 0, 0'), closes), encoding="utf-8"
+    )
     return str(copy / "weighbridge-counter")
 
 
@@ -122,12 +119,9 @@ class Fanout(AtTheCounter):
         lines = display.get()
         said = f"{len(lines) / 6:.1f} a second; a till's answer: median {1000 * times[len(times) // 2]:.0f} ms, worst {1000 * times[-1]:.0f} ms"
         print(said, flush=True)
-        self.holds(
-            "a display has each value meanwhile",
-            abs(len(lines) / 6 - bridge.pace) < 0.1 * bridge.pace + 0.5
-            and all(it.startswith("S ") for it in lines),
-            said,
-        )
+        is_each = abs(len(lines) / 6 - bridge.pace) < 0.1 * bridge.pace + 0.5
+        are_values = all(it.startswith("S ") for it in lines)
+        self.holds("a display has each value meanwhile", is_each and are_values, said)
         what = "a page's zero is refused in the scale's words"
         self.holds(what, all('"Z +"' in it or "not_sent" in it for it in zeros.get()))
         bridge.terminal_says("till", "TAC")
@@ -148,11 +142,9 @@ class Fanout(AtTheCounter):
     def test_nothing_late(self) -> None:
         for line in ("Z", "T", "TA 5000 kg"):
             for seconds in (1.3, 1.7, 3.5):
-                self.same(
-                    f"{line} while the service stands still for {seconds} s is refused, and nothing acts later",
-                    (True, ["S S         60 kg", NO_TARE], 0),
-                    refused_while_held(self.bridge, line, seconds),
-                )
+                what = f"{line} while the service stands still for {seconds} s is refused, and nothing acts later"
+                found = refused_while_held(self.bridge, line, seconds)
+                self.same(what, (True, ["S S         60 kg", NO_TARE], 0), found)
 
     def test_a_copy_without_the_reset(self) -> None:
         """Show that the test above sees it if a command acts after its sender was refused."""
@@ -191,11 +183,8 @@ class Fanout(AtTheCounter):
 
         bridge.next_vehicle(9170)
         status, text = single(5000)
-        self.holds(
-            "a Single with its tare in one act",
-            status == 201 and "PT       5000 kg\n" in text and text.endswith("N      13340 kg\n"),
-            text,
-        )
+        is_so = "PT       5000 kg\n" in text and text.endswith("N      13340 kg\n")
+        self.holds("a Single with its tare in one act", status == 201 and is_so, text)
         self.same("no tare is left", NO_TARE, bridge.tare())
         for what, tare, words in (
             ("nor where the office refuses", 5000, "refused 11 not_cleared\n"),
@@ -207,34 +196,24 @@ class Fanout(AtTheCounter):
             self.same(what, ((409, words), NO_TARE), (single(tare), bridge.tare()))
         self.same("what is no tare", (422, "counter bad_tare\n"), single("5x"))
         bridge.terminal_says("till", "TA 3000 kg")
-        self.same(
-            "one that a till has set is refused by name, and stays",
-            ((409, "counter tare_set\n"), "TA A       3000 kg"),
-            (single(5000), bridge.tare()),
-        )
-        self.same(
-            "and a First meets it by name",
-            (409, "refused 9 tare_active\n"),
-            bridge.weigh("tare-first", "first", "AB-12"),
-        )
-        self.same(
-            "the page clears it",
-            ('{"said": "TAC A"}', NO_TARE),
-            (bridge.ask("POST", "/tare/clear")[1], bridge.tare()),
-        )
+        what = "one that a till has set is refused by name, and stays"
+        wanted = ((409, "counter tare_set\n"), "TA A       3000 kg")
+        self.same(what, wanted, (single(5000), bridge.tare()))
+        refused = (409, "refused 9 tare_active\n")
+        met = bridge.weigh("tare-first", "first", "AB-12")
+        self.same("and a First meets it by name", refused, met)
+        said = bridge.ask("POST", "/tare/clear")[1]
+        self.same("the page clears it", ('{"said": "TAC A"}', NO_TARE), (said, bridge.tare()))
+        four = [("single", 4000), ("first", None), ("single", 5000), ("first", None)]
         acts = [
             Meanwhile(bridge.weigh, f"side-{it}", kind, f"S-{it}", tare)
-            for it, (kind, tare) in enumerate(
-                [("single", 4000), ("first", None), ("single", 5000), ("first", None)]
-            )
+            for it, (kind, tare) in enumerate(four)
         ]
         told = [it.get() for it in acts]
-        refused = [text for status, text in told if status != 201]
-        self.holds(
-            "of four at once one is stored, with its own tare or none",
-            len(refused) == 3 and all(it.split()[0] in ("refused", "counter") for it in refused),
-            [text.split("\n")[0] for _, text in told],
-        )
+        faults = [text.split()[0] for status, text in told if status != 201]
+        is_so = len(faults) == 3 and {*faults} <= {"refused", "counter"}
+        shown = [text.split("\n")[0] for _, text in told]
+        self.holds("of four at once one is stored, with its own tare or none", is_so, shown)
         self.same("and none is left", NO_TARE, bridge.tare())
 
     def test_zero_since_the_start(self) -> None:
@@ -247,17 +226,13 @@ class Fanout(AtTheCounter):
         bridge.put(0)
         self.same("zero by the page", '{"said": "Z A"}', bridge.ask("POST", "/zero")[1])
         self.same("it is known", True, is_known())
-        bridge.kill_counter()
-        bridge.start_counter()
+        bridge.restart_counter()
         self.becomes("and still is once the counter was started again", True, is_known)
         service = self.comes("the service is seen", lambda: bridge.health()["service"])
-        self.holds(
-            "the service's program, words and start are shown",
-            service["process"] == bridge.service.process.pid
-            and "--pace" in service["words"]
-            and service["program"]["version"].startswith("weighbridge "),
-            service,
-        )
+        is_it = service["process"] == bridge.service.process.pid and "--pace" in service["words"]
+        is_named = service["program"]["version"].startswith("weighbridge ")
+        what = "the service's program, words and start are shown"
+        self.holds(what, is_it and is_named, service)
         bridge.kill_counter()
         bridge.kill_service()
         bridge.start_service()
@@ -305,11 +280,9 @@ class AnotherAtTheTerminal(AtTheCounter):
             what = "another one at the terminal is named"
             self.becomes(what, "waits", lambda: bridge.state()["link"])
             self.same("and it stays so while the counter tries again", {"waits"}, self.links(5))
-            self.same(
-                "a weighing with a tare is not begun",
-                (503, "counter no_terminal\n"),
-                bridge.weigh("other-1", "single", "A", 5000),
-            )
+            told = bridge.weigh("other-1", "single", "A", 5000)
+            what = "a weighing with a tare is not begun"
+            self.same(what, (503, "counter no_terminal\n"), told)
         bridge.wait_until_up()
         with held(bridge.service.process), Till(bridge.ports["till"]) as till:
             till.send(b"TAC\r\n")
@@ -330,11 +303,8 @@ class Kills(AtTheCounter):
         """Kill or hold the counter or the service, and wait until all is there again."""
         bridge = self.bridge
         if "hold" in what:
-            processes: dict[str, subprocess.Popen[Any]] = {
-                "hold counter": bridge.process,
-                "hold service": bridge.service.process,
-            }
-            with held(processes[what]):
+            process: Any = bridge.process if "counter" in what else bridge.service.process
+            with held(process):
                 time.sleep(random.uniform(1.1, 2.5))
             told.get()
         elif what == "counter":
@@ -351,15 +321,9 @@ class Kills(AtTheCounter):
     def test_killed_within_the_act(self) -> None:
         bridge, kills, holds = self.bridge, self.kills, self.kills // 3
         span, left, stored, twice = 0.05 + 3.0 / bridge.pace, 0, 0, 0
+        times = {"counter": kills, "service": kills, "hold counter": holds, "hold service": holds}
         moments = [
-            (what, at, span * at / count)
-            for what, count in (
-                ("counter", kills),
-                ("service", kills),
-                ("hold counter", holds),
-                ("hold service", holds),
-            )
-            for at in range(count)
+            (what, at, span * at / count) for what, count in times.items() for at in range(count)
         ]
         for what, at, moment in moments:
             bridge.next_vehicle(9170)
@@ -375,14 +339,10 @@ class Kills(AtTheCounter):
             twice += sum(it[1] == form[0] for it in bridge.entries()) > 1
             first = told.get()
             twice += bool(first) and first[0] == 201 and first[1] != again[1]
-        self.same(
-            f"killed {2 * kills} times and held {2 * holds} times within the act, no tare is left and each key has one entry",
-            (0, 0),
-            (left, twice),
-        )
-        self.holds(
-            "some of them were stored, and some not", 0 < stored < len(moments), f"{stored} stored"
-        )
+        what = f"killed {2 * kills} times and held {2 * holds} times within the act, no tare is left and each key has one entry"
+        self.same(what, (0, 0), (left, twice))
+        is_so = 0 < stored < len(moments)
+        self.holds("some of them were stored, and some not", is_so, f"{stored} stored")
         self.holds("the journal is sound", bridge.is_sound())
 
 

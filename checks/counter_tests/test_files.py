@@ -5,16 +5,17 @@ import os
 import re
 import shutil
 import signal
-import sqlite3
 import subprocess
 import time
 from collections.abc import Callable, Iterator
 from contextlib import contextmanager
+from pathlib import Path
 from typing import Any
 
 from checks.lib.case import PROGRAM
 from checks.lib.counter import NO_TARE
 from checks.lib.counter_case import AtTheCounter, CounterCheck
+from checks.lib.journal import spend
 from checks.lib.small_disk import SmallDisk
 
 SLOW = 3  # seconds that each fsync takes
@@ -49,15 +50,10 @@ class Disk(CounterCheck):
         self.weighs_on(what)
         time.sleep(3)
         found = self.lines_of(f"zero.json: {NOT_WRITTEN}")
-        self.holds(
-            f"{what}: the log names each file once, with what to do",
-            len(found) == 1 and "look at the disk" in found[0],
-            "; ".join(found),
-        )
-        bridge.kill_counter()
-        bridge.start_counter()
-        bridge.next_vehicle(9170)
-        status = bridge.weigh(f"{what}-start", "first", f"S-{what}".upper())[0]
+        is_so = len(found) == 1 and "look at the disk" in found[0]
+        self.holds(f"{what}: the log names each file once, with what to do", is_so, found)
+        bridge.restart_counter()
+        status = bridge.weigh_next(9170, f"{what}-start", "first", f"S-{what}".upper())[0]
         self.same(f"{what}: a counter that is started on it weighs", 201, status)
         bridge.put(0)
         bridge.ask("POST", "/zero")
@@ -70,8 +66,8 @@ class Disk(CounterCheck):
 
     def lines_of(self, words: str) -> list[str]:
         """Return the lines of the counter's log that have these words."""
-        with open(f"{self.bridge.folder}/counter.log", encoding="utf-8") as log:
-            return [it for it in log.read().split("\n") if words in it]
+        log = Path(self.bridge.folder, "counter.log").read_text(encoding="utf-8")
+        return [it for it in log.split("\n") if words in it]
 
     def faults(self) -> set[str]:
         return set(self.bridge.health()["faults"])
@@ -80,52 +76,38 @@ class Disk(CounterCheck):
         """Show that everything except a tare still works, with the scale's replies and the office's texts."""
         bridge = self.bridge
         bridge.put(0)
-        self.same(
-            f"{what}: zero by the page is answered as the scale answers it",
-            '{"said": "Z A"}',
-            bridge.ask("POST", "/zero")[1],
-        )
+        said = bridge.ask("POST", "/zero")[1]
+        answers = f"{what}: zero by the page is answered as the scale answers it"
+        self.same(answers, '{"said": "Z A"}', said)
         files = self.comes(f"{what}: the fault stands in /health", lambda: bridge.health()["files"])
         zero = f"{bridge.folder}/state/zero.json"
         self.same(f"{what}: which says of which file", [zero], list(files))
         self.same(f"{what}: and it is a fault", True, "files" in self.faults())
         self.same(f"{what}: zero by a till, too", "Z A", bridge.terminal_says("till", "Z"))
-        bridge.next_vehicle(9170)
-        told = bridge.weigh(f"{what}-tare", "single", "T-1", 5000)
+        told = bridge.weigh_next(9170, f"{what}-tare", "single", "T-1", 5000)
         self.same(f"{what}: a weighing with a tare is refused", NOT_NOTED, told)
         self.same(f"{what}: before anything was set", NO_TARE, bridge.tare())
         is_there = bridge.has_key(f"{what}-tare")
         self.same(f"{what}: and nothing of it went to the office", False, is_there)
         form = (f"{what}-first", "first", f"F-{what}".upper())
-        told = bridge.weigh(*form)
-        self.same(
-            f"{what}: a First is answered byte for byte",
-            (201, told[1]),
-            bridge.weigh(*form, port=bridge.office),
-        )
+        told = (201, bridge.weigh(*form)[1])
+        again = bridge.weigh(*form, port=bridge.office)
+        self.same(f"{what}: a First is answered byte for byte", told, again)
         kept = bridge.ask("PUT", "/tares/AB-12", body='{"kg": 5000}')[:2]
         self.same(f"{what}: a tare isn't kept", (503, '{"why": "no_file"}'), kept)
         self.comes(f"{what}: and papers can't be noted", lambda: "papers" in self.faults())
         self.same(f"{what}: it can weigh", True, bridge.health()["can_weigh"])
 
     def is_over(self, what: str) -> None:
-        bridge = self.bridge
-        self.becomes(
-            f"{what}: the fault ends automatically",
-            set(),
-            lambda: self.faults() & {"files", "papers"},
-        )
-        bridge.next_vehicle(9170)
-        status, text = bridge.weigh(f"{what}-after", "single", "T-2", 5000)
-        self.holds(
-            f"{what}: then a weighing with a tare is stored",
-            status == 201 and "PT       5000 kg\n" in text,
-            text,
-        )
+        bridge, ends = self.bridge, f"{what}: the fault ends automatically"
+        self.becomes(ends, set(), lambda: self.faults() & {"files", "papers"})
+        status, text = bridge.weigh_next(9170, f"{what}-after", "single", "T-2", 5000)
+        is_so = status == 201 and "PT       5000 kg\n" in text
+        self.holds(f"{what}: then a weighing with a tare is stored", is_so, text)
         self.same(f"{what}: and cleared", NO_TARE, bridge.tare())
         self.same(f"{what}: a tare is kept", 200, bridge.keep_tare("AB-12", 5000))
-        with open(f"{bridge.folder}/state/zero.json", encoding="utf-8") as file:
-            self.same(f"{what}: the zero is on the disk", True, '"is_set": true' in file.read())
+        zero = Path(bridge.folder, "state/zero.json").read_text(encoding="utf-8")
+        self.same(f"{what}: the zero is on the disk", True, '"is_set": true' in zero)
 
 
 class Synced(AtTheCounter):
@@ -196,8 +178,7 @@ class Synced(AtTheCounter):
         with self.traced("-e", "trace=fsync,rename,renameat,renameat2,unlink,unlinkat") as log:
             self.same("a tare is kept", 200, bridge.keep_tare("CUT-1", 5000))
             self.same("and dropped", 200, bridge.ask("DELETE", "/tares/CUT-1")[0])
-            bridge.next_vehicle(9170)
-            status = bridge.weigh("cut-1", "single", "CUT-1", 5000)[0]
+            status = bridge.weigh_next(9170, "cut-1", "single", "CUT-1", 5000)[0]
             self.same("a Single with its tare", 201, status)
 
             def calls_on(name: str) -> list[str]:
@@ -209,11 +190,9 @@ class Synced(AtTheCounter):
             what = "and the note of a tare, including its removal"
             noted += ["unlink act.json", "fsync ."]
             self.becomes(what, noted, lambda: calls_on("act.json")[-5:])
-            self.same(
-                "each change of tares.json is the file, its name, its folder",
-                ["fsync tares.json.new", "rename tares.json", "fsync ."] * 2,
-                calls_on("tares.json"),
-            )
+            changes = ["fsync tares.json.new", "rename tares.json", "fsync ."] * 2
+            what = "each change of tares.json is the file, its name, its folder"
+            self.same(what, changes, calls_on("tares.json"))
 
 
 def call_of(line: str, folder: str) -> str | None:
@@ -263,14 +242,11 @@ class Journal(AtTheCounter):
         return (it["why"], it["before"], it["now"]) if it else None
 
     def pair(self, plate: str) -> int:
-        self.bridge.next_vehicle(9170)
-        self.bridge.weigh(f"{plate}-1", "first", plate)
-        self.bridge.next_vehicle(4070)
-        return self.bridge.weigh(f"{plate}-2", "second", plate)[0]
+        self.bridge.weigh_next(9170, f"{plate}-1", "first", plate)
+        return self.bridge.weigh_next(4070, f"{plate}-2", "second", plate)[0]
 
     def weigh_in(self, key: str, plate: str) -> int:
-        self.bridge.next_vehicle(9170)
-        return self.bridge.weigh(key, "first", plate)[0]
+        return self.bridge.weigh_next(9170, key, "first", plate)[0]
 
     def test_another_journal(self) -> None:
         """Show that the counter reports no purge as another journal, but a new file and an older copy, until a clerk closes it."""
@@ -313,8 +289,7 @@ class Journal(AtTheCounter):
         self.same("the counter reports it, with the numbers", changed, self.told())
         faults = bridge.health()["faults"]
         self.same("and /health names it", True, "journal_changed" in faults)
-        bridge.kill_counter()
-        bridge.start_counter()
+        bridge.restart_counter()
         self.same("even after the counter was started again", changed, self.told())
         status = bridge.ask("POST", "/lists/seen")[0]
         self.same("a clerk closes it", (200, None), (status, self.told()))
@@ -338,16 +313,7 @@ class Journal(AtTheCounter):
 def purged(until: int) -> Callable[[str], None]:
     """Return a change that removes the entries up to `until` as a purge does. Their numbers and keys stay as spent ones."""
 
-    def change(path: str) -> None:
-        with sqlite3.connect(path) as journal:
-            journal.execute(
-                "INSERT INTO spent SELECT request_key, number FROM journal WHERE number <= ?",
-                (until,),
-            )
-            journal.execute("DELETE FROM journal WHERE number <= ?", (until,))
-        journal.close()
-
-    return change
+    return lambda path: spend(path, until)
 
 
 def copied(path: str, folder: str) -> None:

@@ -41,8 +41,7 @@ class Given(AtThePage):
 
     def weigh(self, words: str) -> None:
         self.clerk.sees("Ready.")
-        self.clerk.keys(ENTER)
-        self.clerk.sees(words)
+        self.clerk.sees_after(ENTER, words)
 
     def test_from_the_first_weighing_until_it_is_printed(self) -> None:
         self.from_the_first_to_the_second()
@@ -60,14 +59,12 @@ class Given(AtThePage):
         self.comes("the form shows what was given", lambda: ON_PAPER in clerk.others())
         self.weigh("Slip 1")
         self.becomes("so does the row of the vehicle", ["Kies 0/32"], lambda: self.rows("#site"))
-        bridge.kill_counter()
-        bridge.start_counter()
+        bridge.restart_counter()
         self.becomes("even after a new start", ["Kies 0/32"], lambda: self.rows("#site"))
         bridge.next_vehicle(4000)
         clerk.is_ready_for("GI-VE-1")
         self.comes("at the second weighing the form shows it", lambda: ON_PAPER in clerk.others())
-        clerk.keys(ENTER)
-        clerk.sees("Ticket 2")
+        clerk.sees_after(ENTER, "Ticket 2")
         self.same("and the ticket's paper has it", [("Goods", "Kies 0/32")], self.paper_of(2))
 
     def as_last_time(self) -> None:
@@ -79,8 +76,7 @@ class Given(AtThePage):
         self.same("and not taken", "Goods, order, driver…", clerk.others()[-1])
         clerk.press("#others button", "As last time")
         self.same("one press takes them", ON_PAPER, clerk.others()[-1])
-        clerk.keys(ENTER)
-        clerk.sees("Slip 3")
+        clerk.sees_after(ENTER, "Slip 3")
         self.becomes("they are with the weighing", ["Kies 0/32"], lambda: self.rows("#site"))
 
     def until_it_is_printed(self) -> None:

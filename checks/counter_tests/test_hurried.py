@@ -38,18 +38,21 @@ class InAHurry(AtThePage):
     def hold_enter(self) -> None:
         self.clerk.browser.hold("Enter", 1.3)
 
+    def nothing_comes_of_enter(self, what: str, plate: str) -> None:
+        """Show that nothing comes of Enter while the page asks something."""
+        self.nothing_comes_of(f"{what}: Enter hammered", self.hammer, plate)
+        self.nothing_comes_of(f"{what}: Enter held", self.hold_enter, plate)
+
     def armed(self, plate: str, load: int = 7000) -> None:
         """Press Enter while the vehicle sways."""
         self.sways(plate, load)
-        self.clerk.keys(ENTER)
-        self.clerk.sees(f"{plate} {ARMED}", what=f"{plate} sways: Enter arms")
+        self.clerk.sees_after(ENTER, f"{plate} {ARMED}", what=f"{plate} sways: Enter arms")
 
     def sways(self, plate: str, load: int = 7000) -> None:
         """Let a vehicle sway on the bridge, and type its plate."""
         self.bridge.put(0)
         self.bridge.converter.now, self.bridge.converter.sway = load, 100
-        self.clerk.keys(ESCAPE + ESCAPE + plate)
-        self.clerk.sees(WAITS, what=f"{plate} sways on the bridge")
+        self.clerk.sees_after(ESCAPE + ESCAPE + plate, WAITS, what=f"{plate} sways on the bridge")
 
     def stands(self, load: int = 7000) -> None:
         self.bridge.converter.sway = 0
@@ -64,17 +67,14 @@ class Questions(InAHurry):
 
     def setUp(self) -> None:
         super().setUp()
-        self.bridge.next_vehicle(4000)
-        self.bridge.weigh("past-1", "single", KNOWN, 1000)
-        self.bridge.next_vehicle(9170)
-        self.bridge.weigh("past-2", "first", ON_SITE)
+        self.bridge.weigh_next(4000, "past-1", "single", KNOWN, 1000)
+        self.bridge.weigh_next(9170, "past-2", "first", ON_SITE)
         self.comes("the page has the list", lambda: ON_SITE in self.clerk.content("#site"))
         self.bridge.next_vehicle(4070)
 
     def is_asked(self) -> None:
         """Type a plate that is one letter off, so that the page asks."""
-        self.clerk.keys(ESCAPE + NEW)
-        self.clerk.sees(f"{ON_SITE} is on site.")
+        self.clerk.sees_after(ESCAPE + NEW, f"{ON_SITE} is on site.")
 
     def test_each_plate_that_may_be_another(self) -> None:
         answers = [f"{ON_SITE} F1", "No, another vehicle F6"]
@@ -85,11 +85,9 @@ class Questions(InAHurry):
             ("1236", on_site, "a part of a plate: it asks"),
             ("RAKM1236", on_site, "equal without hyphens: it asks"),
         ):
-            self.clerk.keys(ESCAPE + typed)
-            self.clerk.sees(words, what=what)
-            self.same(
-                f"{what}: each answer has its key on its button", answers, self.clerk.answers()
-            )
+            self.clerk.sees_after(ESCAPE + typed, words, what=what)
+            what = f"{what}: each answer has its key on its button"
+            self.same(what, answers, self.clerk.answers())
         what = "a known plate of running numbers"
         self.clerk.is_ready_for(KNOWN, f"{what}: it asks nothing")
         self.same(f"{what}: the page shows no answers", [], self.clerk.answers())
@@ -97,8 +95,7 @@ class Questions(InAHurry):
 
     def test_enter_answers_no_question(self) -> None:
         self.is_asked()
-        self.nothing_comes_of("Enter ten times in a second on a question", self.hammer, NEW)
-        self.nothing_comes_of("Enter held for 1.3 s on a question", self.hold_enter, NEW)
+        self.nothing_comes_of_enter("a question", NEW)
         self.same("the focus stays at the plate", "plate", self.clerk.focus())
         self.clerk.tab_to(ON_SITE, 6)
         self.same("Tab goes to the first answer", f"{ON_SITE} F1", self.clerk.focus())
@@ -218,8 +215,7 @@ class Held(InAHurry):
 
     def setUp(self) -> None:
         super().setUp()
-        self.bridge.next_vehicle(9170)
-        self.bridge.weigh("held-1", "first", "HELD-1")
+        self.bridge.weigh_next(9170, "held-1", "first", "HELD-1")
         self.comes("the page has the list", lambda: "HELD-1" in self.clerk.content("#site"))
 
     def open_by_search(self, plate: str) -> None:
@@ -257,12 +253,10 @@ class Held(InAHurry):
     def test_a_small_net(self) -> None:
         for load, net in ((9180, "20"), (9170, "0")):
             self.bridge.next_vehicle(load)
-            self.clerk.keys(ESCAPE + "HELD-1")
-            self.clerk.sees(f"The net would be only {net} kg.")
+            self.clerk.sees_after(ESCAPE + "HELD-1", f"The net would be only {net} kg.")
             what = f"a net of {net} kg: its answer has a key of its own"
             self.same(what, ["It is the right one F7"], self.clerk.answers())
-            self.nothing_comes_of(f"a net of {net} kg: Enter hammered", self.hammer, "HELD-1")
-            self.nothing_comes_of(f"a net of {net} kg: Enter held", self.hold_enter, "HELD-1")
+            self.nothing_comes_of_enter(f"a net of {net} kg", "HELD-1")
             what = f"a net of {net} kg: the keys of another question"
             self.nothing_comes_of(what, lambda: self.clerk.keys(F1 + F6 + F10), "HELD-1")
         self.note_entries()
@@ -273,8 +267,7 @@ class Held(InAHurry):
         self.becomes("a net of 0 kg: and then Enter weighs", [("second", "HELD-1")], self.added)
 
     def test_withdraws_only_what_it_shows(self) -> None:
-        self.bridge.next_vehicle(9000)
-        self.bridge.weigh("old-1", "first", "WD-1")
+        self.bridge.weigh_next(9000, "old-1", "first", "WD-1")
         click = "[...document.querySelectorAll('#today button')].find(it => it.textContent.includes('WD-1'))?.click()"
         self.clerk.keys(ESCAPE)
 
@@ -283,10 +276,8 @@ class Held(InAHurry):
             return self.clerk.contents("#entry-tools .danger")
 
         self.comes("the dialog of a first weighing offers to withdraw it", offered)
-        self.bridge.next_vehicle(4000)
-        self.bridge.weigh("old-2", "second", "WD-1")
-        self.bridge.next_vehicle(9100)
-        self.bridge.weigh("old-3", "first", "WD-1")
+        self.bridge.weigh_next(4000, "old-2", "second", "WD-1")
+        self.bridge.weigh_next(9100, "old-3", "first", "WD-1")
         self.note_entries()
 
         def pressed() -> bool:
@@ -310,50 +301,33 @@ class OffZero(InAHurry):
             self.bridge.converter.now = load
 
         put(80)
-        self.clerk.sees(
-            "The bridge is empty", 8, "160 kg on the empty bridge: at first it is called empty"
-        )
+        what = "160 kg on the empty bridge"
+        self.clerk.sees("The bridge is empty", 8, f"{what}: at first it is called empty")
         began = time.monotonic()
-        self.clerk.sees(
-            "The empty bridge shows 160 kg. Set zero.",
-            9,
-            "160 kg on the empty bridge: the sentence asks for zero",
-        )
-        what = "160 kg on the empty bridge: after some five seconds"
+        asks = f"{what}: the sentence asks for zero"
+        self.clerk.sees("The empty bridge shows 160 kg. Set zero.", 9, asks)
+        what = f"{what}: after some five seconds"
         self.holds(what, 2 < time.monotonic() - began < 8, f"{time.monotonic() - began:.1f} s")
         self.same("and offers its key", "Set zero F9", self.clerk.text("#choices button"))
-        self.clerk.keys(F9)
-        self.clerk.sees("The bridge is empty", 8, "F9 sets it, and the bridge is empty")
+        self.clerk.sees_after(F9, "The bridge is empty", 8, "F9 sets it, and the bridge is empty")
         self.becomes("at zero", 0, self.clerk.kg)
         put(590)
         self.becomes("1,020 kg are no empty bridge", 1020, self.clerk.kg)
         self.clerk.sees("Type the plate.")
         self.clerk.keys(F9)
         self.becomes("zero is set", 0, self.clerk.kg)
+        shows = "The empty bridge shows"
         put(510)
-        self.clerk.sees(
-            "The empty bridge shows -160 kg. Set zero.",
-            12,
-            "160 kg below zero: the sentence asks for zero",
-        )
+        what = "160 kg below zero: the sentence asks for zero"
+        self.clerk.sees(f"{shows} -160 kg. Set zero.", 12, what)
         put(690)
-        self.clerk.sees(
-            "The empty bridge shows 200 kg. Set zero.",
-            12,
-            "200 kg, beyond 2 % of Max from the calibration's zero: it asks for zero",
-        )
-        self.clerk.keys(F9)
-        self.clerk.sees(
-            "The empty bridge shows 200 kg. Call the operator.",
-            8,
-            "and sends for the operator once the service refuses it",
-        )
+        what = "200 kg, beyond 2 % of Max from the calibration's zero: it asks for zero"
+        self.clerk.sees(f"{shows} 200 kg. Set zero.", 12, what)
+        what = "and sends for the operator once the service refuses it"
+        self.clerk.sees_after(F9, f"{shows} 200 kg. Call the operator.", 8, what)
         put(610)
-        self.clerk.sees(
-            "The empty bridge shows 40 kg. Set zero.",
-            12,
-            "less than was refused: it asks for zero again",
-        )
+        what = "less than was refused: it asks for zero again"
+        self.clerk.sees(f"{shows} 40 kg. Set zero.", 12, what)
         put(0)
         self.comes("far below zero", lambda: "below zero" in self.clerk.words())
         time.sleep(1.5)
@@ -373,13 +347,11 @@ class OffZero(InAHurry):
         self.clerk.sees("The bridge showed 160 kg before this vehicle.", what=what)
         what = "its answer has a key of its own"
         self.same(what, ["Weigh it all the same F10"], self.clerk.answers())
-        self.nothing_comes_of("a Single off zero: Enter hammered", self.hammer, "SINGLE-1")
-        self.nothing_comes_of("a Single off zero: Enter held", self.hold_enter, "SINGLE-1")
+        self.nothing_comes_of_enter("a Single off zero", "SINGLE-1")
         what = "a Single off zero: the keys of other questions"
         self.nothing_comes_of(what, lambda: self.clerk.keys(F1 + F6 + F7), "SINGLE-1")
-        self.clerk.is_ready_for(
-            "FIRST-1", "a First asks nothing: its second weighing shows the same"
-        )
+        what = "a First asks nothing: its second weighing shows the same"
+        self.clerk.is_ready_for("FIRST-1", what)
         self.clerk.is_ready_for("SINGLE-1" + F10, "a Single off zero: its key answers")
         self.bridge.put(0)
         self.bridge.put(9170)
@@ -389,13 +361,11 @@ class OffZero(InAHurry):
         self.clerk.keys(ESCAPE + "SINGLE-1")
         what = "an answer is for one vehicle: the page asks again at the next one"
         self.clerk.sees("The bridge showed 160 kg before this vehicle.", what=what)
-        self.bridge.kill_counter()
-        self.bridge.start_counter()
+        self.bridge.restart_counter()
         what = "a counter that was started under a vehicle knows nothing of before"
         self.clerk.sees("It isn't known what the bridge showed before this vehicle.", what=what)
         self.note_entries()
-        self.clerk.keys(F10)
-        self.clerk.sees("Ready.")
+        self.clerk.sees_after(F10, "Ready.")
         self.clerk.keys(ENTER)
         what = "a Single off zero: and then Enter weighs"
         self.becomes(what, [("single", "SINGLE-1")], self.added)
@@ -412,11 +382,8 @@ class EarlyEnter(InAHurry):
         self.note_entries()
         self.stands()
         time.sleep(2.5)
-        self.same(
-            f"{what}: nothing is stored, and its plate stays",
-            ([], None, plate),
-            (self.added(), self.clerk.kept(), self.clerk.plate()),
-        )
+        left = (self.added(), self.clerk.kept(), self.clerk.plate())
+        self.same(f"{what}: nothing is stored, and its plate stays", ([], None, plate), left)
 
     def test_weighed_once_it_stands(self) -> None:
         weighed = [("first", "SW-AA-11")]
@@ -435,8 +402,7 @@ class EarlyEnter(InAHurry):
     def test_what_ends_it(self) -> None:
         clerk = self.clerk
         self.armed("KO-BB-22")
-        clerk.keys(ESCAPE)
-        clerk.sees(WAITS, what="Esc ends it")
+        clerk.sees_after(ESCAPE, WAITS, what="Esc ends it")
         self.nothing_comes("after Esc", "KO-BB-22")
         clerk.sees("Ready.")
 
@@ -455,16 +421,14 @@ class EarlyEnter(InAHurry):
         self.nothing_comes("after a search", "TR-EE-55")
 
         self.armed("TR-EE-55")
-        clerk.keys(F4 + ESCAPE)
-        clerk.sees("TR-EE-55 was not weighed.")
+        clerk.sees_after(F4 + ESCAPE, "TR-EE-55 was not weighed.")
         time.sleep(0.8)
         clerk.keys(ENTER)
         clerk.sees(f"TR-EE-55 {ARMED}", what="while the page says so, a new press counts")
         clerk.keys(ESCAPE)
         self.bridge.converter.sway = 0
 
-        self.bridge.next_vehicle(7000)
-        self.bridge.weigh("armed-1", "first", "SW-AA-11")
+        self.bridge.weigh_next(7000, "armed-1", "first", "SW-AA-11")
         self.armed("SW-AA-11", 7010)
         self.bridge.converter.sway = 0
         clerk.sees("The net would be only 20 kg.", what="a question ends it")
@@ -571,8 +535,7 @@ class NextVehicle(InAHurry):
 
     def test_a_swap_that_the_page_did_not_see(self) -> None:
         """While the page has no weight, one vehicle may leave and another may come."""
-        self.bridge.next_vehicle(9170)
-        self.bridge.weigh("site-1", "first", "ON-SITE-1")
+        self.bridge.weigh_next(9170, "site-1", "first", "ON-SITE-1")
         self.bridge.next_vehicle(7000)
         self.clerk.is_ready_for("UNSEEN-1")
         self.clerk.run(
@@ -622,8 +585,7 @@ class NextVehicle(InAHurry):
         self.clerk.is_ready_for("GO-NE-1")
         self.clerk.intercept(CUT)
         self.note_entries()
-        self.clerk.keys(ENTER)
-        self.clerk.sees("No answer yet.")
+        self.clerk.sees_after(ENTER, "No answer yet.")
         self.bridge.next_vehicle(8000)
         self.clerk.intercept_nothing()
         what = "a press without an answer isn't sent again once another vehicle is there"

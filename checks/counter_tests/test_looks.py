@@ -31,8 +31,7 @@ class Looks(AtTheCounter):
     seconds = 350
 
     def test_looks(self) -> None:
-        self.bridge.next_vehicle(9170)
-        self.bridge.weigh("look-1", "first", "LOOK-ALIKE-1")
+        self.bridge.weigh_next(9170, "look-1", "first", "LOOK-ALIKE-1")
         self.bridge.weigh("look-x", "first", "LOOK-ALIKE-2", port=self.bridge.office)
         self.bridge.keep_tare("LOOK-SINGLE", 5000)
         for width, height, is_dark, lang in LOOKS:

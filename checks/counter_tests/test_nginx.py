@@ -74,14 +74,9 @@ class Refused(BehindNginx):
             ("another name below ours", "Sec-Fetch-Site: same-site"),
         ):
             words = ["-H", field]
-            self.same(
-                f"{name} is refused",
-                ["403", "403"],
-                [
-                    self.status_of("/weighings", *KNOWN, *weighs, *words),
-                    self.status_of("/", *KNOWN, *words),
-                ],
-            )
+            weighing = self.status_of("/weighings", *KNOWN, *weighs, *words)
+            page = self.status_of("/", *KNOWN, *words)
+            self.same(f"{name} is refused", ("403", "403"), (weighing, page))
         routes = ("/purge", "/journal.csv", "/tickets.csv", "/check", "/metrics")
         ways: list[list[str]] = [[], weighs]
         found = [self.status_of(it, *KNOWN, *words) for it in routes for words in ways]
@@ -107,11 +102,8 @@ class Refused(BehindNginx):
         refused = self.head_of("/", *WRONG)[1]
         self.same("a refusal has no cookie", None, refused.get("set-cookie"))
         cookie = self.cookie()
-        self.holds(
-            "the cookie is for this site only, and no script reads it",
-            all(it in cookie for it in ("Secure", "HttpOnly", "SameSite=Strict")),
-            cookie,
-        )
+        is_so = all(it in cookie for it in ("Secure", "HttpOnly", "SameSite=Strict"))
+        self.holds("the cookie is for this site only, and no script reads it", is_so, cookie)
         alone = f"Cookie: {cookie.split(';')[0]}"
         self.same("the cookie opens nothing", "401", self.status_of("/", "-H", alone))
 
@@ -145,10 +137,12 @@ class Guessed(BehindNginx):
         took = time.monotonic() - began
         self.holds("for a second", took >= 1, f"{took:.1f} s")
         address = f"https://{HOST}:{self.nginx.port}/"
+
+        def guess(_: int) -> str:
+            return curl(address, "%{http_code}", *WRONG, within=SHORT)
+
         with ThreadPoolExecutor(8) as pool:
-            found = list(
-                pool.map(lambda _: curl(address, "%{http_code}", *WRONG, within=SHORT), range(150))
-            )
+            found = list(pool.map(guess, range(150)))
         took = time.monotonic() - began
         looked_at = sum(it != "429" for it in found)
         # nginx reads its clock once a round, and on a busy machine lets some more through

@@ -3,6 +3,7 @@
 import datetime
 import json
 import time
+from pathlib import Path
 
 from checks.lib.case import PROGRAM
 from checks.lib.clerk import ENTER
@@ -24,8 +25,7 @@ class Once(AtThePage):
         self.clerk.press("#others button", "Weigh once")
         self.same("the button says what it does", f"Weigh once · {plate}", self.clerk.button())
         self.clerk.sees("Ready.")
-        self.clerk.keys(ENTER)
-        self.clerk.sees("Slip")
+        self.clerk.sees_after(ENTER, "Slip")
         said = f"{plate} is weighed once, and may drive off."
         self.same("and so does the answer", said, self.clerk.more())
 
@@ -42,31 +42,19 @@ class Once(AtThePage):
         blocks = bridge.json("POST", "/papers/1/browser")["blocks"]
         at = [it["is"] for it in blocks].index("legal")
         words = "Weighed once. No second weighing follows."
-        self.same(
-            "its slip says so outside of the legal text",
-            (1, False),
-            (
-                sum(it.get("text") == words for it in blocks[:at]),
-                "once" in blocks[at]["text"].lower(),
-            ),
-        )
+        times = sum(it.get("text") == words for it in blocks[:at])
+        is_legal = "once" in blocks[at]["text"].lower()
+        self.same("its slip says so outside of the legal text", (1, False), (times, is_legal))
         self.same("nothing stands on site for it", [], clerk.contents("#site .plate"))
         bridge.next_vehicle(9000)
         clerk.is_ready_for("ON-CE-1")
         self.same("when it comes again, it is weighed in", "Weigh in · ON-CE-1", clerk.button())
-        clerk.keys(ENTER)
-        clerk.sees("Slip 3")
-        self.same(
-            "and the first visit is withdrawn before",
-            [("first", "ON-CE-1"), ("void", "ON-CE-1"), ("first", "ON-CE-1")],
-            bridge.weighings(),
-        )
+        clerk.sees_after(ENTER, "Slip 3")
+        entries = [(kind, "ON-CE-1") for kind in ("first", "void", "first")]
+        self.same("and the first visit is withdrawn before", entries, bridge.weighings())
         self.holds("by a key of its own", bridge.entries()[1][1].startswith("once-"))
-        self.becomes(
-            "the list says that too",
-            ["First weighing 3", "closed, because it was weighed once 2", "weighed once 1"],
-            self.today,
-        )
+        rows = ["First weighing 3", "closed, because it was weighed once 2", "weighed once 1"]
+        self.becomes("the list says that too", rows, self.today)
         self.same("nothing is struck out but the withdrawal", 1, clerk.count("#today li.void"))
 
     def test_one_of_another_day(self) -> None:
@@ -75,14 +63,12 @@ class Once(AtThePage):
         self.weigh_once("ZW-EI-7")
         bridge.put(0)
         bridge.kill_counter()
-        path = f"{bridge.folder}/state/once.json"
-        with open(path, encoding="utf-8") as file:
-            notes = json.load(file)
+        path = Path(bridge.folder, "state/once.json")
+        notes = json.loads(path.read_text(encoding="utf-8"))
         self.same("it is noted on the disk", ["ZW-EI-7"], [it["plate"] for it in notes.values()])
         for it in notes.values():
             it["day"] = str(datetime.date.fromisoformat(it["day"]) - datetime.timedelta(1))
-        with open(path, "w", encoding="utf-8") as file:
-            json.dump(notes, file)
+        path.write_text(json.dumps(notes), encoding="utf-8")
         bridge.start_counter()
         withdrawn = [("first", "ZW-EI-7"), ("void", "ZW-EI-7")]
         what = "after midnight the counter withdraws it, even after a new start"
@@ -102,8 +88,5 @@ class NotOffered(AtThePage):
         what = "without the setup the page doesn't offer it"
         self.holds(what, "Weigh once" not in self.clerk.others())
         form = {"key": "once-1", "kind": "first", "plate": "ON-CE-3", "once": "1"}
-        self.same(
-            "and the counter refuses it",
-            (422, "counter bad_once\n"),
-            self.bridge.ask("POST", "/weighings", form)[:2],
-        )
+        told = self.bridge.ask("POST", "/weighings", form)[:2]
+        self.same("and the counter refuses it", (422, "counter bad_once\n"), told)

@@ -69,9 +69,8 @@ class Package(Check):
         for name in PROGRAMS:
             page = PACKAGING / "counter" / f"{name}.1"
             manual = page.read_text(encoding="utf-8").replace("\\", "")
-            options = re.findall(
-                r"--[a-z]+", run(self.root / "usr" / "bin" / name, "--help").stdout
-            )
+            told = run(self.root / "usr" / "bin" / name, "--help").stdout
+            options = re.findall(r"--[a-z]+", told)
             missing = [it for it in options if it not in manual]
             what = f"each option of the help is in {name}'s manual page"
             self.same(what, (True, []), (bool(options), missing))

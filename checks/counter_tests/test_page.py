@@ -48,8 +48,7 @@ class Page(AtThePage):
     def a_pair(self) -> None:
         bridge, clerk = self.bridge, self.clerk
         self.same("the page has the bar about zero", True, "zero" in clerk.alarms())
-        clerk.keys(F9)
-        clerk.sees("Zero is set.")
+        clerk.sees_after(F9, "Zero is set.")
         self.becomes("and the bar is gone", "", clerk.alarms)
         bridge.put(9170)
         self.becomes("the weight is shown", 18340, clerk.kg)
@@ -57,8 +56,7 @@ class Page(AtThePage):
         clerk.keys("hb kw_77")
         self.same("small letters and blanks become those of a plate", "HB-KW-77", clerk.plate())
         clerk.sees("Ready.")
-        clerk.keys(ENTER)
-        clerk.sees("Slip 1: 18,340 kg")
+        clerk.sees_after(ENTER, "Slip 1: 18,340 kg")
         what = "the plate is free, and has the focus"
         self.same(what, ("", "plate"), (clerk.plate(), clerk.focus()))
         clerk.keys(F8 + F8)
@@ -71,20 +69,15 @@ class Page(AtThePage):
         self.comes(what, lambda: "Slip 1" in clerk.words() or "drive off" in clerk.words())
         bridge.next_vehicle(4070)
         clerk.sees("Type the plate.")
-        clerk.keys("HBKW87")
-        clerk.sees("HB-KW-77 is on site. Is it this one?")
+        clerk.sees_after("HBKW87", "HB-KW-77 is on site. Is it this one?")
         clerk.keys(ENTER + ENTER)
-        self.same(
-            "Enter does nothing, and weighs nothing in",
-            ("plate", "HBKW87", 1),
-            (clerk.focus(), clerk.plate(), len(bridge.entries())),
-        )
+        found = (clerk.focus(), clerk.plate(), len(bridge.entries()))
+        self.same("Enter does nothing, and weighs nothing in", ("plate", "HBKW87", 1), found)
         clerk.keys(F1)
         self.same("its key takes the one on site", "HB-KW-77", clerk.plate())
         clerk.sees("Ready.")
         self.same("the net to come", "Net will be 10,200 kg", clerk.text("#go-more"))
-        clerk.keys(ENTER)
-        clerk.sees("Ticket 2: net 10,200 kg")
+        clerk.sees_after(ENTER, "Ticket 2: net 10,200 kg")
         counts = (clerk.text("#site-count"), clerk.text("#today-count"))
         self.same("the lists have it", ("", "2"), counts)
         bridge.put(0)
@@ -97,13 +90,11 @@ class Page(AtThePage):
         clerk.keys(TAB)
         self.tab_to_the_tare()
         self.same("the dialog asks for the tare", "tare-kg", clerk.focus())
-        clerk.keys("5000" + TAB + SPACE + ENTER)
-        clerk.sees("Ready.")
+        clerk.sees_after("5000" + TAB + SPACE + ENTER, "Ready.")
         self.becomes("the focus returns", "plate", clerk.focus)
         wanted = "Weigh with tare 5,000 kg · OL-T-1"
         self.same("the button says so", wanted, clerk.button())
-        clerk.keys(ENTER)
-        clerk.sees("Ticket 3: net 13,340 kg")
+        clerk.sees_after(ENTER, "Ticket 3: net 13,340 kg")
         self.same("no tare is left", NO_TARE, bridge.tare())
         bridge.next_vehicle(9170)
         clerk.keys("OL-T-1")
@@ -112,14 +103,11 @@ class Page(AtThePage):
         self.same("Escape clears the plate", "", clerk.plate())
         bridge.terminal_says("till", "TA 3000 kg")
         clerk.sees("A tare of 3,000 kg is set.")
-        self.same(
-            "NET is next to the weight",
-            ("NET", 15340, "Tare 3,000 kg, gross 18,340 kg"),
-            (clerk.text("#kind"), clerk.kg(), clerk.text("#parts")),
-        )
+        shown = (clerk.text("#kind"), clerk.kg(), clerk.text("#parts"))
+        net = ("NET", 15340, "Tare 3,000 kg, gross 18,340 kg")
+        self.same("NET is next to the weight", net, shown)
         clerk.tab_to("Clear the tare", 24)
-        clerk.keys(ENTER)
-        clerk.sees("Type the plate.", what="the tare is cleared by a key")
+        clerk.sees_after(ENTER, "Type the plate.", what="the tare is cleared by a key")
         self.becomes("and the focus returns", "plate", clerk.focus)
 
     def a_tare_that_is_not_kept(self) -> None:
@@ -148,8 +136,7 @@ class Page(AtThePage):
         clerk.keys(ENTER)
         self.same("it asks once more", "Press again: withdraw WRONG-1", clerk.focus())
         time.sleep(0.8)
-        clerk.keys(ENTER)
-        clerk.sees("Withdrawn: WRONG-1, slip 4")
+        clerk.sees_after(ENTER, "Withdrawn: WRONG-1, slip 4")
         self.becomes("the focus returns", "plate", clerk.focus)
         clerk.keys(F4 + ESCAPE)
         self.same("and from a dialog that is closed", "plate", clerk.focus())
@@ -178,11 +165,8 @@ class Page(AtThePage):
         left = [line for line in said if line not in facts().splitlines()]
         self.same("all three lines of it", (3, []), (len(said), left))
         setup = f"--terminal 127.0.0.1:{self.bridge.terminal}"
-        self.same(
-            "the setup, and the newest entry with its digest",
-            (True, True, True),
-            (setup in facts(), newest[0] in facts().splitlines(), newest[10] in facts()),
-        )
+        found = (setup in facts(), newest[0] in facts().splitlines(), newest[10] in facts())
+        self.same("the setup, and the newest entry with its digest", (True, True, True), found)
         self.clerk.keys(ESCAPE)
         self.becomes("and the focus returns", "plate", self.clerk.focus)
 
@@ -203,8 +187,7 @@ class Page(AtThePage):
         bridge.next_vehicle(9170)
         clerk.is_ready_for("REF-1")
         bridge.weigh("ref-past", "first", "REF-1", port=bridge.office)
-        clerk.keys(ENTER)
-        clerk.sees("The bridge was not empty since the last weighing.")
+        clerk.sees_after(ENTER, "The bridge was not empty since the last weighing.")
         words = "Nothing was stored. (refused 11 not_cleared)"
         self.same("the office's name is below", words, clerk.more())
         self.same("and the request is over", None, clerk.kept())
@@ -232,9 +215,8 @@ class Page(AtThePage):
         clerk.run("window.sent = []")
         clerk.intercept(PLANNED, ["not_sent"])
         clerk.is_ready_for("BUSY-1")
-        clerk.keys(ENTER)
         what = "what was never sent, and nothing before it, ends the request"
-        clerk.sees("Not sent: another weighing is under way.", what=what)
+        clerk.sees_after(ENTER, "Not sent: another weighing is under way.", what=what)
         self.same("and it isn't kept", None, clerk.kept())
 
     def test_kept_over_a_load(self) -> None:
@@ -242,8 +224,7 @@ class Page(AtThePage):
         bridge.next_vehicle(9170)
         clerk.is_ready_for("KEPT-1")
         clerk.intercept(CUT)
-        clerk.keys(ENTER)
-        clerk.sees("No answer yet.")
+        clerk.sees_after(ENTER, "No answer yet.")
         clerk.load()
         clerk.sees("Slip", what="a page that is loaded again sends what it kept")
         self.same("and it is stored once", [("first", "KEPT-1")], self.added())
@@ -259,8 +240,7 @@ class Page(AtThePage):
         clerk.run("Storage.prototype.setItem = () => { throw new Error('none'); }")
         bridge.next_vehicle(9170)
         clerk.is_ready_for("NONE-1")
-        clerk.keys(ENTER)
-        clerk.sees("This browser keeps nothing, so nothing was sent.")
+        clerk.sees_after(ENTER, "This browser keeps nothing, so nothing was sent.")
         self.same("nothing was sent", False, ("first", "NONE-1") in self.added())
 
     def test_killed_within_a_press(self) -> None:
@@ -284,17 +264,13 @@ class Page(AtThePage):
             self.becomes(f"{what}: the press comes to its end", None, clerk.kept, 40)
             stored = self.added().count(("first", plate))
             said = clerk.words()
-            self.holds(
-                f"{what}: what the clerk read is what is stored",
-                (stored == 1) == ("Slip" in said) or "drive" in said,
-                f"{stored} stored, {said}",
-            )
+            is_so = (stored == 1) == ("Slip" in said) or "drive" in said
+            read = f"{what}: what the clerk read is what is stored"
+            self.holds(read, is_so, f"{stored} stored, {said}")
             clerk.keys(ESCAPE)
             if what == "service":
-                self.comes(
-                    "service: the bar about zero is back",
-                    lambda: "Its zero may be lost" in clerk.alarms(),
-                )
+                back = "service: the bar about zero is back"
+                self.comes(back, lambda: "Its zero may be lost" in clerk.alarms())
                 bridge.put(0)
                 clerk.keys(F9)
                 self.becomes("service: and gone once zero is set", "", clerk.alarms)
@@ -319,11 +295,8 @@ class Page(AtThePage):
         words = "The journal has no entry; it ended at number 1."
         what = "after a new file a bar says so on each page"
         self.comes(what, lambda: words in clerk.alarms() and words in other.alarms(), 30)
-        self.same(
-            "with what to do, and no vehicle on site",
-            (True, ""),
-            ("call the operator" in clerk.alarms(), clerk.text("#site-count")),
-        )
+        found = ("call the operator" in clerk.alarms(), clerk.text("#site-count"))
+        self.same("with what to do, and no vehicle on site", (True, ""), found)
         clerk.press("#alarms button", "I have read this")
         what = "a press closes it on each page"
         self.comes(what, lambda: words not in clerk.alarms() + other.alarms())

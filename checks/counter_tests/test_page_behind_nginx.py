@@ -3,6 +3,7 @@
 import http.server
 import threading
 import time
+from pathlib import Path
 
 from checks.lib.bridge import HOST
 from checks.lib.case import PROGRAM
@@ -56,8 +57,7 @@ class PageBehindNginx(AtThePage):
         self.holds("and a vehicle is weighed behind nginx", "Slip" in clerk.words(), clerk.words())
         self.never_old("behind nginx", 4)
         clerk.run(KEEP)
-        with open(f"{bridge.folder}/state/tares.json", encoding="utf-8") as file:
-            kept = file.read()
+        kept = Path(bridge.folder, "state/tares.json").read_text(encoding="utf-8")
         self.holds("who kept a tare is known by the password", '"by": "clerk"' in kept, kept)
 
     def test_eight_tabs(self) -> None:
@@ -104,11 +104,6 @@ class PageBehindNginx(AtThePage):
         self.same("takes no answer", "blocked", browser.run(TAKE, f"{counter}/indication"))
         browser.run("document.querySelector('form').submit()")
         time.sleep(2)
-        self.same(
-            "and weighs nothing by a form",
-            ("counter other_site", False),
-            (
-                browser.run("return document.body.innerText.trim()"),
-                self.bridge.has_key("other-site"),
-            ),
-        )
+        said = browser.run("return document.body.innerText.trim()")
+        found = (said, self.bridge.has_key("other-site"))
+        self.same("and weighs nothing by a form", ("counter other_site", False), found)

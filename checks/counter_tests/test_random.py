@@ -180,11 +180,9 @@ class Random(AtTheCounter):
             elif what == "silence":
                 with silent(bridge.converter):
                     time.sleep(rng.uniform(0.5, 2.5))
-            elif what == "hold_service":
-                with held(bridge.service.process):
-                    time.sleep(rng.uniform(0.2, 3.5))
             else:
-                with held(bridge.process):
+                process: Any = bridge.process if what == "hold_counter" else bridge.service.process
+                with held(process):
                     time.sleep(rng.uniform(0.2, 3.5))
 
     def test_clients_at_random(self) -> None:
@@ -214,11 +212,8 @@ class Random(AtTheCounter):
         self.same(what, [], self.wrong[:5])
         said = f"{dict(sorted(self.counts.items()))}, {len(self.texts)} stored"
         print(said, flush=True)
-        self.holds(
-            "enough was asked",
-            self.counts["till"] > 2 * self.played and len(self.texts) > self.played / 12,
-            said,
-        )
+        is_enough = self.counts["till"] > 2 * self.played and len(self.texts) > self.played / 12
+        self.holds("enough was asked", is_enough, said)
         tare = self.bridge.state()["tare"]
         self.holds("no tare of a weighing is left", tare % 40 == 0, tare)
         self.compare_with_the_journal()
@@ -237,11 +232,8 @@ class Random(AtTheCounter):
                 wrong.append((row, self.asked[key]))
         what = "each entry is what a client asked for, each Single with its own tare"
         self.same(what, [], wrong[:3])
-        self.same(
-            "what was refused isn't stored",
-            [],
-            [key for key, status in self.told.items() if status != 201 and key in by_key],
-        )
+        refused = [key for key, status in self.told.items() if status != 201 and key in by_key]
+        self.same("what was refused isn't stored", [], refused)
         texts = []
         for key, text in self.texts.items():
             status, again = bridge.weigh(key, *self.asked[key][:2], port=bridge.office)
@@ -255,16 +247,13 @@ class Random(AtTheCounter):
                 on_site.add(row[3])
             elif row[2] in ("second", "void"):
                 on_site.discard(row[3])
-        self.becomes(
-            "the lists have every entry, and each vehicle on site",
-            (len(rows), len(on_site), True),
-            lambda: (
-                bridge.metric("entries"),
-                bridge.metric("on_site"),
-                bridge.state()["lists_whole"],
-            ),
-            30,
-        )
+
+        def listed() -> tuple[int, int, bool]:
+            counts = bridge.metric("entries"), bridge.metric("on_site")
+            return *counts, bridge.state()["lists_whole"]
+
+        what = "the lists have every entry, and each vehicle on site"
+        self.becomes(what, (len(rows), len(on_site), True), listed, 30)
 
 
 class RandomAt50(Random):

@@ -1,8 +1,8 @@
 """The description of the routes: counter/openapi.json is valid, has every route of both, and each answer and event is as it says."""
 
 import json
-import os
 import re
+from pathlib import Path
 from typing import Any
 
 from checks.lib.case import PROGRAM
@@ -15,7 +15,7 @@ try:
 except ImportError:
     pass  # the class is skipped
 
-OPENAPI_SCHEMA = "/usr/share/openapi-specification/schemas/v3.0/schema.json"
+OPENAPI_SCHEMA = Path("/usr/share/openapi-specification/schemas/v3.0/schema.json")
 NO_KEY = 36 * "k"
 
 
@@ -79,10 +79,10 @@ class Routes(AtTheCounter):
                 self.wrong.append((target, status, kind))
 
     def test_valid(self) -> None:
-        if not os.path.exists(OPENAPI_SCHEMA):
+        if not OPENAPI_SCHEMA.exists():
             self.skipTest(f"{OPENAPI_SCHEMA} is not there (openapi-specification)")
-        with open(OPENAPI_SCHEMA, encoding="utf-8") as file:
-            validator = jsonschema.Draft4Validator(json.load(file))
+        schema = json.loads(OPENAPI_SCHEMA.read_text(encoding="utf-8"))
+        validator = jsonschema.Draft4Validator(schema)
         found = [it.message for it in validator.iter_errors(self.document)]
         self.same("openapi.json is valid", [], found[:3])
 
@@ -92,11 +92,8 @@ class Routes(AtTheCounter):
             for it, what in self.document["paths"].items()
             if what.get("servers", [{}])[0].get("description") != "the office"
         }
-        self.same(
-            "each route of the counter's program is there, and no other",
-            routes_of_the_program(),
-            described - {"/web/{name}"},
-        )
+        what = "each route of the counter's program is there, and no other"
+        self.same(what, routes_of_the_program(), described - {"/web/{name}"})
 
     def test_answers(self) -> None:
         self.bridge.next_vehicle(9170)
@@ -107,19 +104,14 @@ class Routes(AtTheCounter):
         self.bridge.put(0)
         for name, what in self.bridge.events(1.0):
             self.compare((name,), self.document["components"]["schemas"][name], what)
-        self.same(
-            "each answer of both, and each event, is as openapi.json says", [], self.wrong[:5]
-        )
+        what = "each answer of both, and each event, is as openapi.json says"
+        self.same(what, [], self.wrong[:5])
 
     def answers_of_both(self) -> None:
         form = {"key": "describe-1", "kind": "first", "plate": "ROUTES"}
         for port in (self.bridge.office, self.bridge.http):
-            for given in (
-                form,
-                form | {"key": "describe-2"},
-                form | {"plate": "no plate"},
-                form | {"kind": "second"},
-            ):
+            others = ({"key": "describe-2"}, {"plate": "no plate"}, {"kind": "second"})
+            for given in (form, *(form | it for it in others)):
                 self.answered("/weighings", "POST", port, form=given)
                 if port == self.bridge.http:
                     self.answered("/weighings", "POST", port, form=given, Accept="application/json")
@@ -150,9 +142,8 @@ class Routes(AtTheCounter):
 
     def answers_of_the_counter(self) -> None:
         port = self.bridge.http
-        for target in ("/", "/openapi.json", "/time", "/health", "/metrics", "/papers"):
-            self.answered(target, "GET", port)
-        for target in ("/today", "/today.csv"):
+        plain = ("/", "/openapi.json", "/time", "/health", "/metrics", "/papers")
+        for target in (*plain, "/today", "/today.csv"):
             self.answered(target, "GET", port)
         for target in ("/zero", "/tare/clear", "/lists/refresh"):
             self.answered(target, "POST", port)

@@ -53,15 +53,11 @@ class Rows(AtThePage):
         self.clerk.weigh("AA-WR-1", "Slip 1")
         self.becomes("it is on site", 1, lambda: self.clerk.count("#site .menu"))
         self.clerk.run("document.querySelector('#site .menu').click()")
-        found = self.comes(
-            "the menu of a row on site opens its text", lambda: self.clerk.run(DIALOG)
-        )
+        what = "the menu of a row on site opens its text"
+        found = self.comes(what, lambda: self.clerk.run(DIALOG))
         self.same("with its title", "Slip 1 · AA-WR-1", found[0])
-        self.same(
-            "print, goods, withdraw and close",
-            ["Print again", "Goods, order, driver…", "Withdraw this weighing", "Close"],
-            found[2:],
-        )
+        buttons = ["Print again", "Goods, order, driver…", "Withdraw this weighing", "Close"]
+        self.same("print, goods, withdraw and close", buttons, found[2:])
         self.clerk.run("document.querySelector('#entry .danger').click()")
         time.sleep(0.8)
         self.clerk.run("document.querySelector('#entry .danger').click()")
@@ -71,17 +67,15 @@ class Rows(AtThePage):
         self.clerk.load()
         what = "the vehicle on the bridge isn't called weighed"
         self.clerk.sees("AA-WR-1, Slip 1, is withdrawn.", what=what)
-        self.clerk.keys("BB-RI-2")
-        self.clerk.sees("AA-WR-1, Slip 1, is withdrawn.")
+        self.clerk.sees_after("BB-RI-2", "AA-WR-1, Slip 1, is withdrawn.")
         self.same("nobody is on site", "", self.clerk.text("#site-count"))
         what = "the withdrawal's row names the First"
         self.comes(what, lambda: "Withdrawal 2 · of slip 1" in self.clerk.text("#today"))
         self.clerk.keys(ESCAPE)
         for at, says in ((1, "withdrawn by slip 2"), (0, "of slip 1")):
             self.clerk.run(f"document.querySelectorAll('#today .menu')[{at}].click()")
-            found = self.comes(
-                "the menu of a row of today opens its text", lambda: self.clerk.run(DIALOG)
-            )
+            what = "the menu of a row of today opens its text"
+            found = self.comes(what, lambda: self.clerk.run(DIALOG))
             self.holds(f"which says {says}", says in found[1], found[1])
             self.holds("and offers no withdrawal", "Withdraw this weighing" not in found, found)
             self.clerk.keys(ESCAPE)
@@ -96,8 +90,7 @@ class Rows(AtThePage):
 
     def arrow_keys(self) -> None:
         for at, plate in enumerate(("AR-ON-11", "BR-TW-22", "CR-TH-33")):
-            self.bridge.next_vehicle(9000 + at)
-            self.bridge.weigh(f"arrow-{at}", "first", plate)
+            self.bridge.weigh_next(9000 + at, f"arrow-{at}", "first", plate)
         self.becomes("three are on site", "3", lambda: self.clerk.text("#site-count"))
         self.clerk.run("document.querySelector('#tares').focus()")
         self.clerk.keys(TAB)
@@ -113,8 +106,7 @@ class Rows(AtThePage):
         ):
             self.clerk.keys(key)
             self.same(f"the arrow keys: {name}", wanted, self.clerk.run(FOCUS))
-        self.bridge.next_vehicle(9500)
-        self.bridge.weigh("arrow-4", "first", "DR-FO-44")
+        self.bridge.weigh_next(9500, "arrow-4", "first", "DR-FO-44")
         self.becomes("a fourth comes", "4", lambda: self.clerk.text("#site-count"))
         self.same("and the focus stays", ["site", "AR-ON-11", "main"], self.clerk.run(FOCUS))
         self.clerk.keys(TAB)
@@ -128,23 +120,13 @@ class Rows(AtThePage):
         plate = self.clerk.content("#site li:nth-child(2) .plate")
         self.clerk.run("window.pressed = document.querySelectorAll('#site .main')[1]")
         self.clerk.browser.mouse("mousePressed", *at)
-        self.bridge.next_vehicle(9600)
-        self.bridge.weigh("press-1", "second", "AR-ON-11")
+        self.bridge.weigh_next(9600, "press-1", "second", "AR-ON-11")
         what = "an entry comes while the button is down"
         self.becomes(what, "3", lambda: self.clerk.text("#site-count"))
-        self.same(
-            "the row is the same part of the page",
-            [True, plate],
-            self.clerk.run(
-                "return [window.pressed.isConnected, window.pressed.querySelector('.plate').textContent]"
-            ),
-        )
-        self.clerk.browser.mouse(
-            "mouseReleased",
-            *self.clerk.run(
-                "const it = window.pressed.getBoundingClientRect(); return [it.x + 20, it.y + 10]"
-            ),
-        )
+        row = "return [window.pressed.isConnected, window.pressed.querySelector('.plate').textContent]"
+        self.same("the row is the same part of the page", [True, plate], self.clerk.run(row))
+        place = "const it = window.pressed.getBoundingClientRect(); return [it.x + 20, it.y + 10]"
+        self.clerk.browser.mouse("mouseReleased", *self.clerk.run(place))
         self.becomes("and the press acts", plate, self.clerk.plate)
         self.clerk.keys(ESCAPE)
 
@@ -153,8 +135,7 @@ class Rows(AtThePage):
             ("second", "BR-TW-22", 4000, None),
             ("single", "TA-RE-55", 9170, 5000),
         ):
-            self.bridge.next_vehicle(load)
-            status = self.bridge.weigh(f"way-{kind}", kind, plate, tare)[0]
+            status = self.bridge.weigh_next(load, f"way-{kind}", kind, plate, tare)[0]
             self.same(f"a {kind} of {plate}", 201, status)
 
     def the_day(self) -> None:
@@ -175,20 +156,16 @@ class Rows(AtThePage):
         what = "in, out and what was weighed with a tare are summed apart"
         self.becomes(what, wanted, lambda: self.clerk.text("#today-sum"))
         status, table, fields = self.bridge.ask("GET", "/today.csv")
-        what = "the day as CSV"
+        what, numbers = "the day as CSV", [it[0] for it in self.bridge.entries()]
         self.same(what, (200, True), (status, fields["content-type"].startswith("text/csv")))
-        self.same(
-            "has all of its entries",
-            [it[0] for it in self.bridge.entries()],
-            [it.split(",")[0] for it in table.split("\r\n")[1:-1]],
-        )
+        of_table = [it.split(",")[0] for it in table.split("\r\n")[1:-1]]
+        self.same("has all of its entries", numbers, of_table)
         self.clerk.browser.click("#print-today")
         self.comes("the list prints", lambda: len(self.clerk.papers()) > 0)
         lines = self.clerk.run(
             "return [...document.querySelectorAll('#paper tbody tr')].map(it => [...it.children].map(cell => cell.textContent))"
         )
-        what = "with a line for each entry"
-        self.same(what, [it[0] for it in self.bridge.entries()], [it[0] for it in lines])
+        self.same("with a line for each entry", numbers, [it[0] for it in lines])
         self.same("its way too", {"in", "out", ""}, {it[7] for it in lines})
         what = "and says what it is"
         self.holds(what, "The slips and tickets count." in self.clerk.content("#paper"))
@@ -206,9 +183,8 @@ class Rows(AtThePage):
                 self.clerk.run("document.getElementById('last').click()")
             self.comes(f"a reprint {what}", lambda: len(self.clerk.papers()) > before)
             self.clerk.keys("HB-KW-77")
-            self.same(
-                f"after a reprint {what} letters are the next plate", "HB-KW-77", self.clerk.plate()
-            )
+            next_plate = f"after a reprint {what} letters are the next plate"
+            self.same(next_plate, "HB-KW-77", self.clerk.plate())
         self.clerk.keys(ESCAPE)
 
 
@@ -230,19 +206,13 @@ class ManyOnSite(AtThePage):
         what = f"with {ON_SITE} on site an entry costs the page's thread less than {MOST_MILLISECONDS} ms"
         self.holds(what, took < MOST_MILLISECONDS, f"{took:.1f} ms")
         self.same("200 rows are drawn at first", 200, self.drawn())
-        self.same(
-            "and the list says how many more there are",
-            f"{ON_SITE + 21 - 200} more: scroll down",
-            clerk.text("#site li:last-child"),
-        )
+        words = f"{ON_SITE + 21 - 200} more: scroll down"
+        said = clerk.text("#site li:last-child")
+        self.same("and the list says how many more there are", words, said)
         clerk.run("const it = document.getElementById('site'); it.scrollTop = it.scrollHeight")
         self.becomes("all are drawn once one scrolls", ON_SITE + 21, self.drawn)
         clerk.load()
         self.bridge.put(0)
         clerk.sees("The bridge is empty")
-        self.press_to_ticket(
-            count=5,
-            most=300,
-            before=lambda: clerk.run_later(FILL, ON_SITE),
-            where=f" with {ON_SITE} on site",
-        )
+        where = f" with {ON_SITE} on site"
+        self.press_to_ticket(5, 300, lambda: clerk.run_later(FILL, ON_SITE), where)

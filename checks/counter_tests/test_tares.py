@@ -36,9 +36,8 @@ class Tares(AtThePage):
         what = "1451 is kept in place of 14510"
         self.same(what, 200, self.bridge.keep_tare("TY-PO-1", 1451, "anna"))
         self.bridge.next_vehicle(9170)
-        self.clerk.keys("TY-PO-1")
         what = "a tare below a fifth is doubted"
-        self.clerk.sees("The tare is only 1,460 kg. Is it right?", what=what)
+        self.clerk.sees_after("TY-PO-1", "The tare is only 1,460 kg. Is it right?", what=what)
         self.same("with a key of its own", ["The tare is right F3"], self.clerk.answers())
         self.hammered("a doubted tare, and other keys", TEN + F1 + F2 + F6 + F7 + F10, "TY-PO-1")
         self.hammered("the answer, and Enter at once", F3 + ENTER, "TY-PO-1")
@@ -46,19 +45,16 @@ class Tares(AtThePage):
         what = "the button has the rounded tare"
         self.same(what, "Weigh with tare 1,460 kg · TY-PO-1", self.clerk.button())
         self.same("and the net to come", "Net will be 16,880 kg", self.clerk.text("#go-more"))
-        self.clerk.keys(ENTER)
-        self.clerk.sees("net 16,880 kg", what="which is the net of the ticket")
+        self.clerk.sees_after(ENTER, "net 16,880 kg", what="which is the net of the ticket")
         self.same("its preset tare too", "1460", self.bridge.entries()[-1][6])
 
     def test_an_unlike_tare(self) -> None:
         for key, kind, load in (("pair-1", "first", 9170), ("pair-2", "second", 7230)):
-            self.bridge.next_vehicle(load)
-            self.same(f"a pair: {kind}", 201, self.bridge.weigh(key, kind, "UN-LI-2")[0])
+            self.same(f"a pair: {kind}", 201, self.bridge.weigh_next(load, key, kind, "UN-LI-2")[0])
         self.bridge.keep_tare("UN-LI-2", 10000, "anna")
         self.bridge.next_vehicle(9170)
-        self.clerk.keys(ESCAPE + "UN-LI-2")
         what = "a tare far from the last empty weight is doubted"
-        self.clerk.sees("The tare is 10,000 kg. Is it right?", what=what)
+        self.clerk.sees_after(ESCAPE + "UN-LI-2", "The tare is 10,000 kg. Is it right?", what=what)
         self.holds("which the page shows", "14,460 kg" in self.clerk.more(), self.clerk.more())
         self.bridge.keep_tare("UN-LI-2", 14400, "anna")
         self.clerk.sees("Ready.", what="one that is near isn't")
@@ -92,8 +88,7 @@ class Tares(AtThePage):
         self.clerk.sees("Ready.")
         what = "it is weighed with its tare"
         self.same(what, "Weigh with tare 5,000 kg · SUEW-AB-12E", self.clerk.button())
-        self.clerk.keys(ESCAPE + "SUEWAB12E")
-        self.clerk.sees("SUEW-AB-12E has a kept tare")
+        self.clerk.sees_after(ESCAPE + "SUEWAB12E", "SUEW-AB-12E has a kept tare")
         self.hammered("another vehicle, hammered", 5 * F6 + ENTER, "SUEWAB12E")
         self.clerk.sees("Ready.")
         what = "it is weighed in under what was typed"
@@ -101,16 +96,13 @@ class Tares(AtThePage):
         self.clerk.keys(ESCAPE)
 
     def a_key_answers_one_question(self) -> None:
-        self.bridge.next_vehicle(9170)
-        self.bridge.weigh("key-1", "first", "SUE-WAB-12E")
+        self.bridge.weigh_next(9170, "key-1", "first", "SUE-WAB-12E")
         self.bridge.next_vehicle(8000)
-        self.clerk.keys(ESCAPE + "SUEWAB12E")
-        self.clerk.sees("SUE-WAB-12E is on site. Is it this one?")
+        self.clerk.sees_after(ESCAPE + "SUEWAB12E", "SUE-WAB-12E is on site. Is it this one?")
         self.hammered("a key that two questions have, hammered", 8 * F6, "SUEWAB12E")
         self.clerk.sees("SUEW-AB-12E has a kept tare", what="it answers only the first question")
         time.sleep(1)
-        self.clerk.keys(F6)
-        self.clerk.sees("Ready.", what="and the next one once it is pressed again")
+        self.clerk.sees_after(F6, "Ready.", what="and the next one once it is pressed again")
         self.clerk.keys(ESCAPE)
 
     def test_a_tare_kept_under_the_finger(self) -> None:
@@ -124,11 +116,9 @@ class Tares(AtThePage):
         what = "the button changes"
         self.comes(what, lambda: self.clerk.run("return window.wasPressed") is not None)
         time.sleep(0.5)
-        self.same(
-            "and a press that was meant for the other weighing does nothing",
-            (False, []),
-            (self.clerk.run("return window.wasPressed"), self.bridge.entries()[len(before) :]),
-        )
+        found = (self.clerk.run("return window.wasPressed"), self.bridge.entries()[len(before) :])
+        what = "and a press that was meant for the other weighing does nothing"
+        self.same(what, (False, []), found)
         self.clerk.sees("Ready.", what="it is ready once the clerk could see that")
         self.bridge.ask("DELETE", "/tares/FI-NG-5")
         self.clerk.keys(ESCAPE)
@@ -136,15 +126,11 @@ class Tares(AtThePage):
     def test_the_list(self) -> None:
         for plate, kg in (("SUEW-AB-12E", 5000), ("TY-PO-1", 1451), ("UN-LI-2", 14400)):
             self.bridge.keep_tare(plate, kg, "anna")
-        self.bridge.next_vehicle(9170)
-        self.bridge.weigh("list-1", "single", "TY-PO-1", 1451)
+        self.bridge.weigh_next(9170, "list-1", "single", "TY-PO-1", 1451)
         self.clerk.browser.click("#tares")
         found = self.comes("the kept tares are listed", lambda: self.clerk.run(KEPT))
-        self.same(
-            "by plate, as the scale rounds them",
-            ["SUEW-AB-12E · 5,000 kg", "TY-PO-1 · 1,460 kg", "UN-LI-2 · 14,400 kg"],
-            [it[0] for it in found],
-        )
+        rounded = ["SUEW-AB-12E · 5,000 kg", "TY-PO-1 · 1,460 kg", "UN-LI-2 · 14,400 kg"]
+        self.same("by plate, as the scale rounds them", rounded, [it[0] for it in found])
         what = "with the clerk and the last day"
         self.holds(what, "by anna" in found[1][1] and "until" in found[1][1], found[1])
         what = "used, or not yet"

@@ -54,11 +54,9 @@ class Day(DemoCheck):
         yield
         for it, (count, at) in zip(demos, before):
             more, now = it.readings()
-            self.holds(
-                f"ten readings a second {where}",
-                abs(more - count - 10 * (now - at)) <= 12,
-                f"{more - count} in {now - at:.1f} s",
-            )
+            said = f"{more - count} in {now - at:.1f} s"
+            is_so = abs(more - count - 10 * (now - at)) <= 12
+            self.holds(f"ten readings a second {where}", is_so, said)
 
     def test_two_demos(self) -> None:
         programs = PROGRAMS if NAMED else []  # it finds what this checkout has built

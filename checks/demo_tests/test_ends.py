@@ -3,6 +3,7 @@
 import os
 import signal
 import time
+from pathlib import Path
 
 from checks.lib.case import PROGRAM
 from checks.lib.demo_case import CONVERTER, ENDS_WITHIN, WEIGHBRIDGE, DemoCheck
@@ -36,11 +37,10 @@ class Ends(DemoCheck):
             demo.folder = f"{top}/{after}"
             time.sleep(after)
             status, seconds = demo.ends()
-            self.holds(
-                f"Ctrl-C {after} s after the start ends it",
-                (status == 0 or after < 0.1 and status is not None) and seconds < ENDS_WITHIN,
-                f"status {status}, {seconds:.1f} s",
-            )
+            is_ended = status == 0 or after < 0.1 and status is not None
+            said = f"status {status}, {seconds:.1f} s"
+            what = f"Ctrl-C {after} s after the start ends it"
+            self.holds(what, is_ended and seconds < ENDS_WITHIN, said)
             self.leaves_nothing(demo)
 
     def test_held(self) -> None:
@@ -49,11 +49,9 @@ class Ends(DemoCheck):
             os.kill(self.process_of(demo, name), signal.SIGSTOP)
             time.sleep(0.3)
             status, seconds = demo.ends()
-            self.holds(
-                f"while {name} stands still, Ctrl-C ends all of it",
-                status == 0 and seconds < ENDS_WITHIN,
-                f"status {status}, {seconds:.1f} s",
-            )
+            is_ended = status == 0 and seconds < ENDS_WITHIN
+            what = f"while {name} stands still, Ctrl-C ends all of it"
+            self.holds(what, is_ended, f"status {status}, {seconds:.1f} s")
             self.leaves_nothing(demo)
 
     def test_a_second_signal(self) -> None:
@@ -95,19 +93,13 @@ class Killed(DemoCheck):
 
     def test_a_converter_that_cannot_start(self) -> None:
         folder = self.folder()
-        path = f"{folder}/no-converter"
-        with open(path, "w", encoding="utf-8") as file:
-            file.write(BROKEN % CONVERTER)
-        os.chmod(path, 0o755)
-        programs = ["--weighbridge", WEIGHBRIDGE, "--converter", path]
+        path = Path(folder, "no-converter")
+        path.write_text(BROKEN % CONVERTER, encoding="utf-8")
+        path.chmod(0o755)
+        programs = ["--weighbridge", WEIGHBRIDGE, "--converter", str(path)]
         demo = self.started("--no-browser", programs=programs)
         demo.folder = folder
         status, text = demo.wait(40), self.says(demo)
         self.same("a converter that can't start: the status is 1", 1, status)
-        self.holds(
-            "it is named, with its last line",
-            "the converter ended with status 3" in text
-            and "no such reader" in text
-            and "Traceback" not in text,
-            text,
-        )
+        is_named = "the converter ended with status 3" in text and "no such reader" in text
+        self.holds("it is named, with its last line", is_named and "Traceback" not in text, text)

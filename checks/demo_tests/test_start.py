@@ -1,5 +1,6 @@
 """The start of the demo: without a built program, on a desktop, and the counter's setting. The unit tests are here too."""
 
+import contextlib
 import os
 import re
 import shutil
@@ -29,8 +30,8 @@ class Start(Check):
         """Return what the counter's check of a setup says, and its status."""
         folder = self.folder()
         path = f"{folder}/counter.toml"
-        with open(path, "w", encoding="utf-8") as file:
-            file.write("\n".join([f'state = "{folder}/state"', *lines]))
+        text = "\n".join([f'state = "{folder}/state"', *lines])
+        Path(path).write_text(text, encoding="utf-8")
         words = [f"{TOP}/counter/weighbridge-counter", "--check", path]
         it = subprocess.run(words, capture_output=True, text=True)
         return it.returncode, it.stderr
@@ -63,11 +64,9 @@ class Start(Check):
         self.same("nothing was built", before, sorted(os.listdir(folder)))
         words = [str(command), "--weighbridge", "/nowhere"]
         it = subprocess.run(words, capture_output=True, text=True)
-        self.holds(
-            "a program that is given and isn't there: two lines and status 2",
-            it.returncode == 2 and len(it.stderr.splitlines()) == 2 and "/nowhere" in it.stderr,
-            it.stderr,
-        )
+        found = (it.returncode, len(it.stderr.splitlines()), "/nowhere" in it.stderr)
+        what = "a program that is given and isn't there: two lines and status 2"
+        self.same(what, (2, 2, True), found)
 
 
 class Desktop(DemoCheck):
@@ -91,10 +90,8 @@ class Desktop(DemoCheck):
             opened.unlink(missing_ok=True)
             environment = {"PATH": f"{top}:{os.environ['PATH']}", **variables}
             demo = self.started(*words, environment=environment).wait_until_up()
-            try:
+            with contextlib.suppress(TimeoutError):
                 wait_until("it opens a browser", opened.exists, seconds=20 if is_opened else 2)
-            except TimeoutError:
-                pass
             found = opened.read_text(encoding="utf-8") if opened.exists() else ""
             self.same(f"{name}: what is opened", f"{demo.clerk}\n" if is_opened else "", found)
             self.same(f"{name}: Ctrl-C ends it", 0, demo.ends()[0])

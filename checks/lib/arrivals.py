@@ -7,14 +7,8 @@ import threading
 import time
 
 LOOK = 0.02  # seconds between two polls
-ESTABLISHED, SYN_SENT, SYN_RECEIVED, FIN_WAIT, CLOSE_WAIT, LISTENS = (
-    "01",
-    "02",
-    "03",
-    "04",
-    "08",
-    "0A",
-)
+ESTABLISHED, SYN_SENT, SYN_RECEIVED = "01", "02", "03"
+FIN_WAIT, CLOSE_WAIT, LISTENS = "04", "08", "0A"
 
 
 class Arrivals(threading.Thread):

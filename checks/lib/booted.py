@@ -12,8 +12,9 @@ import subprocess
 import time
 from collections.abc import Iterator
 from pathlib import Path
-from types import TracebackType
+from typing import Self
 
+from checks.lib.bridge import Closing
 from checks.lib.showing import fail
 
 GROUPS = Path("/sys/fs/cgroup")
@@ -30,7 +31,7 @@ def groups_of_this_machine() -> tuple[str, list[Path]] | None:
     return ("separate", folders) if all(map(os.path.isdir, folders)) else None
 
 
-class Machine:
+class Machine(Closing):
     """A machine that can be started, cut off and started again. It keeps its files."""
 
     def __init__(self, root: Path, mounts: dict[str, str]) -> None:
@@ -43,16 +44,11 @@ class Machine:
         self.parent: subprocess.Popen[bytes] | None = None
         self.first = 0  # its first process, as this machine numbers it
 
-    def __enter__(self) -> "Machine":
+    def __enter__(self) -> Self:
         self.start()
         return self
 
-    def __exit__(
-        self,
-        kind: type[BaseException] | None,
-        fault: BaseException | None,
-        at: TracebackType | None,
-    ) -> None:
+    def close(self) -> None:
         self.cut_off()
         for folder in self.folders:
             for below in sorted(folder.rglob("*/"), reverse=True):
@@ -83,9 +79,8 @@ class Machine:
                 fail(f"systemd doesn't run: {state or 'it says nothing'}")
             time.sleep(0.1)
             if not self.first:
-                found = subprocess.run(
-                    ["pgrep", "--parent", str(self.parent.pid)], capture_output=True, text=True
-                ).stdout.split()
+                words = ["pgrep", "--parent", str(self.parent.pid)]
+                found = subprocess.run(words, capture_output=True, text=True).stdout.split()
                 self.first = int(found[0]) if found else 0
             if self.first:
                 state = self.said("systemctl", "is-system-running")
@@ -103,12 +98,9 @@ class Machine:
     def run(self, *words: str, given: str | None = None) -> "subprocess.CompletedProcess[str]":
         """Run a command there as root."""
         spaces = "--mount --uts --ipc --net --pid --cgroup --root --wd".split()
+        by = ["nsenter", "--target", str(self.first), *spaces, "env", "-i", f"PATH={PATH}"]
         return subprocess.run(
-            ["nsenter", "--target", str(self.first), *spaces, "env", "-i", f"PATH={PATH}", *words],
-            input=given,
-            capture_output=True,
-            text=True,
-            timeout=600,
+            [*by, *words], input=given, capture_output=True, text=True, timeout=600
         )
 
     def said(self, *words: str, given: str | None = None) -> str:
@@ -166,18 +158,9 @@ def root_of(tar: Path | None, to: Path, packages: list[str], debs: list[Path]) -
     """Unpack a root of Debian 12 with these packages of Debian, made if there is no tar file of it, and copy the files to be installed."""
     work = to.with_suffix(".tar") if tar is None else tar
     if not work.exists():
-        made = subprocess.run(
-            [
-                "mmdebstrap",
-                "--quiet",
-                "--variant=minbase",
-                f"--include={','.join(packages)}",
-                "bookworm",
-                work,
-            ],
-            capture_output=True,
-            text=True,
-        )
+        include = f"--include={','.join(packages)}"
+        words = ["mmdebstrap", "--quiet", "--variant=minbase", include, "bookworm", str(work)]
+        made = subprocess.run(words, capture_output=True, text=True)
         if made.returncode:
             fail(f"no root: {made.stderr[-500:]}")
     to.mkdir()
@@ -192,9 +175,7 @@ def disk(file: Path, megabytes: int) -> Iterator[str]:
     with open(file, "wb") as it:
         it.truncate(megabytes << 20)
     subprocess.run(["mkfs.ext4", "-q", "-F", file], check=True)
-    device = subprocess.run(
-        ["losetup", "--find", "--show", file], check=True, capture_output=True, text=True
-    ).stdout.strip()
+    device = subprocess.check_output(["losetup", "--find", "--show", file], text=True).strip()
     try:
         yield device
     finally:

@@ -10,6 +10,7 @@ import subprocess
 import threading
 import time
 from collections.abc import Callable
+from contextlib import suppress
 from types import TracebackType
 from typing import IO, Any, Protocol, Self
 
@@ -88,6 +89,33 @@ class Closing:
         self.close()
 
 
+class Listening(Closing):
+    """A device or program that is played at a port of this machine. It serves each client in a thread of its own."""
+
+    def __init__(self, host: str = HOST) -> None:
+        self.listener = socket.create_server((host, 0))
+        self.port: int = self.listener.getsockname()[1]
+        threading.Thread(target=self.accept, daemon=True).start()
+
+    def accept(self) -> None:
+        with suppress(OSError):  # it was closed
+            while True:
+                stream, _ = self.listener.accept()
+                stream.setsockopt(socket.IPPROTO_TCP, socket.TCP_NODELAY, 1)
+                threading.Thread(target=self.served, args=(stream,), daemon=True).start()
+
+    def served(self, stream: socket.socket) -> None:
+        with suppress(OSError):  # the client opened another
+            self.serve(stream)
+
+    def serve(self, stream: socket.socket) -> None:
+        """Serve a client until it leaves."""
+        raise NotImplementedError
+
+    def close(self) -> None:
+        self.listener.close()
+
+
 class Converter(Closing, threading.Thread):
     """Sends lines at a pace until it is silenced. `load` returns the line of a number."""
 
@@ -109,10 +137,8 @@ class Converter(Closing, threading.Thread):
             self.start()
 
     def run(self) -> None:
-        try:
+        with suppress(OSError):
             self.feed(self.listener.accept()[0])
-        except OSError:
-            pass
 
     def feed(self, stream: socket.socket) -> None:
         """Send lines until the client leaves or the converter ends. It sends nothing later of a silence."""
@@ -267,6 +293,11 @@ class Service(Closing):
 
         wait_until(wanted, self.indication, is_so, seconds)
 
+    def next_vehicle(self, load: int) -> None:
+        """Let the bridge be empty, and then put a load on it."""
+        self.put(0)
+        self.put(load)
+
     def kill(self) -> None:
         """End it at once, even while it is held."""
         self.process.send_signal(signal.SIGKILL)
@@ -371,3 +402,15 @@ def get(service: HasOffice, target: str, timeout: float = 60) -> Answer | None:
 
 def post(service: HasOffice, target: str, body: str = "", timeout: float = 60) -> Answer | None:
     return exchange(service, request_bytes("POST", target, body), timeout)
+
+
+def weigh(service: HasOffice, form: str, seconds: float = 20, pause: float = 0) -> Answer:
+    """Return the answer to a weighing, asked again until it is stored. A refusal changes nothing."""
+
+    def ask() -> Answer:
+        return post(service, "/weighings", form) or (0, "")
+
+    def is_stored(answer: Answer) -> bool:
+        return answer[0] == 201
+
+    return wait_until(form, ask, is_stored, seconds, pause)

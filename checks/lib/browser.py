@@ -4,11 +4,13 @@ import base64
 import json
 import os
 import signal
-import socket
 import subprocess
 import time
 import urllib.request
+from contextlib import suppress
 from typing import Any
+
+from checks.lib.bridge import wait_until_listening
 
 ELEMENT = "element-6066-11e4-a52e-4f735466cecf"
 
@@ -18,43 +20,21 @@ class Browser:
 
     def __init__(self, port: int, folder: str, width: int, height: int) -> None:
         self.at, self.folder = f"http://127.0.0.1:{port}", folder
+        quiet = subprocess.DEVNULL
         self.driver = subprocess.Popen(
-            [
-                "chromedriver",
-                f"--port={port}",
-                f"--log-path={os.path.join(folder, 'chromedriver.log')}",
-            ],
-            stdin=subprocess.DEVNULL,
-            stdout=subprocess.DEVNULL,
-            stderr=subprocess.DEVNULL,
+            ["chromedriver", f"--port={port}", f"--log-path={folder}/chromedriver.log"],
+            stdin=quiet,
+            stdout=quiet,
+            stderr=quiet,
             start_new_session=True,
         )
-        self.wait_for_driver(port)
-        words = [
-            "--headless=new",
-            "--no-sandbox",
-            "--disable-gpu",
-            "--disable-dev-shm-usage",
-            f"--window-size={width},{height}",
-        ]
-        options = {"args": words + [f"--user-data-dir={os.path.join(folder, 'profile')}"]}
-        wanted = {
-            "browserName": "chrome",
-            "acceptInsecureCerts": True,
-            "goog:chromeOptions": options,
-        }
+        wait_until_listening(port, self.driver)
+        words = ["--headless=new", "--no-sandbox", "--disable-gpu", "--disable-dev-shm-usage"]
+        words += [f"--window-size={width},{height}", f"--user-data-dir={folder}/profile"]
+        wanted = {"browserName": "chrome", "acceptInsecureCerts": True}
+        wanted["goog:chromeOptions"] = {"args": words}
         found = self.call("POST", "/session", {"capabilities": {"alwaysMatch": wanted}})
         self.at += f"/session/{found['sessionId']}"
-
-    def wait_for_driver(self, port: int) -> None:
-        until = time.monotonic() + 20
-        while time.monotonic() < until:
-            try:
-                socket.create_connection(("127.0.0.1", port), 1).close()
-                return
-            except OSError:
-                time.sleep(0.05)
-        raise SystemExit("chromedriver doesn't listen")
 
     def call(self, method: str, path: str, body: object = None) -> Any:
         data = None if body is None else json.dumps(body).encode()
@@ -72,8 +52,7 @@ class Browser:
 
     def element(self, selector: str) -> str:
         found = self.call("POST", "/element", {"using": "css selector", "value": selector})
-        element: str = found[ELEMENT]
-        return element
+        return str(found[ELEMENT])
 
     def click(self, selector: str) -> None:
         self.call("POST", f"/element/{self.element(selector)}/click", {})
@@ -84,8 +63,7 @@ class Browser:
         self.call("POST", f"/element/{element}/value", {"text": text})
 
     def text(self, selector: str) -> str:
-        text: str = self.call("GET", f"/element/{self.element(selector)}/text")
-        return text
+        return str(self.call("GET", f"/element/{self.element(selector)}/text"))
 
     def run(self, script: str, *words: object) -> Any:
         return self.call("POST", "/execute/sync", {"script": script, "args": list(words)})
@@ -106,28 +84,14 @@ class Browser:
 
     def look(self, width: int, height: int, is_dark: bool = False) -> None:
         """Shows the page in this size, light or dark."""
-        self.tool(
-            "Emulation.setDeviceMetricsOverride",
-            width=width,
-            height=height,
-            deviceScaleFactor=1,
-            mobile=False,
-        )
-        self.tool(
-            "Emulation.setEmulatedMedia",
-            features=[{"name": "prefers-color-scheme", "value": "dark" if is_dark else "light"}],
-        )
+        size = {"width": width, "height": height, "deviceScaleFactor": 1, "mobile": False}
+        self.tool("Emulation.setDeviceMetricsOverride", **size)
+        light = {"name": "prefers-color-scheme", "value": "dark" if is_dark else "light"}
+        self.tool("Emulation.setEmulatedMedia", features=[light])
 
     def keys(self, text: str) -> None:
         """Types where the focus is. Keys with a name are of WebDriver's private letters."""
-        actions = [
-            action
-            for it in text
-            for action in ({"type": "keyDown", "value": it}, {"type": "keyUp", "value": it})
-        ]
-        self.call(
-            "POST", "/actions", {"actions": [{"type": "key", "id": "keyboard", "actions": actions}]}
-        )
+        self.press(text, [])
 
     def key_event(self, name: str, is_down: bool = True, is_repeat: bool = False) -> None:
         """Send one event of the key `Enter`, `Escape` or `F1` to `F12`, as the system sends it.
@@ -159,15 +123,18 @@ class Browser:
 
     def hammer(self, text: str, pause: float) -> None:
         """Type as `keys` does. The driver waits `pause` seconds after each key."""
-        wait = {"type": "pause", "duration": round(1000 * pause)}
+        self.press(text, [{"type": "pause", "duration": round(1000 * pause)}])
+
+    def press(self, text: str, after_each: list[object]) -> None:
+        """Press keys one after the other, and act so after each."""
         actions = [
             action
             for it in text
-            for action in ({"type": "keyDown", "value": it}, {"type": "keyUp", "value": it}, wait)
+            for kind in ("keyDown", "keyUp")
+            for action in [{"type": kind, "value": it}, *(after_each if kind == "keyUp" else [])]
         ]
-        self.call(
-            "POST", "/actions", {"actions": [{"type": "key", "id": "keyboard", "actions": actions}]}
-        )
+        keyboard = {"type": "key", "id": "keyboard", "actions": actions}
+        self.call("POST", "/actions", {"actions": [keyboard]})
 
     def click_at(self, x: float, y: float, count: int = 1) -> None:
         """Click the mouse at a point of the window, `count` times at once. A double click is two."""
@@ -179,21 +146,15 @@ class Browser:
         self.tool("Input.dispatchMouseEvent", type=kind, x=x, y=y, button="left", clickCount=count)
 
     def middle_of(self, selector: str) -> Any:
-        return self.run(
-            "const it = document.querySelector(arguments[0]).getBoundingClientRect(); return [it.x + it.width / 2, it.y + it.height / 2]",
-            selector,
-        )
+        middle = "const it = document.querySelector(arguments[0]).getBoundingClientRect(); return [it.x + it.width / 2, it.y + it.height / 2]"
+        return self.run(middle, selector)
 
     def picture(self) -> bytes:
         return base64.b64decode(self.call("GET", "/screenshot"))
 
     def close(self) -> None:
-        try:
+        with suppress(OSError):
             self.call("DELETE", "")
-        except OSError:
-            pass
-        try:
+        with suppress(ProcessLookupError):
             os.killpg(self.driver.pid, signal.SIGKILL)
-        except ProcessLookupError:
-            pass
         self.driver.wait()

@@ -68,28 +68,22 @@ class Clerk(Closing):
 
     def content(self, selector: str) -> str:
         """Return the text of the first part, even if it isn't shown."""
-        found: str = self.run("return document.querySelector(arguments[0]).textContent", selector)
-        return found
+        return str(self.run("return document.querySelector(arguments[0]).textContent", selector))
 
     def contents(self, selector: str) -> list[str]:
         """Return the texts of all parts."""
-        found: list[str] = self.run(
-            "return [...document.querySelectorAll(arguments[0])].map(it => it.textContent)",
-            selector,
-        )
-        return found
+        texts = "return [...document.querySelectorAll(arguments[0])].map(it => it.textContent)"
+        return list(self.run(texts, selector))
 
     def count(self, selector: str) -> int:
-        found: int = self.run("return document.querySelectorAll(arguments[0]).length", selector)
-        return found
+        return int(self.run("return document.querySelectorAll(arguments[0]).length", selector))
 
     def text(self, selector: str) -> str:
         """Return the text of the first part as it is shown."""
         return self.browser.text(selector)
 
     def value(self, selector: str) -> str:
-        found: str = self.run("return document.querySelector(arguments[0]).value", selector)
-        return found
+        return str(self.run("return document.querySelector(arguments[0]).value", selector))
 
     def words(self) -> str:
         """Return what the page asks the clerk to do now."""
@@ -101,10 +95,8 @@ class Clerk(Closing):
 
     def sentence(self) -> list[str]:
         """Return both, read at once."""
-        found: list[str] = self.run(
-            "return ['words', 'more'].map(it => document.getElementById(it).textContent)"
-        )
-        return found
+        texts = "return ['words', 'more'].map(it => document.getElementById(it).textContent)"
+        return list(self.run(texts))
 
     def kg(self) -> int | None:
         """Return the weight that is shown. It is None if there is none."""
@@ -115,15 +107,12 @@ class Clerk(Closing):
         return self.value("#plate")
 
     def focus(self) -> str:
-        found: str = self.run(
-            "return document.activeElement.id || document.activeElement.textContent"
-        )
-        return found
+        focus = "return document.activeElement.id || document.activeElement.textContent"
+        return str(self.run(focus))
 
     def is_ready(self) -> bool:
         """Return True if the clerk can press the weigh button for the plate in the field."""
-        found: bool = self.run("return document.getElementById('go').dataset.look === 'weighs'")
-        return found
+        return bool(self.run("return document.getElementById('go').dataset.look === 'weighs'"))
 
     def answers(self) -> list[str]:
         """Return the answers to the page's question, with their keys."""
@@ -144,8 +133,7 @@ class Clerk(Closing):
 
     def papers(self) -> list[list[str]]:
         """Return the mark and the legal text of each paper that was printed since the page was loaded."""
-        found: list[list[str]] = self.run("return window.papers")
-        return found
+        return list(self.run("return window.papers"))
 
     def alarms(self) -> str:
         return self.content("#alarms")
@@ -165,16 +153,21 @@ class Clerk(Closing):
     def keys(self, text: str) -> None:
         self.browser.keys(text)
 
+    def sees_after(
+        self, keys: str, words: str, seconds: float = 15, what: str | None = None
+    ) -> None:
+        """Press these keys, and wait until the page says so."""
+        self.keys(keys)
+        self.sees(words, seconds, what)
+
     def is_ready_for(self, plate: str, what: str | None = None) -> None:
         """Type a plate into the empty form, and see that the page is ready to weigh it."""
-        self.keys(ESCAPE + plate)
-        self.sees("Ready.", what=what)
+        self.sees_after(ESCAPE + plate, "Ready.", what=what)
 
     def weigh(self, plate: str, words: str) -> None:
         """Weigh the vehicle on the bridge by Enter, and see what the page says of it."""
         self.is_ready_for(plate)
-        self.keys(ENTER)
-        self.sees(words)
+        self.sees_after(ENTER, words)
 
     def tab_to(self, words: str, most: int) -> None:
         """Press Tab until the focus is on what begins so, but not more often than `most`."""
@@ -200,10 +193,8 @@ class Clerk(Closing):
 
     def choose(self) -> bool:
         """Press the first of the choices, if there is one."""
-        found: bool = self.run(
-            "const it = document.querySelector('#choices button'); if (it) it.click(); return it !== null"
-        )
-        return found
+        press = "const it = document.querySelector('#choices button'); if (it) it.click(); return it !== null"
+        return bool(self.run(press))
 
     def close(self) -> None:
         self.browser.close()

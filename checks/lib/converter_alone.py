@@ -6,6 +6,7 @@ import statistics
 import subprocess
 import threading
 import time
+from pathlib import Path
 
 from checks.lib import bridge
 from checks.lib.converting import (
@@ -31,8 +32,7 @@ int unlinkat(int at, const char *path, int flags) { return -1; }
 
 def write(folder: str, name: str, text: str) -> str:
     path = os.path.join(folder, name)
-    with open(path, "w") as it:
-        it.write(text)
+    Path(path).write_text(text, encoding="ascii")
     return path
 
 
@@ -41,14 +41,9 @@ def makes_a_calibration(folder: str) -> None:
     same("no points", (1, "", "no points\n"), ran("finish", folder=folder))
     first = "point -8388 0\n"
     one, two = ("--lines", "1"), ("--lines", "2")
+    taken = (0, f"load 0 mean -8388 spread 2 lines 50\n{first}", "")
     for name, load, given, more, wanted in (
-        (
-            "the first point",
-            0,
-            lines(-8_388),
-            (),
-            (0, f"load 0 mean -8388 spread 2 lines 50\n{first}", ""),
-        ),
+        ("the first point", 0, lines(-8_388), (), taken),
         (
             *("a spread", 10_000, "2\n12\n", two),
             (1, "load 10000 mean 7 spread 10 lines 2\n", "refused: a spread of 10 is above 4\n"),
@@ -97,13 +92,11 @@ def makes_a_calibration(folder: str) -> None:
 
 
 def refuses_changed_files(folder: str) -> None:
-    with open(os.path.join(folder, "calibration"), "rb") as it:
-        file = it.read()
+    file = Path(folder, "calibration").read_bytes()
     for place, number in ((30, 1), (len(file) - 40, 2)):
         changed = bytearray(file)
         changed[place] ^= 1
-        with open(os.path.join(folder, "changed"), "wb") as it:
-            it.write(changed)
+        Path(folder, "changed").write_bytes(changed)
         for words in ("show", "finish", "point --load 0 --spread 1", "run --listen 127.0.0.1:1"):
             write(folder, "changed.points", "point 0 0\npoint 1000 1000\n")
             found = ran(*words.split(), folder=folder, file="changed")
@@ -128,9 +121,8 @@ def finishes_again(folder: str) -> None:
     status, out, err = kg(5_000, 20_001)
     half = (1, "", "refused: 20001 kg are no whole number of tenths of 20 kg")
     same("a load of half a tenth", half, (status, out, err.partition(" from")[0]))
-    path = os.path.join(folder, "calibration.points")
-    with open(path) as it:
-        points = it.read()
+    path = Path(folder, "calibration.points")
+    points = path.read_text(encoding="ascii")
     mean = ("--filter", "mean", "8")
     _, _, made = finish(*mean)
     same("a calibration with a filter", ["calibration 1", "filter mean 8"], made[:3:2])
@@ -141,7 +133,7 @@ def finishes_again(folder: str) -> None:
         write(folder, "calibration.points", points)
         status, _, made = finish(*words)
         same(f"{what}, again", (0, f"calibration {number}"), (status, made[0]))
-        holds(f"{what}: the points are gone", not os.path.exists(path))
+        holds(f"{what}: the points are gone", not path.exists())
     same("no points and no filter", (1, "no points\n", []), finish())
     median = ("--filter", "median", "5")
     for what in ("a filter without points", "the same filter again"):
@@ -152,11 +144,8 @@ def finishes_again(folder: str) -> None:
         status, out, err = ran("run", *listen, *words, folder=folder)
         refused = (1, "", "refused: the newest calibration has the filter median 5")
         found = (status, out, err.partition(": give")[0])
-        same(
-            f"run with {' '.join(words)}",
-            (0, "lines 0\n", "") if words is median else refused,
-            found,
-        )
+        wanted_end = (0, "lines 0\n", "") if words is median else refused
+        same(f"run with {' '.join(words)}", wanted_end, found)
 
 
 def keeps_points(folder: str) -> None:
@@ -291,11 +280,9 @@ def does_not_read(folder: str) -> None:
 
 def show_delays(what: str, delays: list[float]) -> None:
     ordered = sorted(delays)
-    median, most = statistics.median(ordered), ordered[len(ordered) * 99 // 100]
-    print(
-        f"{what}: median {median * 1000:.2f} ms, 99 of 100 below {most * 1000:.2f} ms, greatest {ordered[-1] * 1000:.2f} ms",
-        flush=True,
-    )
+    places = (statistics.median(ordered), ordered[len(ordered) * 99 // 100], ordered[-1])
+    median, most, greatest = (f"{1000 * it:.2f} ms" for it in places)
+    print(f"{what}: median {median}, 99 of 100 below {most}, greatest {greatest}", flush=True)
 
 
 def delays_of_10_000(folder: str) -> None:

@@ -139,19 +139,19 @@ def stable_equilibrium(folder: str) -> None:
     """Push a load and release it. Send `S` once more than half of a filter's readings have seen it, because a median shows none of it before.
     In the five seconds after its answer no more than two adjacent weights are indicated, one of them the answer's. The window has a second.
     """
-    side_by_side(
-        undisturbed,
-        (
-            (f"{kind} of {number}, a swing of {frequency} a second", comes_to_rest, folder, *case)
-            for kind, number in (("median", 5), ("mean", 8))
-            for frequency in (0.4, 1.0, 1.5)
-            for case in [(kind, number, frequency)]
-        ),
-    )
+    cases = [
+        (*kind, frequency) for kind in (("median", 5), ("mean", 8)) for frequency in (0.4, 1.0, 1.5)
+    ]
+    rows = [(name_of(*case), comes_to_rest, folder, *case) for case in cases]
+    side_by_side(undisturbed, rows)
+
+
+def name_of(kind: str, number: int, frequency: float) -> str:
+    return f"{kind} of {number}, a swing of {frequency} a second"
 
 
 def comes_to_rest(folder: str, kind: str, number: int, frequency: float) -> None:
-    name = f"{kind} of {number}, a swing of {frequency} a second"
+    name = name_of(kind, number, frequency)
     own = tempfile.mkdtemp(dir=folder)
     shutil.copy(os.path.join(folder, "even", "calibration"), own)
     ran("finish", "--filter", kind, str(number), folder=own)

@@ -49,11 +49,8 @@ class Bridge(Closing):
             *("--pace", str(pace), "--capacity", str(capacity)),
             log=f"{self.folder}/service.log",
         )
-        self.terminal, self.office, self.http = (
-            self.service.terminal,
-            self.service.office,
-            free_port(),
-        )
+        self.terminal, self.office = self.service.terminal, self.service.office
+        self.http = free_port()
         self.ports = {name: free_port() for name in ports}
         self.counter: subprocess.Popen[bytes] | None = None
         self.setup = f"{self.folder}/counter.toml"
@@ -105,6 +102,10 @@ class Bridge(Closing):
     def kill_counter(self) -> None:
         self.process.kill()
         self.process.wait()
+
+    def restart_counter(self) -> None:
+        self.kill_counter()
+        self.start_counter()
 
     def close(self) -> None:
         if self.counter is not None:
@@ -194,6 +195,11 @@ class Bridge(Closing):
         form: dict[str, object] = {"key": key, "kind": kind, "plate": plate}
         form |= {"tare": tare} if tare else {}
         return self.ask("POST", "/weighings", form, port, within)[:2]
+
+    def weigh_next(self, load: int, *weighing: Any, **more: Any) -> tuple[int, str]:
+        """Let the next vehicle drive on, and weigh it as `weigh` does."""
+        self.next_vehicle(load)
+        return self.weigh(*weighing, **more)
 
     def keep_tare(self, plate: str, kg: int, by: str = "") -> int:
         """Keep a tare as this user, and return the status of the answer."""

@@ -88,11 +88,8 @@ class AtThePage(AtTheCounter):
         if delays:
             said += f"; a change is shown after {1000 * delays[len(delays) // 2]:.0f} ms median"
         print(f"{what}: {said}", flush=True)
-        self.holds(
-            f"{what}: no weight is more than a second old",
-            not late and (may_show_none or seen > 5),
-            said,
-        )
+        is_so = not late and (may_show_none or seen > 5)
+        self.holds(f"{what}: no weight is more than a second old", is_so, said)
         return delays
 
     def press_to_ticket(
@@ -118,11 +115,8 @@ class AtThePage(AtTheCounter):
         times.sort()
         said = f"median {times[count // 2]:.0f} ms, worst {times[-1]:.0f} ms of {count}"
         print(f"from the press to the answer{where}: {said}", flush=True)
-        self.holds(
-            f"from the press to the answer on the page{where}, at {self.bridge.pace} readings a second",
-            times[count // 2] <= most,
-            said,
-        )
+        what = f"from the press to the answer on the page{where}, at {self.bridge.pace} readings a second"
+        self.holds(what, times[count // 2] <= most, said)
 
     def nothing_comes_of(self, what: str, act: Callable[[], object], plate: str) -> None:
         """Show that `act` stores nothing, that no request is under way, and that the plate in the form is `plate`."""

@@ -61,8 +61,7 @@ def write(folder: str) -> None:
         make_small(clerk)
         bridge.put(0)
         clerk.sees("The bridge is empty")
-        clerk.keys(F9)
-        clerk.sees("Zero is set.")
+        clerk.sees_after(F9, "Zero is set.")
         for plate, load in (
             ("BRA-LM-2210", 12040),
             ("VER-X-901", 17330),
@@ -81,8 +80,7 @@ def write(folder: str) -> None:
         write_sizes(clerk, f"{folder}/counter_sizes.png")
         make_small(clerk)
         clerk.browser.click("#clear")
-        clerk.keys("HB-KW-71")
-        clerk.sees("HB-KW-77 is on site")
+        clerk.sees_after("HB-KW-71", "HB-KW-77 is on site")
         picture("alike")
         clerk.browser.click("#clear")
         bridge.kill_service()

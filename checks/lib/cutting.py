@@ -40,11 +40,8 @@ def whole_request(stream: socket.socket) -> bytes:
     while b"\r\n\r\n" not in data:
         data += stream.recv(4096)
     head, _, body = data.partition(b"\r\n\r\n")
-    length = next(
-        int(line.split(b":")[1])
-        for line in head.split(b"\r\n")
-        if line.lower().startswith(b"content-length:")
-    )
+    fields = (line.lower().partition(b":") for line in head.split(b"\r\n"))
+    length = next(int(value) for name, _, value in fields if name == b"content-length")
     while len(body) < length:
         body += stream.recv(4096)
     return head + b"\r\n\r\n" + body

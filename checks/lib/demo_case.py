@@ -2,11 +2,10 @@
 
 import re
 import signal
-import subprocess
 from typing import Any
 
 from checks.lib.case import Check
-from checks.lib.program import compiled, compiled_converter
+from checks.lib.program import compiled, compiled_converter, printed
 from checks.lib.demoing import Running
 
 
@@ -49,13 +48,8 @@ class DemoCheck(Check):
         found = re.search(r"The journal is (\S+?),? ", demo.printed())
         self.holds(f"{name}: it prints where the journal is", found, demo.printed()[-300:])
         if found:
-            words = [WEIGHBRIDGE, "check", "--file", found[1]]
-            it = subprocess.run(words, capture_output=True, text=True)
-            self.holds(
-                f"{name}: that journal is sound",
-                it.returncode == 0
-                and re.fullmatch(r"SOUND \d+\n", it.stdout)
-                and (count is None or it.stdout == f"SOUND {count}\n"),
-                it.stdout + it.stderr,
-            )
+            status, out, err = printed("check", "--file", found[1], program=WEIGHBRIDGE)
+            sound = r"SOUND \d+\n" if count is None else f"SOUND {count}\n"
+            is_so = status == 0 and re.fullmatch(sound, out)
+            self.holds(f"{name}: that journal is sound", is_so, out + err)
         self.same(f"{name}: nothing on standard error", [], demo.err)

@@ -27,10 +27,8 @@ class Window(Closing):
         self.browser.go(f"{at}?lang={lang}")
 
     def text(self, part: str) -> str:
-        found: str = self.browser.run(
-            "return document.getElementById(arguments[0])?.textContent ?? ''", part
-        )
-        return found
+        text = "return document.getElementById(arguments[0])?.textContent ?? ''"
+        return str(self.browser.run(text, part))
 
     def press(self, part: str) -> None:
         """Press a button once it can be pressed. It stays as it is for a fifth of a second after a change."""
@@ -41,10 +39,8 @@ class Window(Closing):
         self.browser.run("document.getElementById(arguments[0]).click()", part)
 
     def is_off(self, part: str) -> bool:
-        found: bool = self.browser.run(
-            "return document.getElementById(arguments[0]).disabled", part
-        )
-        return found
+        is_off = "return document.getElementById(arguments[0]).disabled"
+        return bool(self.browser.run(is_off, part))
 
     def close(self) -> None:
         self.browser.close()

@@ -1,5 +1,6 @@
 """A demo that runs, its clerk who weighs by HTTP, and the processes that it leaves. Installed programs are tried by it too, so it needs no other part of the repository."""
 
+import contextlib
 import json
 import os
 import re
@@ -144,13 +145,12 @@ class Running(Closing):
 
     def next_weighing(self, number: int) -> tuple[int, str]:
         """Weigh the vehicle of the day 1.5 s after it stands. Return the answer."""
-        state = self.becomes(
-            lambda it: it["phase"] == "stands"
-            and it["seconds"] >= WEIGHS_AFTER
-            and it["stay"]
-            and not it["stay"]["weighed"],
-            40,
-        )
+
+        def is_due(it: Any) -> bool:
+            has_stood = it["phase"] == "stands" and it["seconds"] >= WEIGHS_AFTER
+            return bool(has_stood and it["stay"] and not it["stay"]["weighed"])
+
+        state = self.becomes(is_due, 40)
         if state is None:
             return 0, f"no vehicle is on the bridge: {self.state()}"
         stay = state["stay"]
@@ -210,10 +210,8 @@ class Running(Closing):
             except subprocess.TimeoutExpired:
                 self.process.kill()
         for number in processes_of(self.folder) if hasattr(self, "folder") else ():
-            try:
+            with contextlib.suppress(OSError):
                 os.kill(number, signal.SIGKILL)
-            except OSError:
-                pass
         for it in re.findall(r"/\S*/weighbridge-demo-\w+", self.printed()):
             shutil.rmtree(it, ignore_errors=True)
 

@@ -2,6 +2,7 @@
 in the form of industrial IO. Each has `words`, those of its reader; `put`, which sets its counts; and `faults`, a name and how it begins and ends."""
 
 import atexit
+import contextlib
 import os
 import shutil
 import socket
@@ -10,6 +11,7 @@ import threading
 import time
 import tty
 from collections.abc import Callable
+from pathlib import Path
 from typing import IO, Any
 
 from checks.lib import bridge
@@ -47,9 +49,9 @@ def end_all() -> None:
 
 def write(path: str, text: str) -> None:
     """Write a whole file: a reader of it finds the old text or the new."""
-    with open(path + ".new", "w") as it:
-        it.write(text)
-    os.rename(path + ".new", path)
+    new = Path(f"{path}.new")
+    new.write_text(text, encoding="ascii")
+    new.rename(path)
 
 
 def wait_for(what: str, holds: Callable[[], object], seconds: float = 10) -> None:
@@ -131,13 +133,10 @@ class ModbusLine(Modbus):
     def __init__(self, folder: str) -> None:
         self.cut = unspoiled
         os.makedirs(folder + ".lines")
-        self.names = [
-            [os.path.join(folder + ".lines", end + pair) for end in "ab"] for pair in "12"
-        ]
+        self.names = [[f"{folder}.lines/{end}{pair}" for end in "ab"] for pair in "12"]
         self.pairs = [pair_of_terminals(*it) for it in self.names]
-        one, other = (
-            os.open(name, os.O_RDWR | os.O_NOCTTY) for name in (self.names[0][1], self.names[1][0])
-        )
+        inner = (self.names[0][1], self.names[1][0])
+        one, other = (os.open(name, os.O_RDWR | os.O_NOCTTY) for name in inner)
         for here, there, is_back in ((one, other, True), (other, one, False)):
             tty.setraw(here)
             way = (here, there, is_back)
@@ -145,12 +144,10 @@ class ModbusLine(Modbus):
         super().__init__(folder)
 
     def pass_on(self, here: int, there: int, is_back: bool) -> None:
-        try:
+        with contextlib.suppress(OSError):  # socat has ended
             while True:
                 data = os.read(here, 256)
                 os.write(there, self.cut(data) if is_back else data)
-        except OSError:
-            pass  # socat has ended
 
     def begin(self) -> None:
         self.start("rtu", self.names[0][0])
@@ -205,11 +202,9 @@ class Text(threading.Thread):
     def run(self) -> None:
         due = time.monotonic()
         while not self.over.is_set():
-            try:
+            with contextlib.suppress(OSError):  # it is away, or nobody reads
                 if self.line is not None:
                     os.write(self.line, self.spoil(self.frame()))
-            except OSError:
-                pass  # it is away, or nobody reads
             due = max(due + 1 / self.rate, time.monotonic())
             time.sleep(max(0, due - time.monotonic()))
 

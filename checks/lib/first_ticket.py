@@ -48,10 +48,8 @@ def follow(browser: Browser, link: str) -> None:
 
 
 def text_of(browser: Browser, part: str) -> str:
-    found: str = browser.run(
-        "return document.getElementById(arguments[0])?.textContent ?? ''", part
-    )
-    return found
+    text = "return document.getElementById(arguments[0])?.textContent ?? ''"
+    return str(browser.run(text, part))
 
 
 def weigh_the_first(clerk: Clerk, name: str) -> str:
@@ -84,11 +82,8 @@ def main(name: str, picture: str) -> int | str:
             text = weigh_the_first(clerk, name)
             seconds = time.monotonic() - demo.begun
             same(f"{name}: it is a slip of number 1", "WEIGHING SLIP 1", text.split("\n")[0])
-            holds(
-                f"{name}: read within {WITHIN} s of the command weighbridge-demo",
-                seconds <= WITHIN,
-                f"{seconds:.1f} s",
-            )
+            what = f"{name}: read within {WITHIN} s of the command weighbridge-demo"
+            holds(what, seconds <= WITHIN, f"{seconds:.1f} s")
             same(f"{name}: its serial is DEMO", ["DEMO"], re.findall(r" SERIAL (.*)$", text, re.M))
             with open(picture, "wb") as file:
                 file.write(clerk.browser.picture())

@@ -4,6 +4,7 @@ import queue
 import socket
 import threading
 import time
+from contextlib import suppress
 
 from checks.lib.bridge import HOST, Closing
 
@@ -51,16 +52,14 @@ class Network(Closing, threading.Thread):
 
     def take(self, stream: socket.socket, way: Way) -> None:
         free_at = 0.0
-        try:
+        with suppress(OSError):
             while data := stream.recv(2048):
                 free_at = max(free_at, time.monotonic()) + len(data) / self.speed
                 way.put((free_at + self.delay, data))
-        except OSError:
-            pass
         way.put((time.monotonic() + self.delay, b""))
 
     def give(self, stream: socket.socket, way: Way, other: socket.socket) -> None:
-        try:
+        with suppress(OSError):
             while True:
                 due, data = way.get()
                 time.sleep(max(0.0, due - time.monotonic()))
@@ -68,10 +67,6 @@ class Network(Closing, threading.Thread):
                 if not data:
                     break
                 stream.sendall(data)
-        except OSError:
-            pass
         for it in (stream, other):
-            try:
+            with suppress(OSError):
                 it.shutdown(socket.SHUT_RDWR)
-            except OSError:
-                pass

@@ -6,41 +6,27 @@ import struct
 import threading
 import time
 from collections.abc import Callable
+from contextlib import suppress
+
+from checks.lib.bridge import Listening
 
 
-class OddModbus:
+class OddModbus(Listening):
     """A server that answers by a function, which gets the stream, the number of the question, and the rest of the answer."""
 
-    def __init__(self, host: str, answers: "Answers") -> None:
+    def __init__(self, answers: "Answers") -> None:
         self.answers, self.asked, self.begun = answers, 0, time.monotonic()
-        self.listener = socket.create_server((host, 0))
-        self.port: int = self.listener.getsockname()[1]
-        threading.Thread(target=self.accept, daemon=True).start()
-
-    def accept(self) -> None:
-        try:
-            while True:
-                stream, _ = self.listener.accept()
-                stream.setsockopt(socket.IPPROTO_TCP, socket.TCP_NODELAY, 1)
-                threading.Thread(target=self.serve, args=(stream,), daemon=True).start()
-        except OSError:
-            pass  # it was closed
+        super().__init__()
 
     def milliseconds(self) -> int:
         return int((time.monotonic() - self.begun) * 1000)
 
     def serve(self, stream: socket.socket) -> None:
-        try:
-            while len(question := stream.recv(12, socket.MSG_WAITALL)) == 12:
-                number, _, _, unit, function, _, _ = struct.unpack(">HHHBBHH", question)
-                self.asked += 1
-                rest = struct.pack(">HHBBBI", 0, 7, unit, function, 4, self.milliseconds())
-                self.answers(self, stream, number, rest)
-        except OSError:
-            pass  # the reader opened another
-
-    def close(self) -> None:
-        self.listener.close()
+        while len(question := stream.recv(12, socket.MSG_WAITALL)) == 12:
+            number, _, _, unit, function, _, _ = struct.unpack(">HHHBBHH", question)
+            self.asked += 1
+            rest = struct.pack(">HHBBBI", 0, 7, unit, function, 4, self.milliseconds())
+            self.answers(self, stream, number, rest)
 
 
 Answers = Callable[[OddModbus, socket.socket, int, bytes], None]
@@ -65,10 +51,8 @@ def late_again(_server: OddModbus, stream: socket.socket, number: int, rest: byt
 
 
 def send_late(stream: socket.socket, answer: bytes) -> None:
-    try:
+    with suppress(OSError):  # the reader opened another
         stream.sendall(answer)
-    except OSError:
-        pass  # the reader opened another
 
 
 def foreign(server: OddModbus, stream: socket.socket, number: int, rest: bytes) -> None:

@@ -8,6 +8,7 @@ import os
 import shutil
 import subprocess
 import tempfile
+from pathlib import Path
 
 from checks.lib.bridge import HOST, Closing, free_port
 from checks.lib.waiting import wait_until
@@ -110,10 +111,12 @@ class Cups(Closing):
         for name in ("cache", "state", "spool", "spool/tmp", "ppd"):
             os.makedirs(f"{self.folder}/{name}")
         self.programs()
-        with open(f"{self.folder}/cups-files.conf", "w") as file:
-            file.write(FILES.format(folder=self.folder))
-        with open(f"{self.folder}/cupsd.conf", "w") as file:
-            file.write(SETUP.format(host=HOST, port=self.port))
+        for name, text in (
+            ("cups-files.conf", FILES.format(folder=self.folder)),
+            ("cupsd.conf", SETUP.format(host=HOST, port=self.port)),
+            ("file.ppd", PPD),
+        ):
+            Path(self.folder, name).write_text(text, encoding="ascii")
         self.start()
 
     def programs(self) -> None:
@@ -121,38 +124,29 @@ class Cups(Closing):
         os.makedirs(f"{self.folder}/bin/backend")
         for name in set(os.listdir(OWN)) - {"backend"}:
             os.symlink(f"{OWN}/{name}", f"{self.folder}/bin/{name}")
-        backend = f"{self.folder}/bin/backend/made"
-        with open(backend, "w") as file:
-            file.write(BACKEND)
-        os.chmod(backend, 0o700)
+        backend = Path(self.folder, "bin/backend/made")
+        backend.write_text(BACKEND, encoding="ascii")
+        backend.chmod(0o700)
 
     def start(self) -> None:
         files = ["-c", f"{self.folder}/cupsd.conf", "-s", f"{self.folder}/cups-files.conf"]
         quiet = subprocess.DEVNULL
-        self.scheduler = subprocess.Popen(
-            ["cupsd", "-f", *files], stdin=quiet, stdout=quiet, stderr=quiet
-        )
-        wait_until(
-            "cupsd is running",
-            lambda: self.tell("lpstat", "-r").startswith("scheduler is running"),
-            pause=0.1,
-        )
+        words = ["cupsd", "-f", *files]
+        self.scheduler = subprocess.Popen(words, stdin=quiet, stdout=quiet, stderr=quiet)
+
+        def is_running() -> bool:
+            return self.tell("lpstat", "-r").startswith("scheduler is running")
+
+        wait_until("cupsd is running", is_running, pause=0.1)
 
     def tell(self, program: str, *words: str) -> str:
-        return subprocess.run(
-            [program, "-h", self.address, *words],
-            capture_output=True,
-            text=True,
-            env={**os.environ, "LC_ALL": "C"},
-        ).stdout
+        command, of_c = [program, "-h", self.address, *words], {**os.environ, "LC_ALL": "C"}
+        return subprocess.run(command, capture_output=True, text=True, env=of_c).stdout
 
     def queue(self, name: str) -> None:
         """Make a queue that prints into a file, through the filters of the distribution."""
-        with open(f"{self.folder}/file.ppd", "w") as file:
-            file.write(PPD)
-        self.tell(
-            "lpadmin", "-p", name, "-E", "-v", f"made:{self.made}", "-P", f"{self.folder}/file.ppd"
-        )
+        file = ("-P", f"{self.folder}/file.ppd")
+        self.tell("lpadmin", "-p", name, "-E", "-v", f"made:{self.made}", *file)
 
     def stop(self) -> None:
         self.scheduler.terminate()

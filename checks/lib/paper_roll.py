@@ -111,14 +111,11 @@ class Printed:
     def picture(self) -> None:
         if self.take(2) != b"0\0":
             raise Fault("another picture")
-        width, height = int.from_bytes(self.take(2), "little"), int.from_bytes(
-            self.take(2), "little"
-        )
+        width, height = (int.from_bytes(self.take(2), "little") for _ in range(2))
         if self.pending:
             raise Fault("a picture within a line")
-        picture = Image.frombytes(
-            "1", (width * 8, height), bytes(it ^ 0xFF for it in self.take(width * height))
-        )
+        dots = bytes(it ^ 0xFF for it in self.take(width * height))
+        picture = Image.frombytes("1", (width * 8, height), dots)
         if width * 8 > self.dots:
             raise Fault("a picture wider than the paper")
         self.image.paste(picture, ((self.dots - width * 8) // 2 if self.to == 1 else 0, self.top))
@@ -179,11 +176,8 @@ def legal_of(lines: list[str]) -> str:
 
 def code_in(path: str) -> str:
     """Return the text of a picture's QR code."""
-    it = subprocess.run(
-        ["zbarimg", "--quiet", "--raw", "-Sdisable", "-Sqrcode.enable", path],
-        capture_output=True,
-        text=True,
-    )
+    words = ["zbarimg", "--quiet", "--raw", "-Sdisable", "-Sqrcode.enable", path]
+    it = subprocess.run(words, capture_output=True, text=True)
     return it.stdout.removesuffix("\n")
 
 

@@ -3,6 +3,7 @@
 import os
 import re
 import subprocess
+from pathlib import Path
 
 from checks.lib.bridge import HOST
 from checks.lib.case import Check
@@ -88,16 +89,15 @@ class CounterWithPrinter(CounterCheck, PaperCheck):
 
     def setUp(self) -> None:
         self.played, self.bridge = self.printer(), self.new_bridge()
-        folder = self.bridge.folder
-        with open(f"{folder}/paper.toml", "w", encoding="utf-8") as file:
-            file.write(
-                f'spool = "{folder}/spool"\nzone = "Europe/Berlin"\nheader = ["Kieswerk Wellum", "Hafenstraße 12"]\n'
-                f'[[printer]]\nname = "yard"\nto = "tcp:{HOST}:{self.played.port}"\ncode_pages = ["cp858", "cp852"]\n'
-            )
-        with open(self.bridge.setup, encoding="utf-8") as file:
-            setup = file.read()
-        with open(self.bridge.setup, "w", encoding="utf-8") as file:
-            file.write(f'papers = "{folder}/paper.toml"\n{setup}')
+        folder, setup = self.bridge.folder, Path(self.bridge.setup)
+        papers = Path(folder, "paper.toml")
+        papers.write_text(
+            f'spool = "{folder}/spool"\nzone = "Europe/Berlin"\nheader = ["Kieswerk Wellum", "Hafenstraße 12"]\n'
+            f'[[printer]]\nname = "yard"\nto = "tcp:{HOST}:{self.played.port}"\ncode_pages = ["cp858", "cp852"]\n',
+            encoding="utf-8",
+        )
+        own = setup.read_text(encoding="utf-8")
+        setup.write_text(f'papers = "{papers}"\n{own}', encoding="utf-8")
         self.bridge.start_counter()
         self.bridge.put(0)
 
@@ -112,8 +112,7 @@ def marks_of(papers: list[bytes]) -> list[int]:
 
 
 def printed_of(path: str, dots: int) -> Printed:
-    with open(path, "rb") as file:
-        return Printed(file.read(), dots)
+    return Printed(Path(path).read_bytes(), dots)
 
 
 def lines_of(pdf: str, form: str) -> list[str]:
@@ -165,11 +164,9 @@ def about(pdf: str) -> tuple[int, int, int]:
 
 def write_row(paths: list[str], target: str, scale: float) -> None:
     """Write pictures next to each other into one."""
-    pictures = [Image.open(it).convert("L") for it in paths]
-    pictures = [
-        it.resize((round(it.width * scale), round(it.height * scale)), Image.LANCZOS)
-        for it in pictures
-    ]
+    whole = [Image.open(it).convert("L") for it in paths]
+    sizes = [(round(it.width * scale), round(it.height * scale)) for it in whole]
+    pictures = [it.resize(size, Image.LANCZOS) for it, size in zip(whole, sizes)]
     size = (sum(it.width + 12 for it in pictures), max(it.height for it in pictures) + 12)
     sheet, left = Image.new("L", size, 200), 6
     for it in pictures:

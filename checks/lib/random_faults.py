@@ -1,6 +1,7 @@
 """Devices with a fault every two seconds at random, whose value shows when they held it: each is a step number times seven and three, and a step lasts
 20 ms. So each line that a reader passes on shows how old it is, and whether the device held that value at all."""
 
+import contextlib
 import os
 import random
 import socket
@@ -9,6 +10,7 @@ import threading
 import time
 import tty
 from collections.abc import Callable
+from pathlib import Path
 from typing import Protocol
 
 from checks.lib import bridge
@@ -81,40 +83,22 @@ class Faulty:
         self.over.set()
 
 
-class FaultyTcp(Faulty):
-    """A device that listens at a port."""
+class FaultyTcp(Faulty, bridge.Listening):
+    """A device that listens at a port. It serves a reader until that leaves, or the device is away."""
 
     def begin(self) -> None:
-        self.listener = socket.create_server((bridge.HOST, 0))
-        self.at = f"{bridge.HOST}:{self.listener.getsockname()[1]}"
-        threading.Thread(target=self.accept, daemon=True).start()
-
-    def accept(self) -> None:
-        try:
-            while True:
-                stream, _ = self.listener.accept()
-                stream.setsockopt(socket.IPPROTO_TCP, socket.TCP_NODELAY, 1)
-                if self.fault == "away":
-                    stream.close()
-                else:
-                    threading.Thread(target=self.served, args=(stream,), daemon=True).start()
-        except OSError:
-            pass  # it was closed
+        bridge.Listening.__init__(self)
+        self.at = f"{bridge.HOST}:{self.port}"
 
     def served(self, stream: socket.socket) -> None:
-        try:
-            self.serve(stream)
+        if self.fault != "away":
+            super().served(stream)
+        with contextlib.suppress(OSError):
             stream.close()
-        except OSError:
-            pass  # the reader opened another
-
-    def serve(self, stream: socket.socket) -> None:
-        """Serve a reader until it leaves, or the device is away."""
-        raise NotImplementedError
 
     def close(self) -> None:
-        super().close()
-        self.listener.close()
+        Faulty.close(self)
+        bridge.Listening.close(self)
 
 
 class FaultyModbus(FaultyTcp):
@@ -347,17 +331,15 @@ class FaultyIio(Faulty):
             self.value = None if fault else value
 
     def show(self, fault: str, text: str) -> None:
-        path = os.path.join(self.folder, self.CHANNEL)
+        path, new = Path(self.folder, self.CHANNEL), Path(self.folder, f"{self.CHANNEL}.new")
         if fault == "away":
-            if os.path.exists(path):
-                os.remove(path)
+            path.unlink(missing_ok=True)
             return
         if fault == "hangs":
-            os.mkfifo(path + ".new")
+            os.mkfifo(new)
         else:
-            with open(path + ".new", "w") as it:
-                it.write(text)
-        os.rename(path + ".new", path)
+            new.write_text(text, encoding="ascii")
+        new.rename(path)
 
     def age(self, value: int, at: float) -> float | None:
         """Return 0 while the file holds the value, until the next is written, however long this machine takes for it."""

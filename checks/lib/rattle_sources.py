@@ -5,6 +5,7 @@ import os
 import re
 import shutil
 from collections.abc import Collection, Iterable, Iterator
+from pathlib import Path
 
 # The type, the trait and the name of a function; the modules of each type.
 Key = tuple[str, str, str]
@@ -17,24 +18,17 @@ CLAUSE = re.compile(r"\b(?:requires|ensures)\s*\*?\s*\w*\s*$|\bghost\b\s*\w*\s*:
 
 
 def read(path: str) -> str:
-    with open(path, encoding="utf-8") as it:
-        return it.read()
+    return Path(path).read_text(encoding="utf-8")
 
 
 def write(path: str, text: str) -> None:
     os.makedirs(os.path.dirname(path), exist_ok=True)
-    with open(path, "w", encoding="utf-8") as it:
-        it.write(text)
+    Path(path).write_text(text, encoding="utf-8")
 
 
 def files_below(folder: str, parts: Iterable[str]) -> list[str]:
-    found = [
-        f"{at}/{name}"
-        for part in parts
-        for at, _, names in os.walk(f"{folder}/{part}")
-        for name in names
-    ]
-    return sorted(os.path.relpath(it, folder) for it in found)
+    walks = (walk for part in parts for walk in os.walk(f"{folder}/{part}"))
+    return sorted(os.path.relpath(f"{at}/{it}", folder) for at, _, names in walks for it in names)
 
 
 class Function:
@@ -120,11 +114,8 @@ def functions_of(text: str) -> list[Function]:
         if opening is None or any(other.opening < it.start() < other.end for other in found):
             continue
         impl = next((named for first, last, named in impls if first < it.start() < last), ("", ""))
-        found.append(
-            Function(
-                it[1], impl, first_line(written, it.start()), opening, end_of_block(text, opening)
-            )
-        )
+        start, end = first_line(written, it.start()), end_of_block(text, opening)
+        found.append(Function(it[1], impl, start, opening, end))
     return found
 
 
@@ -139,11 +130,8 @@ def contracts_of(text: str) -> str:
 
 
 def module_of(file: str) -> list[str]:
-    return [
-        it
-        for it in file.removeprefix("src/").removesuffix(".rt").split("/")
-        if it not in ("lib", "mod")
-    ]
+    parts = file.removeprefix("src/").removesuffix(".rt").split("/")
+    return [it for it in parts if it not in ("lib", "mod")]
 
 
 def path_of(homes: Homes, file: str, key: Key) -> list[str]:
@@ -159,11 +147,9 @@ def path_of(homes: Homes, file: str, key: Key) -> list[str]:
 def homes_of(folder: str) -> Homes:
     """Return the modules in which a type is declared, by the names of the crate's types."""
     homes: Homes = {}
+    declared = r"(?m)^\s*(?:pub(?:\(\w+\))? )?(?:struct|enum|union) (\w+)"
     for file in files_below(folder, ["src"]):
-        for it in re.finditer(
-            r"(?m)^\s*(?:pub(?:\(\w+\))? )?(?:struct|enum|union) (\w+)",
-            blanked(read(f"{folder}/{file}")),
-        ):
+        for it in re.finditer(declared, blanked(read(f"{folder}/{file}"))):
             homes.setdefault(it[1], []).append(module_of(file))
     return homes
 
@@ -196,8 +182,7 @@ def leave_hole(crate: str, folder: str, path: list[str]) -> None:
     above, name = f"{folder}/proofs/{'/'.join(path[:-1])}", path[-1]
     shutil.rmtree(f"{above}/+{name}", ignore_errors=True)
     for it in ("Answers", "Invariants"):
-        if os.path.exists(f"{above}/{name}/{it}.antt"):
-            os.remove(f"{above}/{name}/{it}.antt")
+        Path(above, name, f"{it}.antt").unlink(missing_ok=True)
     statement = f"use Rattle.{crate}.proofs.{'.'.join(path)}.Statement.{{statement}}\n"
     write(
         f"{above}/{name}/Proof.antt",

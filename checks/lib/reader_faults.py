@@ -139,9 +139,7 @@ def reads_odd_answers() -> None:
     for folder in PYMODBUS:
         rows = []
         for answers, least, most in ODD:
-            name = (
-                f"answers {answers.__name__.replace('_', ' ')}{f', by {folder}' if folder else ''}"
-            )
+            name = f"answers {answers.__name__.replace('_', ' ')}" + f", by {folder}" * bool(folder)
             rows.append((name, reads_one_odd, name, folder, answers, least, most))
         side_by_side(undisturbed, rows)
 
@@ -149,15 +147,10 @@ def reads_odd_answers() -> None:
 def reads_one_odd(
     name: str, folder: str, answers: odd_modbus.Answers, least: int, most: int
 ) -> None:
-    server = odd_modbus.OddModbus(bridge.HOST, answers)
+    server = odd_modbus.OddModbus(answers)
     command = [f"{READERS}/modbus", "--tcp", f"{bridge.HOST}:{server.port}", "--address", "0"]
-    reader = begun(
-        command,
-        stdout=subprocess.PIPE,
-        stderr=subprocess.DEVNULL,
-        text=True,
-        env=with_pymodbus(folder),
-    )
+    streams = {"stdout": subprocess.PIPE, "stderr": subprocess.DEVNULL}
+    reader = begun(command, text=True, env=with_pymodbus(folder), **streams)
     ages, lost = [], 0
     for _ in range(40):
         text = pipe(reader.stdout).readline().strip()
@@ -183,7 +176,7 @@ def comes_back() -> None:
 
 
 def comes_back_after(name: str, period: float, off: float) -> None:
-    device = SirDevice(bridge.HOST, period)
+    device = SirDevice(period)
     command = [f"{READERS}/text", "--tcp", f"{bridge.HOST}:{device.port}", "--preset", "sir"]
     reader = begun(command, stdout=subprocess.PIPE, stderr=subprocess.DEVNULL, text=True)
     lines: list[tuple[float, str]] = []
@@ -240,10 +233,10 @@ def has_faults(name: str, device: Faulty, folder: str, seconds: float, pymodbus:
     have_loads = len(found) > len(client.lines) / 4 > seconds
     holds(f"{name}: a fourth of the lines have a load", have_loads, len(found))
     median = statistics.median(judged) * 1000 if judged else 0
-    print(
-        f"{name}: {device.had} faults, {len(found)} of {len(client.lines)} lines with a load, at the median {median:.0f} ms old\n",
-        end="",
+    said = (
+        f"{len(found)} of {len(client.lines)} lines with a load, at the median {median:.0f} ms old"
     )
+    print(f"{name}: {device.had} faults, {said}\n", end="")
 
 
 class Staying:

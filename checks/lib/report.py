@@ -49,24 +49,23 @@ def marked(text: str) -> str:
     return re.sub(r"`([^`]*)`", r"<code>\1</code>", pages.escape(text, quote=False))
 
 
+def cells_of(cells: Iterable[str], kind: str) -> str:
+    """Return a row of a table, with cells of this kind."""
+    return "<tr>" + "".join(f"<{kind}>{marked(it)}</{kind}>" for it in cells) + "</tr>"
+
+
 def html(blocks: Sequence[Block], image: str) -> str:
     """Return the report as a page of its own, with the image in it."""
     parts = []
     for kind, *rest in blocks:
         if kind == "table":
             columns, rows = rest
-            lines = ["<tr>" + "".join(f"<th>{marked(it)}</th>" for it in columns) + "</tr>"]
-            lines += [
-                "<tr>" + "".join(f"<td>{marked(it)}</td>" for it in cells) + "</tr>"
-                for cells in rows
-            ]
+            lines = [cells_of(columns, "th"), *(cells_of(cells, "td") for cells in rows)]
             parts.append("<table>\n" + "\n".join(lines) + "\n</table>")
+        elif kind == "image":
+            parts.append(image[image.index("<svg") :])
         else:
-            parts.append(
-                image[image.index("<svg") :]
-                if kind == "image"
-                else f"<{kind}>{marked(rest[0])}</{kind}>"
-            )
+            parts.append(f"<{kind}>{marked(rest[0])}</{kind}>")
     style = "body{font-family:sans-serif;margin:2em;max-width:75em}table{border-collapse:collapse}td,th{border:1px solid #999;padding:2px 6px;text-align:left}"
     title = next(rest[0] for kind, *rest in blocks if kind == "h1")
     head = f'<!DOCTYPE html>\n<html lang="en">\n<head>\n<meta charset="utf-8">\n<title>{marked(title)}</title>\n<style>{style}</style>\n</head>\n<body>\n'
@@ -86,9 +85,7 @@ def svg(plots: Sequence[Plot]) -> str:
     ]
     for plot in plots:
         words += drawn(plot)
-    return subprocess.run(
-        ["gnuplot"], input="\n".join([*words, ""]), capture_output=True, text=True, check=True
-    ).stdout
+    return subprocess.check_output(["gnuplot"], input="\n".join([*words, ""]), text=True)
 
 
 def drawn(plot: Plot) -> Iterator[str]:

@@ -2,6 +2,7 @@
 
 import os
 import subprocess
+from contextlib import suppress
 
 from checks.lib.bridge import Closing
 
@@ -19,11 +20,8 @@ class SmallDisk(Closing):
         subprocess.run(["mount", *words], check=True, capture_output=True)
 
     def fill(self) -> None:
-        with open(f"{self.folder}/fill", "wb", buffering=0) as file:
-            try:
-                while file.write(b"x" * 4096):
-                    pass
-            except OSError:
+        with open(f"{self.folder}/fill", "wb", buffering=0) as file, suppress(OSError):
+            while file.write(b"x" * 4096):
                 pass
 
     def empty(self) -> None:

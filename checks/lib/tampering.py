@@ -1,6 +1,7 @@
 """A journal's file that is changed by hand as an intruder at a bridge may, who may also compute digests again."""
 
 import sqlite3
+from contextlib import closing
 from typing import Any
 
 from checks.lib.journal import ZEROS, digest_of
@@ -16,16 +17,12 @@ class File:
 
     def do(self, statement: str, *values: object) -> list[Any]:
         """Return the rows that a statement shows."""
-        connection = sqlite3.connect(self.path)
-        rows = connection.execute(statement, values).fetchall()
-        connection.commit()
-        connection.close()
-        return rows
+        with closing(sqlite3.connect(self.path)) as connection, connection:
+            return connection.execute(statement, values).fetchall()
 
     def number(self, where: str) -> int:
         """Return the least number of an entry of which this holds."""
-        least: int = self.do(f"SELECT min(number) FROM journal WHERE {where}")[0][0]
-        return least
+        return int(self.do(f"SELECT min(number) FROM journal WHERE {where}")[0][0])
 
     def change(self, number: int, what: str, *values: object) -> None:
         """Changes an entry, and leaves its digest as it was."""
@@ -44,9 +41,8 @@ class File:
 
     def relink(self, number: int) -> None:
         """Chain the entries from this number on again, each to the one below it, if that is there."""
-        for (at,) in self.do(
-            "SELECT number FROM journal WHERE number >= ? ORDER BY number", number
-        ):
+        numbers = "SELECT number FROM journal WHERE number >= ? ORDER BY number"
+        for (at,) in self.do(numbers, number):
             below = self.do("SELECT digest FROM journal WHERE number = ?", at - 1)
             self.forge(at, "previous = ?", below[0][0] if below else ZEROS)
 

@@ -2,12 +2,12 @@
 
 import contextlib
 import functools
-import os
 import resource
 import signal
 import subprocess
 import unittest
 from collections.abc import Callable, Iterator
+from pathlib import Path
 from types import FrameType
 from typing import Any
 
@@ -16,7 +16,6 @@ from checks.lib.case import PROGRAM, Check
 from checks.lib.program import PROGRAM as LAUNCHER
 from checks.lib.program import compiled
 from checks.lib.showing import ok
-from checks.lib.waiting import wait_until
 
 # Not the launcher itself, which needs more memory than the program is given here.
 BUILT = compiled()
@@ -46,12 +45,7 @@ def limited(*limits: tuple[int, int]) -> Callable[[], None]:
 
 def contents(folder: str, beginning: str = "") -> dict[str, bytes]:
     """Return the files in a folder whose names begin so, with their bytes."""
-    found = {}
-    for name in os.listdir(folder):
-        if name.startswith(beginning):
-            with open(f"{folder}/{name}", "rb") as file:
-                found[name] = file.read()
-    return found
+    return {it.name: it.read_bytes() for it in Path(folder).glob(f"{beginning}*")}
 
 
 def ended(process: subprocess.Popen[str], seconds: float = 60) -> Ended:
@@ -77,15 +71,7 @@ def got(service: bridge.Service, target: str) -> str:
 
 
 def weigh(service: bridge.Service, form: str) -> bridge.Answer:
-    """Return the answer to a weighing, asked again until it is accepted. A refusal changes nothing."""
-
-    def ask() -> bridge.Answer:
-        return posted(service, "/weighings", form)
-
-    def is_stored(answer: bridge.Answer) -> bool:
-        return answer[0] == 201
-
-    return wait_until(form, ask, is_stored, pause=0.1)
+    return bridge.weigh(service, form, pause=0.1)
 
 
 class Served(bridge.Service):

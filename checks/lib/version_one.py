@@ -13,11 +13,11 @@ commit before version 2 of the journal.
 import glob
 import gzip
 import os
-import shutil
 import subprocess
 import sys
 import tempfile
 from collections.abc import Callable, Sequence
+from pathlib import Path
 
 sys.path.insert(0, os.path.dirname(os.path.dirname(os.path.dirname(os.path.abspath(__file__)))))
 from checks.lib import bridge  # noqa: E402
@@ -34,28 +34,24 @@ FILES, EXPORTS = (".db", ".db-wal"), (".journal.csv", ".tickets.csv")
 def unpack(name: str, path: str, ends: Sequence[str] = FILES) -> None:
     """Put the two files of a journal that is kept at this path."""
     for end in ends:
-        with gzip.open(os.path.join(KEPT, f"{name}{end}.gz")) as packed, open(
-            path.removesuffix(".db") + end, "wb"
-        ) as file:
-            shutil.copyfileobj(packed, file)
+        Path(path.removesuffix(".db") + end).write_bytes(kept(f"{name}{end}"))
+
+
+def kept(name: str) -> bytes:
+    return gzip.decompress(Path(KEPT, f"{name}.gz").read_bytes())
 
 
 def export_of(name: str, what: str) -> str:
     """Return what the program 1.0.0 exported of a journal that is kept."""
-    with gzip.open(os.path.join(KEPT, f"{name}.{what}.csv.gz"), "rt") as packed:
-        return packed.read()
+    return kept(f"{name}.{what}.csv").decode()
 
 
 class Bridge:
     """A bridge of version 1, at which one vehicle after another is weighed."""
 
     def __init__(self, program: str, path: str, clock: str) -> None:
-        os.environ |= {
-            "LD_PRELOAD": glob.glob(LIBRARY)[0],
-            "FAKETIME": clock,
-            "TZ": "UTC",
-            "DONT_FAKE_MONOTONIC": "1",
-        }
+        os.environ |= {"LD_PRELOAD": glob.glob(LIBRARY)[0], "FAKETIME": clock}
+        os.environ |= {"TZ": "UTC", "DONT_FAKE_MONOTONIC": "1"}
         self.converter = bridge.Played(LINES_A_SECOND)
         self.service = bridge.Service(program, path, self.converter, "--capacity", "100000")
         for name in ("LD_PRELOAD", "FAKETIME", "DONT_FAKE_MONOTONIC"):
@@ -73,8 +69,7 @@ class Bridge:
             target, body = "/voids", f"key={key}&plate={plate}"
         else:
             target, body = "/weighings", f"key={key}&kind={kind}&plate={plate}"
-            self.service.put(0)
-            self.service.put(load)
+            self.service.next_vehicle(load)
         answer = bridge.post(self.service, target, body)
         if answer is None or answer[0] != 201:
             raise SystemExit(f"{key}: {answer}")
@@ -153,18 +148,15 @@ def make_all(program: str, folder: str, entries: str = "") -> None:
             for end in FILES:
                 pack(folder, name + end, os.path.join(here, name + end))
             for end in EXPORTS:
+                words = [program, "export", "--file", path, "--what", end.split(".")[1]]
                 with open(os.path.join(here, name + end), "w") as file:
-                    subprocess.run(
-                        [program, "export", "--file", path, "--what", end.split(".")[1]],
-                        stdout=file,
-                        check=True,
-                    )
+                    subprocess.run(words, stdout=file, check=True)
                 pack(folder, name + end, os.path.join(here, name + end))
 
 
 def pack(folder: str, name: str, path: str) -> None:
-    with open(path, "rb") as file, open(os.path.join(folder, name + ".gz"), "wb") as packed:
-        packed.write(gzip.compress(file.read(), mtime=0))
+    packed = gzip.compress(Path(path).read_bytes(), mtime=0)
+    Path(folder, f"{name}.gz").write_bytes(packed)
 
 
 def main(word: str, *words: str) -> None:

@@ -3,6 +3,7 @@ import hashlib
 import os
 import re
 from collections.abc import Iterator
+from pathlib import Path
 
 from checks.lib.rattle_sources import (
     PARTS,
@@ -21,12 +22,8 @@ class Crate:
     """A crate of the repository: its folder, and what crates.txt says of it."""
 
     def __init__(self, name: str, named: list[str], is_static: bool) -> None:
-        self.name, self.named, self.is_static, self.folder = (
-            name,
-            named,
-            is_static,
-            f"{TOP}/crates/{name}",
-        )
+        self.name, self.named, self.is_static = name, named, is_static
+        self.folder = f"{TOP}/crates/{name}"
 
     def of_kit(self, crates: dict[str, "Crate"]) -> list[str]:
         return [it for it in self.named if it not in crates]
@@ -35,19 +32,14 @@ class Crate:
         found: list[Crate] = []
         for it in self.named:
             if it in crates:
-                found += [
-                    below for below in [*crates[it].below(crates), crates[it]] if below not in found
-                ]
+                below = [*crates[it].below(crates), crates[it]]
+                found += [each for each in below if each not in found]
         return found
 
     def edit_files(self) -> list[str]:
-        folders = [f"{self.folder}/must-fail", f"{self.folder}/wrong-bodies"]
+        folders = ("must-fail", "wrong-bodies")
         return [
-            f"{it}/{name}"
-            for it in folders
-            if os.path.isdir(it)
-            for name in sorted(os.listdir(it))
-            if name.endswith(".edit")
+            str(path) for it in folders for path in sorted(Path(self.folder, it).glob("*.edit"))
         ]
 
     def contracts(self) -> Iterator[tuple[str, str]]:
@@ -125,15 +117,8 @@ def readers_of(constant: str, folder: str) -> set[tuple[str, Key]]:
         for it in functions_of(texts[file])
     ]
     named = re.compile(rf"\b{constant}\b")
-    seen = re.compile(
-        "|".join(
-            rf"\b{it}\b"
-            for it in [
-                constant,
-                *(function.name for _, function, head, _ in functions if named.search(head)),
-            ]
-        )
-    )
+    naming = [function.name for _, function, head, _ in functions if named.search(head)]
+    seen = re.compile("|".join(rf"\b{it}\b" for it in [constant, *naming]))
     return {
         (file, it.key())
         for file, it, head, body in functions

@@ -11,8 +11,10 @@ import random
 import re
 import socket
 import time
+from contextlib import suppress
 from dataclasses import dataclass
 from datetime import datetime, timedelta
+from pathlib import Path
 
 from checks.lib import bridge
 from checks.lib.showing import fail
@@ -82,18 +84,13 @@ class Entry:
 
     def fields(self) -> list[str]:
         """Return the fields of its record in an export of the journal, without the digests."""
-        return [
+        moment, own = self.moment.strftime(FORM), [
             str(self.number),
             self.key,
             self.kind,
             self.plate,
-            self.moment.strftime(FORM),
-            self.gross,
-            self.preset,
-            str(INTERVAL),
-            str(MOST),
-            self.serial,
         ]
+        return [*own, moment, self.gross, self.preset, str(INTERVAL), str(MOST), self.serial]
 
 
 @dataclass(frozen=True)
@@ -172,9 +169,7 @@ class Bridge:
         """Remove what libfaketime leaves in memory if its program is killed."""
         self.converter.close()
         for name in ("faketime_shm", "sem.faketime_sem"):
-            path = f"/dev/shm/{name}_{self.running.process.pid}"
-            if os.path.exists(path):
-                os.unlink(path)
+            Path(f"/dev/shm/{name}_{self.running.process.pid}").unlink(missing_ok=True)
 
     def next(self, kind: str, plate: str, load: int = 0, preset: str = "") -> Asked:
         self.count += 1
@@ -244,16 +239,10 @@ class Bridge:
         """Set or clear the tare. A service that was held up drops a command without a reply."""
         until = time.monotonic() + PATIENCE
         while time.monotonic() < until:
-            terminal = bridge.Terminal(self.running, 5)
-            try:
-                found = terminal.ask(command)
-            except (OSError, EOFError):
-                continue
-            finally:
-                terminal.close()
-            if " A" in found:
-                return
-            fail(f"{command} is answered {found}")
+            with bridge.Terminal(self.running, 5) as terminal, suppress(OSError, EOFError):
+                if " A" in (found := terminal.ask(command)):
+                    return
+                fail(f"{command} is answered {found}")
         fail(f"{command} isn't answered")
 
     def day(self, count: int, chance: random.Random, seconds: float) -> None:

@@ -53,18 +53,14 @@ class PrintingCounter(CounterWithPrinter):
         self.becomes("a First prints automatically", 1, lambda: len(played.printed))
         it = Printed(played.printed[0], 576)
         self.same("with the office's text, letter for letter", (201, slip), (status, it.legal()))
-        self.same(
-            "and what the clerk gave",
-            [True] * 3,
-            [any(line.endswith(value) for line in it.lines) for value in LINES.values()],
-        )
+        given = [any(line.endswith(value) for line in it.lines) for value in LINES.values()]
+        self.same("and what the clerk gave", [True] * 3, given)
         rows = [",".join(it) for it in bridge.entries()]
         found = [row for row in rows if any(value in row for value in LINES.values())]
         self.same("of which the journal has nothing", (1, []), (len(rows), found))
         again = bridge.ask("POST", "/weighings", form)[:2]
         self.same("its request again is the same text", (201, slip), again)
-        bridge.next_vehicle(4070)
-        status, ticket = bridge.weigh("paper-2", "second", "AB-12")
+        status, ticket = bridge.weigh_next(4070, "paper-2", "second", "AB-12")
         self.becomes("a Second too", 2, lambda: len(played.printed))
         self.same("a request again prints nothing", [0, 0], marks_of(played.printed))
         legal = Printed(played.printed[1], 576).legal()
@@ -75,11 +71,8 @@ class PrintingCounter(CounterWithPrinter):
         self.same("and a First's slip", 202, status)
         self.becomes("as a duplicate and a copy", [0, 0, 2, 2], lambda: marks_of(played.printed))
         self.holds("with what the clerk gave", b"Kies 0/16\n" in played.printed[3])
-        self.same(
-            "a printer that isn't there",
-            (422, '{"why": "no_printer"}'),
-            bridge.ask("POST", "/papers/2", {"printer": "none"})[:2],
-        )
+        told = bridge.ask("POST", "/papers/2", {"printer": "none"})[:2]
+        self.same("a printer that isn't there", (422, '{"why": "no_printer"}'), told)
         status = bridge.ask("POST", "/papers/4000000000", body="")[0]
         self.same("a number that nobody has", 404, status)
         self.same("by the browser it is a further print too", False, self.is_original(2))
@@ -94,36 +87,28 @@ class PrintingCounter(CounterWithPrinter):
         bridge.kill_service()
         verify = [sys.executable, str(TOP / "inspect" / "verify.py"), f"{bridge.folder}/journal.db"]
         for number, digest in codes:
-            words = [*verify, "--known", number, digest]
-            it = subprocess.run(words, capture_output=True, text=True)
-            what = f"verify.py --known takes the code of number {number}"
-            self.same(what, (0, True), (it.returncode, "faults: 0" in it.stdout))
-            words = [*verify, "--known", number, "0" * 64]
-            it = subprocess.run(words, capture_output=True, text=True)
-            self.same(
-                "and names another digest",
-                (1, True),
-                (it.returncode, "doesn't have the known digest" in it.stdout),
-            )
+            for what, known, status, said in (
+                (f"verify.py --known takes the code of number {number}", digest, 0, "faults: 0"),
+                ("and names another digest", "0" * 64, 1, "doesn't have the known digest"),
+            ):
+                words = [*verify, "--known", number, known]
+                it = subprocess.run(words, capture_output=True, text=True)
+                self.same(what, (status, True), (it.returncode, said in it.stdout))
 
     def test_faults_in_words(self) -> None:
         bridge, played = self.bridge, self.played
         for number, name in enumerate(("paper_out", "cover_open", "offline"), 1):
             played.state = name
-            bridge.next_vehicle(9170)
-            bridge.weigh(f"paper-{number}", "single", f"S-{number}", 5000)
-            self.becomes(
-                f"{name} is told",
-                [(number, name)],
-                lambda: [(it["number"], it["why"]) for it in self.jobs()],
-            )
-            told = [what for event, what in bridge.events(0.5) if event == "papers"]
+            bridge.weigh_next(9170, f"paper-{number}", "single", f"S-{number}", 5000)
+
+            def told() -> list[tuple[int, str]]:
+                return [(it["number"], it["why"]) for it in self.jobs()]
+
+            self.becomes(f"{name} is told", [(number, name)], told)
+            why = bridge.event("papers")["jobs"][0]["why"]
             health = bridge.health()
-            self.same(
-                "to each page, and to monitoring",
-                (name, True),
-                (told[0]["jobs"][0]["why"], "papers" in health["faults"]),
-            )
+            found = (why, "papers" in health["faults"])
+            self.same("to each page, and to monitoring", (name, True), found)
             self.holds("a vehicle can be weighed all the same", health["can_weigh"])
             count = len(played.printed)
             played.state = ""
@@ -131,8 +116,7 @@ class PrintingCounter(CounterWithPrinter):
             time.sleep(1.5)
             self.same("once, as the original", [0], marks_of(played.printed[count:]))
         played.gone()
-        bridge.next_vehicle(9170)
-        bridge.weigh("paper-4", "single", "S-4", 5000)
+        bridge.weigh_next(9170, "paper-4", "single", "S-4", 5000)
         self.becomes("gone is told", ["gone"], self.reasons)
         status = bridge.ask("DELETE", f"/jobs/{self.jobs()[0]['job']}")[0]
         self.same("one that waits can be dropped", 200, status)
@@ -167,19 +151,16 @@ class PrintingCounter(CounterWithPrinter):
         played.rate = 8000
         plates = [f"K-{it}" for it in range(KILLS)]
         for at, plate in enumerate(plates):
-            bridge.next_vehicle(9170)
-            status, said = bridge.weigh(f"kill-{at}", "single", plate, 5000)
+            status, said = bridge.weigh_next(9170, f"kill-{at}", "single", plate, 5000)
             self.holds(f"{plate} is weighed", status == 201, said)
             time.sleep(rolls.uniform(0, 2))
-            bridge.kill_counter()
-            bridge.start_counter()
+            bridge.restart_counter()
         played.rate = None
-        self.becomes(
-            "after each kill what waits is printed",
-            [],
-            lambda: [it for it in plates if not self.has_printed(b"PLATE " + it.encode())],
-            60,
-        )
+
+        def missing() -> list[str]:
+            return [it for it in plates if not self.has_printed(b"PLATE " + it.encode())]
+
+        self.becomes("after each kill what waits is printed", [], missing, 60)
         papers = [*played.printed, *played.begun]
         originals = {
             plate: sum(marks(it) == 0 and b"\x1bE\x01%b\n" % plate.encode() in it for it in papers)

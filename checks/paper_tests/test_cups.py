@@ -2,6 +2,7 @@
 
 import os
 import time
+from pathlib import Path
 
 from checks.lib.counter import held
 from checks.lib.paper_cups import Cups
@@ -50,11 +51,9 @@ class RealCups(PaperCheck):
                 self.same(what, (1, size[0], True), (pages, width, size[1] in (None, height)))
                 what = "its legal text, letter for letter, behind CUPS's filters"
                 self.same(what, sample.text, legal_in_pdf(made, form))
-                self.same(
-                    "its QR code, and fonts that are all embedded",
-                    (f"{sample.number} {sample.digest}", []),
-                    (code_in_pdf(made), fonts_left_out(made)),
-                )
+                code, left_out = code_in_pdf(made), fonts_left_out(made)
+                what = "its QR code, and fonts that are all embedded"
+                self.same(what, (f"{sample.number} {sample.digest}", []), (code, left_out))
 
     def test_once(self) -> None:
         """Show that a CUPS that keeps no files, as docs/counter.md has it, prints a paper once, whatever another user asks of it. It would be a second original."""
@@ -72,11 +71,9 @@ class RealCups(PaperCheck):
         desk, cups = self.at_cups(), self.cups
         cups.tell("cupsdisable", "desk")
         status, _, said = desk.run(USUAL["single"].text, "--printer", "desk", "--within", "1")
-        self.same(
-            "words say that a queue is stopped, and it gets nothing",
-            (1, True, ""),
-            (status, "its queue at CUPS is stopped" in said, cups.tell("lpstat", "-o", "desk")),
-        )
+        is_said, queued = "its queue at CUPS is stopped" in said, cups.tell("lpstat", "-o", "desk")
+        what = "words say that a queue is stopped, and it gets nothing"
+        self.same(what, (1, True, ""), (status, is_said, queued))
         it = desk.begin("", "--printer", "desk")
         time.sleep(1)
         cups.tell("cupsenable", "desk")
@@ -90,8 +87,7 @@ class RealCups(PaperCheck):
         self.same("and goes on", 0, desk.run("", "--printer", "desk")[0])
 
     def made(self) -> bytes:
-        with open(self.cups.made, "rb") as file:
-            return file.read()
+        return Path(self.cups.made).read_bytes()
 
     def test_gone(self) -> None:
         desk = self.at_cups()

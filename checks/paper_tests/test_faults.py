@@ -1,5 +1,6 @@
 """Printers that are slow, full, cut in the middle, gone, without paper, and come back. A command that is killed, and texts that are falsified."""
 
+import contextlib
 import os
 import pty
 import random
@@ -63,9 +64,8 @@ class Faults(PaperCheck):
         what = "until it has printed everything, and no longer"
         self.holds(what, 3 < took < 10, f"{took:.1f} s")
         played.rate, played.is_deaf = None, True
-        self.is_refused(
-            "words say that one is full, and the paper waits", "single", "it doesn't answer"
-        )
+        what = "words say that one is full, and the paper waits"
+        self.is_refused(what, "single", "it doesn't answer")
         played.is_deaf = False
         played.reset()
         status = self.print_out("void")[0]
@@ -157,11 +157,9 @@ def plate_on(paper: bytes, samples: list[Sample]) -> str | None:
 
 
 def pump(source: Callable[[], bytes], target: Callable[[bytes], object]) -> None:
-    try:
+    with contextlib.suppress(OSError):
         while data := source():
             target(data)
-    except OSError:
-        pass
 
 
 class Devices(PaperCheck):

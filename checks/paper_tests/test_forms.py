@@ -143,8 +143,5 @@ class Forms(PaperCheck):
             desk.run("", "--printer", "box", "--reprint", str(sample.number))
             for path, count in zip(desk.made()[-2:], (0, 3)):
                 rest = " ".join(" ".join(lines_of(path, "a5")).split())
-                self.same(
-                    "a full page",
-                    (2, sample.text, count),
-                    (about(path)[0], legal_in_pdf(path, "a5"), rest.count("DUPLICATE")),
-                )
+                found = (about(path)[0], legal_in_pdf(path, "a5"), rest.count("DUPLICATE"))
+                self.same("a full page", (2, sample.text, count), found)

@@ -4,6 +4,7 @@ import base64
 import os
 import re
 import time
+from pathlib import Path
 
 from checks.lib.case import PROGRAM
 from checks.lib.clerk import ENTER, F8, F9, Clerk, at_of
@@ -45,16 +46,9 @@ def printed_by(clerk: Clerk, size: str, path: str) -> str:
     """Write what the browser prints on a size of paper, as PDF, and return its path."""
     width, height, _ = PAPERS[size]
     margins = {f"margin{it}": 0.157 for it in ("Top", "Bottom", "Left", "Right")}
-    data = clerk.browser.tool(
-        "Page.printToPDF",
-        paperWidth=width,
-        paperHeight=height,
-        preferCSSPageSize=False,
-        printBackground=False,
-        **margins,
-    )["data"]
-    with open(path, "wb") as file:
-        file.write(base64.b64decode(data))
+    how: dict[str, object] = {"preferCSSPageSize": False, "printBackground": False, **margins}
+    made = clerk.browser.tool("Page.printToPDF", paperWidth=width, paperHeight=height, **how)
+    Path(path).write_bytes(base64.b64decode(made["data"]))
     return path
 
 
@@ -99,16 +93,14 @@ class ByTheBrowser(CounterCheck, PaperCheck):
             self.comes(what, lambda: GIVEN in clerk.text("#others"))
             # Enter doesn't react for 0.7 s after a dialog
             time.sleep(1.2)
-            clerk.keys(ENTER)
-            clerk.sees(words)
+            clerk.sees_after(ENTER, words)
 
     def test_by_the_browser(self) -> None:
         self.bridge = self.new_bridge(settings=SETTINGS).start_counter()
         self.bridge.put(0)
         clerk = self.new_clerk(at_of(self.bridge.http))
         clerk.sees("The bridge is empty")
-        clerk.keys(F9)
-        clerk.sees("Zero is set.")
+        clerk.sees_after(F9, "Zero is set.")
         self.weigh(clerk)
         ticket = self.bridge.ask("GET", "/tickets/2", port=self.bridge.office)[1]
         pictures = []
@@ -189,8 +181,7 @@ class WithPrinter(CounterWithPrinter):
         bridge, played = self.bridge, self.played
         clerk = self.new_clerk(at_of(bridge.http), width=1000, height=640)
         clerk.sees("The bridge is empty")
-        clerk.keys(F9)
-        clerk.sees("Zero is set.")
+        clerk.sees_after(F9, "Zero is set.")
         bridge.put(9170)
         clerk.sees("Type the plate.")
         clerk.is_ready_for("HB-KW-77")
@@ -226,16 +217,10 @@ class WithPrinter(CounterWithPrinter):
         self.becomes(what, (4, nothing), lambda: (len(played.printed), clerk.text("#jobs")))
 
     def write_picture(self, clerk: Clerk, path: str) -> None:
-        clerk.browser.tool(
-            "Emulation.setDeviceMetricsOverride",
-            width=1000,
-            height=640,
-            deviceScaleFactor=0.7,
-            mobile=False,
-        )
+        size = {"width": 1000, "height": 640, "deviceScaleFactor": 0.7, "mobile": False}
+        clerk.browser.tool("Emulation.setDeviceMetricsOverride", **size)
         time.sleep(0.3)
-        with open(path, "wb") as file:
-            file.write(clerk.browser.picture())
+        Path(path).write_bytes(clerk.browser.picture())
 
     def looks(self) -> None:
         """Look at the bar, the list and the dialog for free lines on a telephone and in the dark: nothing sideways, nothing faint."""

@@ -1,14 +1,16 @@
 """Arguments, statuses and traces, and what --verbose explains."""
 
+import contextlib
 import os
 import re
 import shutil
 import sqlite3
 import subprocess
+from pathlib import Path
 
 from checks import TOP
 from checks.lib import traces
-from checks.lib.journal import make_journal
+from checks.lib.journal import change, make_journal
 from checks.lib.tried_twice import BUILT, TriedTwice, addresses, printed
 
 NO_PERMISSION = "because this user has no permission; run this as the file's owner"
@@ -68,24 +70,11 @@ def as_nobody(folder: str, *words: str) -> tuple[int, list[str]]:
     return it.returncode, it.stderr.splitlines()
 
 
-def changed(path: str, *statements: str) -> None:
-    """Run these statements in a database, as another program would."""
-    connection = sqlite3.connect(path)
-    for it in statements:
-        connection.execute(it)
-    connection.commit()
-    connection.close()
-
-
 def make_rebuilt(path: str, other: str, setting: str, old: str = "", new: str = "") -> None:
     """Write the journal in `path` into `other`, as another program would: with this setting, and with this change in the texts of its tables."""
-    journal, database = sqlite3.connect(path), sqlite3.connect(other)
-    database.execute(setting)
-    for line in journal.iterdump():
-        database.execute(line.replace(old, new) if old else line)
-    database.commit()
-    journal.close()
-    database.close()
+    with contextlib.closing(sqlite3.connect(path)) as journal:
+        lines = [*journal.iterdump()]
+    change(other, setting, *(line.replace(old, new) if old else line for line in lines))
 
 
 def parts_of(path: str, structure: str, part: str) -> list[tuple[str, str, str]]:
@@ -107,21 +96,15 @@ class Arguments(TriedTwice):
             is_so = status == 0 and out and not err
             name = f"{' '.join(words)} is reported on standard output, status 0"
             self.holds(name, is_so, (status, err))
-        for it in (
-            "",
-            "weigh",
-            "check",
-            "replay --band",
-            "export --file x --what all",
-            "migrate --file x",
-        ):
+        refused = ("", "weigh", "check", "replay --band", "export --file x --what all")
+        for it in (*refused, "migrate --file x"):
             status, out, err = printed(*it.split())
             is_so = status == 2 and not out and err
             self.holds(f"refused arguments: {it!r}, status 2", is_so, (status, out))
-        refused = (2, "", "setup refused: 2 Max\n")
-        self.same("a refused setup", refused, printed("replay", "--max", "1"))
+        setup = (2, "", "setup refused: 2 Max\n")
+        self.same("a refused setup", setup, printed("replay", "--max", "1"))
         words = ["--file", f"{self.folder()}/none.db", *addresses(converter="none")]
-        self.same("of a service", refused, printed("serve", "--max", "1", *words))
+        self.same("of a service", setup, printed("serve", "--max", "1", *words))
         words[3] = "0.0.0.0:0"
         fault = (1, "", "address fault\n")
         self.same("an address that isn't only of this machine", fault, printed("serve", *words))
@@ -171,12 +154,11 @@ class Explained(TriedTwice):
         make_rebuilt(sound, wide, "PRAGMA encoding = 'UTF-16le'")
         make_rebuilt(sound, vacuum, "PRAGMA auto_vacuum = FULL")
         make_rebuilt(sound, default, "", "gross_kg INTEGER", "gross_kg INTEGER default 0")
-        changed(added, "ALTER TABLE journal ADD COLUMN note TEXT DEFAULT 'x'")
+        change(added, "ALTER TABLE journal ADD COLUMN note TEXT DEFAULT 'x'")
         make_journal(old, 3, version=1)
-        changed(foreign, "CREATE TABLE journal (number INTEGER)")
-        for path, content in ((text, "no database"), (f"{log}-wal", "")):
-            with open(path, "w", encoding="utf-8") as file:
-                file.write(content)
+        change(foreign, "CREATE TABLE journal (number INTEGER)")
+        Path(text).write_text("no database", encoding="utf-8")
+        Path(f"{log}-wal").touch()
         for path in (*files, f"{log}-wal"):
             os.chmod(path, 0o000 if path in (mine, f"{log}-wal") else 0o644)
         place, missing, to = (f"{folder}/{it}" for it in ("folder", "missing.db", "new/new.db"))

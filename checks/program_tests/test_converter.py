@@ -8,21 +8,14 @@ import signal
 import subprocess
 import sys
 import time
+from pathlib import Path
 from typing import IO, Any
 
 from checks.lib import bridge
 from checks.lib.bridge import HOST
 from checks.lib.case import skip_without
 from checks.lib.program import compiled_converter
-from checks.lib.tried_twice import (
-    BUILT,
-    Ended,
-    TriedTwice,
-    addresses,
-    contents,
-    ended,
-    limited,
-)
+from checks.lib.tried_twice import BUILT, Ended, TriedTwice, addresses, contents, ended, limited
 from checks.lib.waiting import wait_until
 
 FAULT = (1, "", "converter fault\n")
@@ -44,6 +37,12 @@ class Terminal:
 
     def __init__(self, port: int) -> None:
         self.terminal = port
+
+
+def run(*words: str, timeout: float = 60, **more: Any) -> Ended:
+    """Return the status of a command, and what it printed and reported."""
+    it = subprocess.run(words, capture_output=True, text=True, timeout=timeout, **more)
+    return it.returncode, it.stdout, it.stderr
 
 
 def shown(writer: IO[str], port: int, load: int) -> str:
@@ -92,10 +91,7 @@ class Converter(TriedTwice):
 
     def converter(self, *words: str, given: str = "", **more: Any) -> Ended:
         command = [compiled_converter(), *words, "--calibration", self.file]
-        it = subprocess.run(
-            command, input=given, capture_output=True, text=True, timeout=60, **more
-        )
-        return it.returncode, it.stdout, it.stderr
+        return run(*command, input=given, **more)
 
     def point(self, load: int, *counts: object, spread: int = 2) -> tuple[int, str]:
         given = "".join(f"{it}\n" for it in counts)
@@ -119,9 +115,8 @@ class Converter(TriedTwice):
         self.same("a calibration that has no space is a write fault", fault, made)
         self.same("its points are still there", points, contents(self.box, "calibration.points"))
         status, out, err = self.converter("finish")
-        self.same(
-            "and it is made of them then", (0, "calibration 1\n", ""), (status, out[:14], err)
-        )
+        made = (status, out[:14], err)
+        self.same("and it is made of them then", (0, "calibration 1\n", ""), made)
         self.same("when they are removed", {}, contents(self.box, "calibration.points"))
 
     @skip_without("unshare")
@@ -136,11 +131,8 @@ class Converter(TriedTwice):
         if subprocess.run(mount, capture_output=True).returncode:
             self.skipTest("this user may not mount")
         mount[4] += ' && "$2" finish --calibration "$1"'
-        it = subprocess.run(
-            [*mount, compiled_converter()], capture_output=True, text=True, timeout=60
-        )
-        found = (it.returncode, it.stdout, it.stderr)
-        self.same("it is a write fault", (1, "", "write fault\n"), found)
+        fault = (1, "", "write fault\n")
+        self.same("it is a write fault", fault, run(*mount, compiled_converter()))
         self.same("and is as it was", before, contents(self.box, "calibration")["calibration"])
 
     def test_fifo(self) -> None:
@@ -152,19 +144,14 @@ class Converter(TriedTwice):
         words = ["run", "--fifo", fifo]
         fault = (1, "", "fifo fault: there is no FIFO at that path; mkfifo makes one\n")
         self.same("without a FIFO it doesn't run", fault, self.converter(*words))
-        with open(fifo, "w") as file:
-            file.write("a note\n")
+        Path(fifo).write_text("a note\n", encoding="ascii")
         self.same("nor into a plain file", fault, self.converter(*words))
         self.same("which stays as it is", {"fifo": b"a note\n"}, contents(self.box, "fifo"))
         os.remove(fifo)
         os.mkfifo(fifo)
-        process = subprocess.Popen(
-            [compiled_converter(), *words, "--calibration", self.file, "--verbose"],
-            stdin=subprocess.PIPE,
-            stdout=subprocess.PIPE,
-            stderr=subprocess.PIPE,
-            text=True,
-        )
+        command = [compiled_converter(), *words, "--calibration", self.file, "--verbose"]
+        pipe = subprocess.PIPE
+        process = subprocess.Popen(command, stdin=pipe, stdout=pipe, stderr=pipe, text=True)
         self.addCleanup(process.kill)
         assert process.stdin is not None  # it is a pipe
         given: IO[str] = process.stdin
@@ -263,11 +250,5 @@ class Sources(TriedTwice):
             self.skipTest("this user may not make a network")
         words = [BUILT, "serve", "--file", f"{self.folder()}/itself.db"]
         words += addresses(4001, 8080, "tcp:127.0.0.1:40000")
-        it = subprocess.run(
-            ["unshare", "-n", sys.executable, "-c", ALONE, *words],
-            capture_output=True,
-            text=True,
-            timeout=10,
-        )
-        found = (it.returncode, it.stdout, it.stderr)
+        found = run("unshare", "-n", sys.executable, "-c", ALONE, *words, timeout=10)
         self.same("a stream to itself is no converter", FAULT, found)

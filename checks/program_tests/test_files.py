@@ -12,7 +12,7 @@ import time
 
 from checks.lib import bridge
 from checks.lib.bridge import HOST
-from checks.lib.journal import make_journal
+from checks.lib.journal import change, make_journal
 from checks.lib.tried_twice import BUILT, TriedTwice, addresses, contents, limited, printed
 from checks.program_tests.test_arguments import (
     DISK,
@@ -21,7 +21,6 @@ from checks.program_tests.test_arguments import (
     NO_FOLDER,
     NO_PERMISSION,
     as_nobody,
-    changed,
 )
 
 MADE = (0, "it would start")
@@ -45,7 +44,7 @@ class Journals(TriedTwice):
         status, out, err = printed("export", "--what", "tickets", "--file", file)
         head = "ticket,kind,plate,first,at,gross_kg,tare_kg,net_kg"
         self.same("its tickets", (0, head, ""), (status, out.split("\n")[0], err))
-        changed(file, "UPDATE journal SET gross_kg = 20000 WHERE number = 7")
+        change(file, "UPDATE journal SET gross_kg = 20000 WHERE number = 7")
         damaged = (1, "DAMAGED 7\n", "")
         self.same("a damaged journal is reported", damaged, printed("check", "--file", file))
         status, out, _ = printed("export", "--what", "tickets", "--file", file)
@@ -74,7 +73,7 @@ class Journals(TriedTwice):
             out, err = ("", f"{wanted}\n") if is_fault else (f"{wanted}\n", "")
             self.same(name, (int(is_fault), out, err), printed(*words))
         self.same("the old one is as it was", before, contents(folder, "old"))
-        changed(old, "DELETE FROM journal WHERE number = 7")
+        change(old, "DELETE FROM journal WHERE number = 7")
         found = printed("migrate", "--file", old, "--to", newer)
         self.same("one that lacks a number is refused", (1, "", "store 10 gap 7\n"), found)
         self.same("no new file is left of a refusal", {}, contents(folder, "newer"))
@@ -125,11 +124,8 @@ class Journals(TriedTwice):
             restore_signals=False,
             preexec_fn=limited((resource.RLIMIT_FSIZE, 1_000_000)),
         )
-        self.same(
-            "a copy without space is a fault of the disk",
-            (1, "", DISK),
-            (status, out, err.splitlines()[-1]),
-        )
+        what = "a copy without space is a fault of the disk"
+        self.same(what, (1, "", DISK), (status, out, err.splitlines()[-1]))
         self.holds("and says where space is needed", "give TMPDIR a folder with room" in err, err)
         left = {**contents(folder, "none"), **contents(among)}
         self.same("nothing is left of it", {}, left)
@@ -160,13 +156,11 @@ class Looks(TriedTwice):
 
     def test_faults(self) -> None:
         folder = self.folder()
-        file = f"{folder}/journal.db"
+        file, damaged, other = (f"{folder}/{it}.db" for it in ("journal", "damaged", "other"))
         make_journal(file, 3)
-        make_journal(f"{folder}/damaged.db", 3)
-        changed(
-            f"{folder}/damaged.db", "UPDATE journal SET gross_kg = gross_kg + 20 WHERE number = 2"
-        )
-        changed(f"{folder}/other.db", "CREATE TABLE journal (number INTEGER)")
+        make_journal(damaged, 3)
+        change(damaged, "UPDATE journal SET gross_kg = gross_kg + 20 WHERE number = 2")
+        change(other, "CREATE TABLE journal (number INTEGER)")
         before = contents(folder)
         taken = self.enterContext(socket.create_server((HOST, 0))).getsockname()[1]
         status, out, err = self.look(file)
@@ -184,10 +178,9 @@ class Looks(TriedTwice):
         no_office = (f"office {away}: {NO_ADDRESS}", "address fault")
         no_converter = (f"converter {name_only}: {NO_ADDRESS}", "converter fault")
         is_folder = (f"converter {folder}: it is a folder", "converter fault")
-        foreign = (f"journal {folder}/other.db: {FOREIGN}", "store 4 foreign")
+        foreign = (f"journal {other}: {FOREIGN}", "store 4 foreign")
         gone = (f"converter {there}: there is no such file", "converter fault")
         no_folder = (f"journal {none}: {NO_FOLDER}", DISK)
-        damaged, other = f"{folder}/damaged.db", f"{folder}/other.db"
         for name, path, option, value, wanted, *lines in (
             ("a damaged journal would be served, and is reported", damaged, "", "", "0", DAMAGED),
             ("an address in use", file, "--terminal", terminal, "1", taken_line, "address fault"),
@@ -234,11 +227,9 @@ class Looks(TriedTwice):
         if os.getuid():
             os.chmod(closed, 0o555)
         fault = "it can't be made, because this user may not write to its folder; run this as the folder's owner"
-        self.same(
-            "nor in a folder that this user may not write to",
-            (1, [f"journal {closed}/new.db: {fault}", DISK]),
-            as_nobody(folder, *words, f"{closed}/new.db"),
-        )
+        refused = (1, [f"journal {closed}/new.db: {fault}", DISK])
+        found = as_nobody(folder, *words, f"{closed}/new.db")
+        self.same("nor in a folder that this user may not write to", refused, found)
         os.chmod(f"{journal}-zero", 0o444)
         status = as_nobody(folder, *words, journal)[0]
         self.same("without the note of the zero it would start", 0, status)
@@ -253,11 +244,9 @@ class Looks(TriedTwice):
             file = journal + ending
             os.chmod(file, 0o444)
             before = state()
-            self.same(
-                f"journal.db{ending} that this user may not write",
-                (1, [f"journal {file}: it can't be written, {NO_PERMISSION}", DISK]),
-                as_nobody(folder, *words, journal),
-            )
+            refused = (1, [f"journal {file}: it can't be written, {NO_PERMISSION}", DISK])
+            found = as_nobody(folder, *words, journal)
+            self.same(f"journal.db{ending} that this user may not write", refused, found)
             self.same(f"journal.db{ending} is left as it was", before, state())
             os.chmod(file, 0o666)
         os.chmod(closed, 0o755)
@@ -273,13 +262,9 @@ class Looks(TriedTwice):
         both = ("--terminal", one, "--office", other)
         started, held_by = ["it would start"], [f"journal {file}: {HELD}", DISK]
         fault, new = [terminal, "address fault"], f"{folder}/new.db"
+        of_both = (0, started, [runs, terminal, office])
         for name, path, words, wanted in (
-            (
-                "its addresses in use are no fault",
-                file,
-                both,
-                (0, started, [runs, terminal, office]),
-            ),
+            ("its addresses in use are no fault", file, both, of_both),
             ("nor is one of both", file, both[2:], (0, started, [runs, office])),
             ("its journal, at other addresses", file, (), (1, [], held_by)),
             ("another journal at its addresses", new, both, (1, [], fault)),

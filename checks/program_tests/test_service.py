@@ -11,6 +11,7 @@ import stat
 import struct
 import subprocess
 import time
+from pathlib import Path
 
 from checks.lib import bridge
 from checks.lib.bridge import HOST
@@ -47,12 +48,11 @@ def is_open(address: str, port: int) -> bool:
 
 def beginning(stream: socket.socket) -> bytes:
     """Return the first bytes of a response, or what went wrong in its place."""
-    try:
-        return stream.recv(12)
-    except OSError as error:
-        return str(error).encode()
-    finally:
-        stream.close()
+    with stream:
+        try:
+            return stream.recv(12)
+        except OSError as error:
+            return str(error).encode()
 
 
 def connect(port: int) -> socket.socket:
@@ -149,8 +149,7 @@ class Start(TriedTwice):
 
     def test_turns(self) -> None:
         folder = self.folder()
-        with open(f"{folder}/lines", "w") as it:
-            it.write("0\n" * 1_000_005)
+        Path(folder, "lines").write_text("0\n" * 1_000_005, encoding="ascii")
         for option, turns in (("--turns 5", 5), ("", 1_000_000), ("--turns 1000003", 1_000_003)):
             words = option.split()
             process, _, _ = self.start(f"{folder}/turns.db", f"{folder}/lines", *words)
@@ -161,12 +160,10 @@ class Start(TriedTwice):
         """Show that a start looks at the journal's log before it opens it, and compares the journal with its witness."""
         folder = self.folder()
         path, log, lines = (f"{folder}/{it}" for it in ("served.db", "served.db-wal", "lines"))
-        with open(lines, "w") as text:
-            text.write("0\n" * 5)
+        Path(lines).write_text("0\n" * 5, encoding="ascii")
         service = self.serve(path)
         for name, form, load in (("first", FIRST, 9170), ("second", SECOND, 4070)):
-            service.put(0)
-            service.put(load)
+            service.next_vehicle(load)
             self.same(f"the {name} is stored", 201, weigh(service, form)[0])
         service.close()
         os.remove(f"{path}-newest")
@@ -174,40 +171,29 @@ class Start(TriedTwice):
         damaged = bytearray(whole["served.db-wal"])
         # in the first third of the frames: those of the last weighing come after it
         damaged[32 + len(damaged) // frame // 3 * frame + 24 + 100] ^= 1
-        with open(log, "wb") as file:
-            file.write(damaged)
+        Path(log).write_bytes(damaged)
         before = contents(folder, "served.db")
         status, out, faults = started(path, lines)
         self.same("a start over a damaged log", (1, "", [DISK]), (status, out, faults[-1:]))
         self.holds("names the log", "".join(faults[:1]).startswith(f"{log}: "), faults)
         self.same("and changes and makes nothing", before, contents(folder, "served.db"))
-        with open(log, "wb") as file:
-            file.write(whole["served.db-wal"])
+        Path(log).write_bytes(whole["served.db-wal"])
         self.same("over the log as it was it starts", (0, "turns ", []), started(path, lines))
         self.same("and has all entries", (0, "SOUND 2\n", ""), printed("check", "--file", path))
 
     def test_witnesses(self) -> None:
         folder = self.folder()
         path, lines = f"{folder}/witnessed.db", f"{folder}/lines"
-        with open(lines, "w") as text:
-            text.write("0\n" * 5)
+        Path(lines).write_text("0\n" * 5, encoding="ascii")
         make_journal(path, 3)
         rows = printed("export", "--file", path, "--what", "journal")[1].splitlines()[1:]
         digests = [row.split(",")[10] for row in rows]
         behind = "troubleshooting.md, A journal that is behind"
+        newer = f"its newest entry is 3, but {path}-newest recorded that 4 was answered"
+        other = f"entry 3 differs from the entry 3 that {path}-newest recorded"
         for name, number, digest, fault in (
-            (
-                "behind its witness",
-                4,
-                digests[2],
-                f"its newest entry is 3, but {path}-newest recorded that 4 was answered",
-            ),
-            (
-                "whose newest entry was replaced",
-                3,
-                digests[1],
-                f"entry 3 differs from the entry 3 that {path}-newest recorded",
-            ),
+            ("behind its witness", 4, digests[2], newer),
+            ("whose newest entry was replaced", 3, digests[1], other),
         ):
             write_newest(path, number, digest)
             before = contents(folder, "witnessed.db-newest")
@@ -230,8 +216,7 @@ class Clients(TriedTwice):
         """Start a service, and put a vehicle on its bridge."""
         file = f"{self.folder()}/journal.db"
         service = self.serve(file, *words, converter=bridge.Played(rate))
-        service.put(0)
-        service.put(9170)
+        service.next_vehicle(9170)
         return service
 
     def test_exchanges(self) -> None:
@@ -303,13 +288,11 @@ class Clients(TriedTwice):
         memory = os.memfd_create("witness", os.MFD_ALLOW_SEALING)
         os.symlink(f"/proc/{os.getpid()}/fd/{memory}", f"{path}-newest")
         service = self.serve(path)
-        service.put(0)
-        service.put(9170)
+        service.next_vehicle(9170)
         self.same("a weighing", 201, weigh(service, FIRST)[0])
         witness = os.pread(memory, 1000, 0)
         self.holds("is in the witness", b"newest 0000000001 " in witness, witness)
-        service.put(0)
-        service.put(4070)
+        service.next_vehicle(4070)
         fcntl.fcntl(memory, fcntl.F_ADD_SEALS, fcntl.F_SEAL_WRITE)
         answers, end = set(), time.monotonic() + 30
         while service.process.poll() is None and time.monotonic() < end:
@@ -318,9 +301,8 @@ class Clients(TriedTwice):
         self.holds("one whose witness can't be written isn't answered", 201 not in answers)
         _, err, status = service.end()
         self.same("and ends the service", (1, f"\n{DISK}\n"), (status, err[-len(DISK) - 2 :]))
-        self.holds(
-            "which names the file", err.startswith(f"{path}-newest: it can't be written"), err
-        )
+        is_named = err.startswith(f"{path}-newest: it can't be written")
+        self.holds("which names the file", is_named, err)
         os.close(memory)
         self.same("it was stored", (0, "SOUND 2\n", ""), printed("check", "--file", path))
 
@@ -343,8 +325,7 @@ class Service(TriedTwice):
         for port, whose in ((service.terminal, "terminal"), (service.office, "office")):
             is_other = is_open("127.0.0.2", port)
             self.same(f"the {whose} listens only on that address", False, is_other)
-        service.put(0)
-        service.put(9170)
+        service.next_vehicle(9170)
         before = int(time.time())
         status, slip = weigh(service, FIRST)
         moments = [
@@ -363,15 +344,13 @@ class Service(TriedTwice):
         rows = printed("export", "--file", path, "--what", "journal")[1].splitlines()[1:]
         today = time.strftime("%Y-%m-%d", time.gmtime(time.time() - 90 * DAY))
         service = self.serve(path)
-        service.put(0)
-        service.put(9170)
+        service.next_vehicle(9170)
         with bridge.Terminal(service) as it:
             wait_until("a tare", lambda: it.ask("TA 5000 kg").startswith("TA A"))
         single = "key=S{}&kind=single&plate=AB-12"
         stored = weigh(service, single.format(1))[0]
         self.same("999 entries leave one place of 1,000", 201, stored)
-        service.put(0)
-        service.put(9170)
+        service.next_vehicle(9170)
         another = single.format(2)
         self.becomes("and then none", FULL, lambda: posted(service, "/weighings", another))
         old = sum(row.split(",")[4][:10] < today for row in rows)
@@ -432,8 +411,7 @@ class Service(TriedTwice):
             status, text, _ = printed("export", "--file", path, "--what", what)
             self.same(f"its export of the {what}", (0, full + 1), (status, text.count("\n")))
         service = self.serve(path, "--capacity", str(full), "--retention", "90")
-        service.put(0)
-        service.put(9170)
+        service.next_vehicle(9170)
         newest = 2 * full
         status, slip = posted(service, "/weighings", SINGLE.format(newest, newest % 5_000))
         found = (status, slip.split("\n")[0])
