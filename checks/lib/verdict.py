@@ -1,4 +1,4 @@
-"""What `weighbridge check` says of a journal, by what a verifier says of it. It imports little, because checks/agreement begins it thousands of times."""
+"""Computes what `weighbridge check` must say of a journal from what a verifier says of it. It imports little, because checks/agreement starts it thousands of times."""
 
 import os
 import re

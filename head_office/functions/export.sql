@@ -129,7 +129,7 @@ end $$;
 create or replace function is_of_age(moment timestamptz, days integer) returns boolean stable
     return coalesce((now() at time zone 'UTC')::date > (moment at time zone 'UTC')::date + days, true);
 
--- Whether a newer export was taken in before. Then this one may still have entries that are missing here. What it lacks may have come or gone after it.
+-- Whether a newer export was taken in before. Then this one may still have entries that are missing here. It doesn't say what came or went after it.
 create or replace function is_overtaken(it taking) returns boolean immutable
     return coalesce(it.fetched < it.fetched_before, false);
 
