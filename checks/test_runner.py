@@ -52,7 +52,7 @@ class Runner(Check):
         self.holds("checks are listed", "test_support.Support.test_file\n" in ran.stdout)
 
 
-# What a mistake removes from a file that has "one two two", its check, and how its row ends.
+# A mistake removes the first text from a file that has "one two two". The others are its check, and how its row ends.
 MISTAKES = (
     ("one", "grep -q one file", "refused ("),
     ("one", "grep -q two file", "NOT REFUSED ("),

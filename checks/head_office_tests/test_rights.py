@@ -43,9 +43,12 @@ REFUSED = f"""
 {LOADER} | registers no follower | permission denied | {FOLLOW}
 {LOADER} | reads no follower | permission denied | SELECT * FROM head_office.follower_difference
 {REGISTRAR} | deletes no bridge | permission denied | DELETE FROM head_office.bridge
-{REGISTRAR} | renames none | permission denied | UPDATE head_office.bridge SET bridge = 'X'
+{REGISTRAR} | gives no two bridges one name | duplicate key | UPDATE head_office.bridge SET bridge = 'X'
+{LOADER} | renames no bridge | permission denied | UPDATE head_office.bridge SET bridge = 'X' WHERE bridge = 'NORTH'
+{LOADER} | sets no entry aside | permission denied | SELECT head_office.set_aside(1, 1, 1, 'false')
+{READER} | takes no correction back | permission denied | SELECT head_office.take_back(1, 'right')
 {REGISTRAR} | moves no serial to another | permission denied | UPDATE head_office.instrument SET bridge = 'EAST'
-{REGISTRAR} | registers no serial twice | duplicate key | INSERT INTO head_office.instrument VALUES ('NORTH1', 'EAST')
+{REGISTRAR} | registers no serial twice | serial NORTH1 is registered for NORTH | INSERT INTO head_office.instrument VALUES ('NORTH1', 'EAST')
 {REGISTRAR} | registers no follower twice | duplicate key | {FOLLOW}
 {REGISTRAR} | changes no follower | permission denied | UPDATE head_office.follower SET former = 1
 {REGISTRAR} | deletes no follower | permission denied | DELETE FROM head_office.follower
