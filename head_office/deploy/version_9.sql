@@ -8,8 +8,9 @@
 -- a run that was broken off may have made it
 \if :is_of_sqitch
 \else
-select case when :was > 0 then 'access exclusive' else 'share row exclusive' end as others_mode,
+select case when :was between 1 and 7 then 'access exclusive' else 'share row exclusive' end as others_mode,
     case when :was < 9 then 'access exclusive' else 'share row exclusive' end as handed_mode \gset
+\set altered 'bridge day_sum follower haulier instrument journal load loader restored'
 \ir ../upgrading/begin.sql
 -- or a run that ended meanwhile
 \ir ../upgrading/look.sql

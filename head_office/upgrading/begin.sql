@@ -1,10 +1,14 @@
--- Begins the transaction of an upgrade, and takes every lock that it needs before it changes anything: `handed_mode` on the table `handed`, `others_mode` on
--- the other tables. A load locks `handed` first, so behind this lock no load is under way. New loads wait behind it, so it is waited for no longer than `bound`
+-- Begins the transaction of an upgrade, and takes every lock that it needs before it changes anything: `handed_mode` on the table `handed`, an exclusive one on those that
+-- `altered` names, and `others_mode` on the other tables. A load locks `handed` first, so behind this lock no load is under way. New loads wait behind it, so it is waited for no longer than `bound`
 -- seconds. If the locks on the others aren't free within most of the time after which the server looks for a deadlock, all are given back and tried again
 -- later. So neither a load nor a reader is ever ended as part of a deadlock. After `wait` seconds the upgrade gives up.
 \if :{?wait}
 \else
 \set wait 300
+\endif
+\if :{?altered}
+\else
+\set altered ''
 \endif
 begin;
 set local client_min_messages = warning;
@@ -12,7 +16,7 @@ set local statement_timeout = 0;
 set local idle_in_transaction_session_timeout = 0;
 set local transaction_isolation = 'read committed';
 select set_config('head_office.handed_mode', :'handed_mode', true), set_config('head_office.others_mode', :'others_mode', true),
-    set_config('head_office.wait', :'wait', true) \g /dev/null
+    set_config('head_office.wait', :'wait', true), set_config('head_office.altered', :'altered', true) \g /dev/null
 
 -- one upgrade at a time; `who_stops` recognizes an upgrade by this lock
 do $$
@@ -54,7 +58,7 @@ begin
             since := clock_timestamp();
             perform set_config('lock_timeout', '100ms', true);
             for its in
-                select oid::regclass as name, relkind from pg_class
+                select oid::regclass as name, relname, relkind from pg_class
                 where relnamespace = 'head_office'::regnamespace and relkind in ('r', 'p', 'v') and not relispartition order by relkind, relname
             loop
                 tried := its.name;
@@ -62,7 +66,8 @@ begin
                     -- changes nothing; LOCK TABLE would lock the tables of the view, too
                     execute format('alter view %s owner to head_office', its.name);
                 else
-                    execute format('lock table only %s in %s mode', its.name, current_setting('head_office.others_mode'));
+                    execute format('lock table only %s in %s mode', its.name, case when its.relname = any (string_to_array(current_setting('head_office.altered'), ' '))
+                        then 'access exclusive' else current_setting('head_office.others_mode') end);
                 end if;
                 if clock_timestamp() > since + 0.7 * current_setting('deadlock_timeout')::interval then
                     raise lock_not_available;
