@@ -127,12 +127,13 @@ class Browser:
 
     def press(self, text: str, after_each: list[object]) -> None:
         """Press keys one after the other, and act so after each."""
-        actions = [
-            action
-            for it in text
-            for kind in ("keyDown", "keyUp")
-            for action in [{"type": kind, "value": it}, *(after_each if kind == "keyUp" else [])]
-        ]
+        actions: list[object] = []
+        for it in text:
+            actions += [
+                {"type": "keyDown", "value": it},
+                {"type": "keyUp", "value": it},
+                *after_each,
+            ]
         keyboard = {"type": "key", "id": "keyboard", "actions": actions}
         self.call("POST", "/actions", {"actions": [keyboard]})
 
