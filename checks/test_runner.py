@@ -1,5 +1,5 @@
-"""Shows that the runner skips a check, and names the module, if a module of Python is not installed. A missing module of
-the repository fails.
+"""Shows that the runner skips a check, and names the module, if a module of Python is not installed. If a
+module of the repository itself is missing, the check fails.
 """
 
 import subprocess
