@@ -1,5 +1,5 @@
-"""Shows that after each of 80 kills the witness has what was answered. A journal behind its witness is refused and stays
-unchanged. A start reports the zero that it forgot.
+"""Shows that after each of 80 kills the witness has every entry that was answered. A journal that lacks an entry of its
+witness is refused and stays unchanged. A start reports that it forgot the zero.
 
 - A service that is killed at any time while it weighs leaves a witness that has at least what was answered. A start
   accepts that witness.

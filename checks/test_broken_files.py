@@ -1,5 +1,5 @@
-"""Shows that 2,000 files, cut, overwritten or changed at random, give a fault by name or what their rows say, and that no
-program crashes.
+"""Shows that no program crashes at 2,000 files that were cut, overwritten or changed at random. Each file gives a named fault,
+or what its rows say.
 
 The check cuts off, overwrites and changes bit by bit a journal's file and its log, in random ways with a fixed seed.
 For each file, `check` and both exports end with a fault by name, or with an answer. The answer is right for the rows in

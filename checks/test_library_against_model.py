@@ -1,5 +1,5 @@
 """Shows that the library does what the model of the station does over 100,000 random histories. It takes half an hour of
-processor.
+processor time.
 
   checks/library_against_model [COUNT [SEED]]
 

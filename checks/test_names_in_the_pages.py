@@ -1,5 +1,5 @@
 """Shows that each file, function, test, definition, mutant and link that the pages name exists, and that three pages say
-that nothing is type-approved. The first page is short.
+that nothing is type-approved. README.md has at most 1,100 words.
 
 Each relative link of a page leads to a file, and each anchor to a heading of that page. If the program, its package or
 a page says `see PAGE.md, SECTION`, docs/PAGE.md has that heading. It also compares the table of docs/checks.md with the

@@ -1,5 +1,5 @@
-"""Shows that an office request whose allocations are refused is answered 15 or as usual, that nothing is lost, and that
-nothing is stored twice. It takes ten minutes.
+"""Shows that an office request whose allocations are refused gets `15 store` or its usual answer. Nothing is lost, and nothing
+is stored twice. It takes ten minutes.
 
 It builds a small program in a temporary folder, in minutes if the gate has run here.
 """

@@ -1,5 +1,5 @@
-"""Shows that a million random requests over replays, and 20,000 over sockets, are answered or refused by name, and that
-the journal stays sound.
+"""Shows that a million random requests over replays, and 20,000 over sockets, get an answer or a named refusal. The
+journal stays sound.
 
 The check replays random requests, heads and bytes (a fixed seed), with readings and terminal lines among them. Then it
 sends others to a service over sockets, while its converter plays loads. Each gets a response of a form that the formats

@@ -1,4 +1,5 @@
-"""Shows that a replay whose allocations are refused, each in turn, runs nothing, or answers as usual or by 503."""
+"""Shows what a replay does if one of its allocations is refused, each in turn: it doesn't run, or it gives its usual answers or
+503."""
 
 from collections.abc import Iterable
 from functools import cache

@@ -1,5 +1,5 @@
-"""Shows that the runner skips a check, and names the module, if a module of Python is not installed. A missing module of
-the repository fails. A planted mistake counts as refused only by a check that passes without it.
+"""Shows that the runner skips a check, and names the module, if a module of Python is not installed. If a
+module of the repository itself is missing, the check fails. A planted mistake counts as refused only by a check that passes without it.
 """
 
 import shutil

@@ -1,4 +1,4 @@
-"""Shows that a service without more open files continues, because silent connections give way.
+"""Shows that a service that may open no more files continues, because it disconnects silent connections.
 
 The check starts a service with a limit on its open files (`ulimit -n`), and connects a terminal. Then silent clients
 use the files that are left. The service closes the oldest for the next, so that one file stays free, which /proc shows.

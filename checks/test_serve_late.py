@@ -1,5 +1,5 @@
-"""Shows that nothing is carried out late, whether behind another terminal, a process that was stopped, a thousand silent
-connections, or too many requests.
+"""Shows that the service carries out no command late, even if it comes behind another terminal, a stopped process, a thousand
+silent connections or too many requests.
 
 - A `TA` and a `Z` of clients that waited behind another terminal and left aren't carried out when that one leaves. A
   client that waits is closed after two seconds, and sees it. A command that waited less is carried out.

@@ -1,4 +1,4 @@
-"""Shows that lines that a FIFO kept from before a start give the service neither a weight nor an empty bridge. It takes
+"""Shows that a service ignores the lines that a FIFO kept from before its start: they are neither a weight nor an empty bridge. It takes
 two minutes.
 
 A writer that outlives the service keeps a FIFO open. Vehicle A is on the bridge, the service hangs for three seconds

@@ -1,5 +1,5 @@
-"""Shows that the page's commands verify a signed `SHA256SUMS`, refuse it if anything about it is different, and name a
-changed file.
+"""Shows that the commands of docs/inspection.md verify a signed `SHA256SUMS`, refuse it if anything about it differs, and
+name a changed file.
 
 The differences are a byte, the key, the name or the purpose. The bill of materials names each crate. The check builds the packages of the counter and of
 the head office, which need no proof.

@@ -1,4 +1,4 @@
-"""Shows that copies of both files, made while vehicles are weighed, are sound and complete.
+"""Shows that copies of the journal's two files, made while vehicles are weighed, are sound and complete.
 
 While the service runs, the `sqlite3` shell is refused. The check copies both files, the database and its log, again and
 again while vehicles are weighed. `weighbridge check` finds each copy sound. A copy has no fewer entries than requests

@@ -1,4 +1,4 @@
-"""Shows that `sqlite3` opens a database of the store, and the store one of `sqlite3`.
+"""Shows that `sqlite3` opens a database of the store, and that the store opens one of `sqlite3`.
 
 It builds a small program in a temporary folder by `rt try`, which proves nothing, and takes some minutes.
 """

@@ -1,5 +1,5 @@
-"""Shows that a store whose allocations are refused isn't opened, or reports `Memory` once, and returns its usual result at
-the next call.
+"""Shows that a store whose allocations are refused isn't opened, or reports `Memory` once. The next call returns its usual
+result.
 
 It builds a small program in a temporary folder, in minutes if the gate has run here.
 """

@@ -1,5 +1,5 @@
-"""Shows that after a year of 60,000 weighings the program, both verifiers and each copy agree. Two power cuts, a full disk,
-a changed USB disk and a dead PC come in it.
+"""Shows that after a year of 60,000 weighings the program, both verifiers and each copy agree. The year has two
+power cuts, a full disk, a changed USB disk and a dead PC.
 
 The service runs under a clock that the check sets, and reads loads of a played converter at a thousand lines a second. Each
 working day has pairs, Singles, voids, and requests that are repeated because their answer was lost. The check records each

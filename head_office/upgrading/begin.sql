@@ -1,5 +1,5 @@
--- Begins the transaction of an upgrade, and takes every lock that it needs before it changes anything: `handed_mode` on the table `handed`, an exclusive one on those that
--- `altered` names, and `others_mode` on the other tables. A load locks `handed` first, so behind this lock no load is under way. New loads wait behind it, so it is waited for no longer than `bound`
+-- Begins the transaction of an upgrade, and takes every lock that it needs before it changes anything. That is `handed_mode` on the table `handed`, an exclusive lock on
+-- the tables that `altered` names, and `others_mode` on the others. A load locks `handed` first, so behind this lock no load is under way. New loads wait behind it, so it is waited for no longer than `bound`
 -- seconds. If the locks on the others aren't free within most of the time after which the server looks for a deadlock, all are given back and tried again
 -- later. So neither a load nor a reader is ever ended as part of a deadlock. After `wait` seconds the upgrade gives up.
 \if :{?wait}
