@@ -1,7 +1,9 @@
 """Shows that the runner skips a check, and names the module, if a module of Python is not installed. If a
 module of the repository itself is missing, the check fails. A planted mistake counts as refused only by a check that passes without it.
+Each check answers `--help`.
 """
 
+import os
 import shutil
 import subprocess
 import sys
@@ -50,6 +52,25 @@ class Runner(Check):
         )
         self.same("status and errors", (0, ""), (ran.returncode, ran.stderr))
         self.holds("checks are listed", "test_support.Support.test_file\n" in ran.stdout)
+
+
+class Help(Check):
+    """`--help` of each check's file."""
+
+    seconds = 30
+
+    def test_each(self) -> None:
+        for it in sorted((TOP / "checks").iterdir()):
+            if it.is_file() and os.access(it, os.X_OK):
+                words = [str(it), "--help"]
+                ran = subprocess.run(words, capture_output=True, text=True, timeout=30)
+                says = ran.stdout.count("\n") > 2
+                found = (ran.returncode, says, ran.stderr)
+                self.same(
+                    f"{it.name} --help: its status, and that it says something",
+                    (0, True, ""),
+                    found,
+                )
 
 
 # A mistake removes the first text from a file that has "one two two". The others are its check, and how its row ends.

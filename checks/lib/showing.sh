@@ -3,6 +3,14 @@
 # define `failing`, which reports more before it ends.
 check=$(basename "$0")
 
+# Prints the head of the check, and ends it, if its first word is --help.
+help_if_asked() {
+    if [ "${1-}" = --help ]; then
+        sed -n '2,/^[^#]/s/^# \?//p' "$0"
+        exit 0
+    fi
+}
+
 # Ends the check if a tool is not installed.
 skip_without() {
     local tool
