@@ -50,7 +50,7 @@ class Agreement(Check):
 
     needs = (PROGRAM, "cc")
     slow = True
-    seconds = 5_000
+    seconds = 2_000
 
     @unittest.skipIf(lacking(), lacking())
     def test_verdicts(self) -> None:

@@ -543,7 +543,7 @@ class WholeYear(Check):
     needs = (PROGRAM, "root", "strace", "cc", "losetup", "mkfs.ext4")
     options = {"--days": "N", "--weighings": "M"}
     slow = True
-    seconds = 3600
+    seconds = 2_000
 
     def test_year(self) -> None:
         why = lacking()
