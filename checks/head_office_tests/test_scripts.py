@@ -401,6 +401,23 @@ class Scripts(OfficeCheck):
         named = named_in(list_of(backup()[1]))
         self.holds("a file of a past year that no list names is named again", over in named, named)
 
+        # twice one entry of last year is set aside, and the other one counts
+        book = self.book("CORRECTED")
+        for number in range(3):
+            moment = moment_of(last_year, 6, 1) + number
+            book.add("single", "A-1", 9_000, moment=moment)
+        office.load("CORRECTED", book)
+        set_aside = "SELECT head_office.set_aside(journal, {0}, {0}, 'false') FROM head_office.journal WHERE bridge = 'CORRECTED'"
+        office.told(set_aside.format(1))
+        former = {it for it in named_in(list_of(backup()[1])) if f"-{last_year}-" in it}
+        office.told(
+            "SELECT head_office.take_back(max(correction), 'right') FROM head_office.correction"
+        )
+        office.told(set_aside.format(2))
+        latter = {it for it in named_in(list_of(backup()[1])) if f"-{last_year}-" in it}
+        what = "a year of which other entries are set aside is copied again"
+        self.holds(what, former and latter and not former & latter, (former, latter))
+
     def test_restore(self) -> None:
         office = self.office
         self.help_and_words("restore", f"{office.folder}/none")
