@@ -20,7 +20,7 @@ from checks.lib.head_office import (
     written,
 )
 
-SCRIPTS = "upgrade load compare report haulier watch guard check alarm backup restore"
+SCRIPTS = "upgrade load compare report haulier watch guard check alarm backup restore file_metrics"
 UNITS = TOP / "packaging" / "head_office"
 
 
@@ -70,7 +70,7 @@ class Units(OfficeCheck):
         self.holds("  and mails none", not os.path.exists(mail))
 
     def test_unit_files(self) -> None:
-        for unit in ("@", "-report", "-watch", "-check", "-backup"):
+        for unit in ("@", "-report", "-watch", "-check", "-backup", "-files"):
             name = f"weighbridge-head-office{unit}.service"
             text = (UNITS / name).read_text(encoding="utf-8")
             alarm = "\nOnFailure=weighbridge-head-office-alarm@%n.service\n"
