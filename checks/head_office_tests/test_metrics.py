@@ -3,14 +3,13 @@
 import json
 import os
 import re
-import shutil
 import socketserver
 import subprocess
 import threading
 import time
 import urllib.request
 
-from checks.lib.head_office import OWNER, PARTS, READER, OfficeCheck, lines_of, written
+from checks.lib.head_office import PARTS, READER, OfficeCheck, lines_of, written
 from checks.lib.ports import HOST, free_port
 
 PROMETHEUS = f"{PARTS}/prometheus"
@@ -170,11 +169,11 @@ class Metrics(OfficeCheck):
                     {"series": name, "values": f"{int(str(value)) - begins}x300"}
                     for name, value in series.items()
                 ]
-            asked = {
+            wanted: dict[str, object] = {
                 "expr": f'count(ALERTS{{alertname="{alert}",alertstate="firing"}}) or vector(0)',
                 "eval_time": "5h",
+                "exp_samples": [{"labels": "{}", "value": int(fires)}],
             }
-            wanted = {**asked, "exp_samples": [{"labels": "{}", "value": int(fires)}]}
             test = {"interval": "1m", "input_series": values, "promql_expr_test": [wanted]}
             both = {
                 "rule_files": [f"{PROMETHEUS}/rules.yaml"],
@@ -214,7 +213,7 @@ class Metrics(OfficeCheck):
             ("a finding is counted", 'head_office_finding_open{bridge="NORTH".*what="unsound"} 1'),
             (
                 "a refusal, too",
-                f'head_office_refusal_day{{bridge="NOBODY",login="loads",reason="bridge".*}} 1',
+                'head_office_refusal_day{bridge="NOBODY",login="loads",reason="bridge".*} 1',
             ),
             ("the office has no fault", r"^head_office_faults_open{.*} 0$"),
             ("it was checked", r"^head_office_check_age_seconds{.*} \d"),
