@@ -77,6 +77,12 @@ class CheckAndExport(Check):
             self.says("a sound journal", TICKETS, sound, 0, TICKET_COLUMNS + TICKET)
         self.same("its rows and its integrity after that", before, rows_of(sound))
 
+    def test_first_weighing_alone(self) -> None:
+        what, path = "a first weighing", self.made("first", "DELETE FROM journal WHERE number = 2")
+        self.says(what, CHECK, path, 0, "SOUND 1\n")
+        self.says(what, JOURNAL, path, 0, JOURNAL_COLUMNS + FIRST)
+        self.says(what, TICKETS, path, 0, TICKET_COLUMNS)
+
     def test_damaged(self) -> None:
         what, changed = "a changed gross", "UPDATE journal SET gross_kg = 18360"
         path = self.made("damaged", f"{changed} WHERE number = 1")

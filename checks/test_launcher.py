@@ -283,6 +283,23 @@ class Launcher(Check):
             (self.kit / f"fail_{fault}").unlink()
             self.same(f"{fault}: the next", 0, self.ran()[0])
 
+    def test_a_file_that_was_deleted_is_made_again(self) -> None:
+        self.ran()
+        self.calls()
+        crates = self.top / "crates"
+        (crates / "weighbridge/out/weighbridge").unlink()
+        self.same("the program: status", 0, self.ran()[0])
+        self.same("it is compiled and not proved", ["compile", "link"], self.proved())
+        (crates / "left/out/proved/left.rlib").unlink()
+        self.later()
+        self.source("lone").write_text("fn changed\n")
+        self.same("a library: status", 0, self.ran()[0])
+        wanted = ["left", "weighbridge", "compile", "link"]
+        self.same("only that one is proved again", wanted, self.proved())
+        (crates / "weighbridge/out/proved/stamp").unlink()
+        self.same("the stamp: status", 0, self.ran()[0])
+        self.same("the program is proved again", wanted[1:], self.proved())
+
     def test_a_source_that_changes_meanwhile_is_not_in_the_program(self) -> None:
         (self.kit / "hold_weighbridge").touch()
         it = self.begin()

@@ -1,7 +1,7 @@
 -- Instruments, plates and names that change from a moment on, bridges that are retired, and exports that come late.
 BEGIN;
 SET LOCAL search_path = test, tap;
-SELECT plan(77);
+SELECT plan(80);
 CREATE FUNCTION pg_temp.at(age interval) RETURNS timestamptz LANGUAGE sql AS $$ SELECT present() - age $$;
 
 -- An instrument moves from EAST to NORTH: two hours ago.
@@ -33,6 +33,8 @@ SELECT is(load('LATER'), format('LATER: refused: serial EAST1 is registered for 
 UPDATE head_office.instrument SET until = pg_temp.at('30 minutes') WHERE bridge = 'NORTH' AND serial = 'EAST1';
 CALL weigh('NORTH', 'single', 'A-1', 9000, 5000, age => '10 minutes', serial => 'EAST1');
 SELECT is(load('NORTH'), format('NORTH: refused: serial EAST1 is not registered at %s', pg_temp.at('10 minutes') AT TIME ZONE 'UTC'), 'an instrument may belong to nobody any more');
+SELECT is(as_login('ada', format('INSERT INTO head_office.instrument VALUES (''EAST1'', ''NORTH'', %L)', pg_temp.at('30 minutes'))), 'done', '  and come back to a bridge that had it');
+SELECT is(load('NORTH'), 'NORTH: records 2, added 1, findings 0, new 0', '  which weighs with it again');
 SELECT is(rows($$SELECT bridge, since, until FROM head_office.instrument WHERE serial = 'LATER1'$$), '(LATER,-infinity,infinity)', 'one without words belongs to its bridge always');
 
 -- A plate that is sold
@@ -94,6 +96,7 @@ SELECT is(rows('SELECT former, bridge FROM head_office.former_name ORDER BY 1'),
 SELECT is(as_login('ada', $$UPDATE head_office.bridge SET bridge = 'WEST' WHERE bridge = 'SHORE'$$), 'done', 'it gets its first name back');
 SELECT is(rows('SELECT former, bridge FROM head_office.former_name ORDER BY 1'), '(COAST,WEST) (SHORE,WEST)', '  which is no former one any more');
 SELECT is(as_login('ada', $$DELETE FROM head_office.former_name WHERE former = 'COAST'$$), 'done', 'a former name that no load has any more may be removed');
+SELECT is(rows($$SELECT was ->> 'former', was ->> 'bridge', is_now, by FROM head_office.change WHERE of_table = 'former_name' ORDER BY change DESC LIMIT 1$$), '(COAST,WEST,,ada)', '  which is written down');
 SELECT is(as_login('ada', $$INSERT INTO head_office.bridge (bridge, retention_days) VALUES ('COAST', 30)$$), 'done', '  and given again');
 SELECT is(as_login('office', $$UPDATE head_office.bridge SET bridge = 'MINE' WHERE bridge = 'WEST'$$), '42501', 'a reader renames nothing');
 
