@@ -83,7 +83,12 @@ MISTAKES = (
 
 
 class Mistakes(Check):
-    """`tools/mistakes` over tables of one row."""
+    """`tools/mistakes`, over its tables and over those of one row."""
+
+    def test_each_can_be_made(self) -> None:
+        ran = subprocess.run([TOP / "tools" / "mistakes", "--list"], capture_output=True, text=True)
+        self.same("what can't be made", (0, ""), (ran.returncode, ran.stderr))
+        self.holds("there are hundreds", ran.stdout.count("\n") > 800, ran.stdout[-300:])
 
     def test_rows(self) -> None:
         for old, check, end in MISTAKES:
