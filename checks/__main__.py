@@ -34,6 +34,7 @@ from checks.lib.running import (
     modules_of,
     name_of,
     names_of_checks,
+    names_of_parts,
     use,
     use_debians_python,
 )
@@ -167,6 +168,15 @@ def main() -> int:
         options.error("--at-once: it must be 1 or more")
     there = units(asked.k)
     named = {it.name for it in there} | {it.name.partition(".")[0] for it in there}
+    # a file that runs one module of a folder stands for the module's classes
+    for part in [it for it in asked.checks if it in names_of_parts()]:
+        folder = names_of_parts()[part].split(".")[1].removesuffix("_tests")
+        try:
+            classes = classes_of(modules_of(part))
+        except unittest.SkipTest as why:
+            options.error(f"{part}: {why}")
+        asked.checks.remove(part)
+        asked.checks += [f"{folder}.{it.__name__}" for it in classes]
     if unknown := [it for it in asked.checks if it not in named]:
         near = ", ".join(difflib.get_close_matches(unknown[0], named, 3))
         options.error(

@@ -53,6 +53,12 @@ class Runner(Check):
         self.same("status and errors", (0, ""), (ran.returncode, ran.stderr))
         self.holds("checks are listed", "test_support.Support.test_file\n" in ran.stdout)
 
+    def test_part_of_a_folder(self) -> None:
+        words = [sys.executable, "-m", "checks", "--list", "head_office_functions"]
+        ran = subprocess.run(words, cwd=TOP, capture_output=True, text=True)
+        its = {it.rpartition(".")[0] for it in ran.stdout.splitlines()}
+        self.same("its tests", {"head_office_tests.test_functions.Functions"}, its)
+
 
 class Help(Check):
     """`--help` of each check's file."""
