@@ -25,6 +25,6 @@ insert into advice (rank, what, means, to_do) values
     (24, 'setup', 'e, Max or the serial is another one than in the entry before', 'ask whether the instrument was changed or verified anew; if not, keep the bridge''s files'),
     (25, 'nearly full', 'nine of ten places of the journal are taken', 'purge, or give the service a greater --capacity and register it as places'),
     (26, 'more', 'a load had more findings than a hundred, or its bridge more than 500 in 24 hours', 'see to the others first, and load again'),
-    (27, 'not loaded', 'a load was refused for what the next one makes up for: no export came, it was an older one, it didn''t reach what is stored, or another load took too long', 'nothing, if the next load is taken: then this is closed by itself; else ask the bridge, or look who loads'),
+    (27, 'not loaded', 'a load was refused for what the next one makes up for: no export came, it was an older one, it didn''t reach what is stored, or another load took too long', 'nothing, if the next load is taken: then this is closed by itself; else ask the bridge, look at its clock, which may be behind, or look who loads'),
     (28, 'clock', 'the bridge''s clock differs from this server''s by more than two minutes', 'set the clock of the bridge, or of this machine, and see whether each has a time server')
 on conflict (what) do update set rank = excluded.rank, means = excluded.means, to_do = excluded.to_do;
