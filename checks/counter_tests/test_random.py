@@ -214,8 +214,12 @@ class Random(AtTheCounter):
         print(said, flush=True)
         is_enough = self.counts["till"] > 2 * self.played and len(self.texts) > self.played / 12
         self.holds("enough was asked", is_enough, said)
-        tare = self.bridge.state()["tare"]
-        self.holds("no tare of a weighing is left", tare % 40 == 0, tare)
+
+        def is_left() -> bool:
+            return self.bridge.state()["tare"] % 40 != 0
+
+        # the counter may still work on a weighing whose client has given up
+        self.becomes("no tare of a weighing is left", False, is_left, 30)
         self.compare_with_the_journal()
 
     def compare_with_the_journal(self) -> None:
