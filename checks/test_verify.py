@@ -194,7 +194,7 @@ def chained_anew(path: str, since: int) -> None:
 
 
 def open_with_log(path: str) -> sqlite3.Connection:
-    """Open a journal. What is written to it stays in its log until it is closed."""
+    """Open a journal whose log keeps all that is written, until it is closed."""
     database = sqlite3.connect(path, isolation_level=None)
     for it in ("journal_mode = WAL", "wal_autocheckpoint = 0"):
         database.execute(f"PRAGMA {it}")
@@ -421,7 +421,8 @@ class Verify(Check):
         )
         run_script(anew, PURGE)
         tells("the oldest moved among the spent, without a printout", "", said_of(anew))
-        unknown = "not examined: whether the printout of number 2 is genuine, because its entry was purged"
+        unknown = "not examined: whether the printout of number 2 is genuine, "
+        unknown += "because its entry was purged"
         tells("with a paper of one of them", unknown, said_of(anew, *known(digests, 2)))
         tells("with a false paper of one of them", unknown, said_of(anew, "--known", "2", ZEROS))
         chained_anew(anew, 5)
@@ -574,23 +575,21 @@ class Verify(Check):
         tells("a journal whose entries are only in the log", "", said(log))
         ends = [at for at in borders[1:] if any(log[at - page - 20 : at - page - 16])]
         newest = "number 6 is the newest that files.db-newest recorded"
+        lost = f"{newest}, but the greatest number is {{}}, so the last answered entries are gone"
         for at in borders[:-1]:
-            entries = sum(it <= at for it in ends)
-            wanted = f"{newest}, but the greatest number is {entries}, so the last answered entries"
-            found = said(log[:at])
-            tells(f"its log cut at byte {at}, the end of a frame", f"{wanted} are gone\n", found)
+            wanted = lost.format(sum(it <= at for it in ends)) + "\n"
+            tells(f"its log cut at byte {at}, the end of a frame", wanted, said(log[:at]))
         for at in (0, 20, 31, borders[0] + 10, borders[1] - 1, borders[-2] + 24, len(log) - 1):
             tells(f"its log cut at byte {at}, within a frame", newest, said(log[:at]))
         elsewhere = "in files.db-wal, which isn't there: copy all files of the journal\n"
-        gone = f"{newest}, but the greatest number is 0, so the last answered entries are gone; or"
-        gone += f" they are {elsewhere}"
+        gone = f"{lost.format(0)}; or they are {elsewhere}"
         tells("its log is gone", gone, said(None))
         bare = f"{self.box}/bare.db"
         sqlite3.connect(bare).close()
         write_newest(bare, 6, ZEROS)
-        unknown = "not examined: whether this is a journal, because it has none of the tables; they"
-        unknown += f" may be {elsewhere}"
-        tells("no table, and no log", gone + unknown, said_of(bare).replace(bare, "files.db"))
+        no_table = "not examined: whether this is a journal, because it has none of the tables"
+        wanted = f"{gone}{no_table}; they may be {elsewhere}"
+        tells("no table, and no log", wanted, said_of(bare).replace(bare, "files.db"))
         unknown = "not examined: whether entries are missing at the end, because files.db-newest"
         tells("only the file", f"{unknown} isn't there", self.said_of_files({"": files[""]}))
         found = self.said_of_files(files | {"-newest": None})
@@ -600,10 +599,8 @@ class Verify(Check):
             wanted = "files.db-wal: its header is damaged"
             tells(f"bit {bit} of the log's header is flipped", wanted, found)
         for number, at in enumerate(borders[:-1]):
-            wanted = (
-                f"files.db-wal: it is damaged, in the frame from byte {at}: no entry in it is read"
-            )
-            wanted += f", nor in the {len(borders) - 2 - number} frames behind it"
+            wanted = f"files.db-wal: it is damaged, in the frame from byte {at}: no entry in it "
+            wanted += f"is read, nor in the {len(borders) - 2 - number} frames behind it"
             for part, inside in (
                 ("page number", 3),
                 ("size", 7),
@@ -774,6 +771,8 @@ class Verify(Check):
         behind = 2 * spilled[frame[2] : frame[4]]
         far, near = (whole + bytes(frame[4] + it * FRAME - len(whole)) + behind for it in (600, 60))
         page = frame[5] + 224
+        places = {None: "", -1: "header is damaged"}
+        places |= {number: f"from byte {it}:" for number, it in enumerate(frame)}
         for log, what, at, new, wanted in [
             (far, "a page lost before frames that weren't opened", page, bytes(9), None),
             (far, "a last commit lost before them", frame[4], bytes(2 * FRAME), None),
@@ -786,8 +785,6 @@ class Verify(Check):
             for place in at if isinstance(at, tuple) else (at,):
                 data[place : None if new is None else place + len(new)] = new or b""
             found = Log(bytes(data)).damage(FILE)
-            places = {None: "", -1: "header is damaged"}
-            places |= {number: f"from byte {it}:" for number, it in enumerate(frame)}
             if (found is None) != (wanted is None) or places[wanted] not in (found or ""):
                 differs(f"{what} in a log of the service", wanted, found)
             # next to a file that is no database, so that both say what they find in the log
@@ -863,12 +860,14 @@ class Verify(Check):
         twice = turned(damaged, bit_in[2] + 800)
         behind = turned(turned(damaged, bit_in[5]), bit_in[5] + 800)
         wrong, nothing = "still wrong:", "nothing was written:"
-        lacks = f"{wrong} number 7 is the newest that the copy-newest recorded, but the greatest number is 6"
+        lacks = f"{wrong} number 7 is the newest that the copy-newest recorded"
+        lacks += ", but the greatest number is 6"
         refused = f"{wrong} {refuses} check --file {self.box}/repaired/damaged.db: store 2 disk"
         not_run = f"{wrong} {missing} can't be run"
         in_frame = f"{nothing} in the frame from byte"
         whole = f"{nothing} no frame of the log is damaged"
-        cut = f"{nothing} 1 flipped bits are found, and the program still refuses the log: the journal next to it is empty or was cut"
+        cut = f"{nothing} 1 flipped bits are found, and the program still refuses the log: "
+        cut += "the journal next to it is empty or was cut"
         empty = f"{nothing} the journal's file is missing or empty"
         not_mended: list[tuple[str, dict[str, bytes], str | None, str]] = [
             ("a copy that lacks an answered entry", {"-newest": ahead}, None, lacks),
