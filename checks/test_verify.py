@@ -19,7 +19,6 @@
 import atexit
 import csv
 import functools
-import glob
 import hashlib
 import os
 import shutil
@@ -29,6 +28,7 @@ import subprocess
 import sys
 import tempfile
 from collections.abc import Mapping
+from pathlib import Path
 from typing import NoReturn
 
 from verify import COUNT, Log, checksum
@@ -36,7 +36,16 @@ from verify import COUNT, Log, checksum
 from checks import TOP
 from checks.lib.books import HEADER
 from checks.lib.case import Check
-from checks.lib.journal import ZEROS, digest_of, make_journal, newest_line, write_newest
+from checks.lib.journal import (
+    ZEROS,
+    change,
+    digest_of,
+    make_journal,
+    newest_line,
+    rows_of,
+    run_script,
+    write_newest,
+)
 from checks.lib.second_verifier import (
     Second,
     agree_with_check,
@@ -45,10 +54,11 @@ from checks.lib.second_verifier import (
     show_odd_exports,
     show_odd_fields,
     show_odd_numbers,
+    write_whole_witness,
 )
 from checks.lib.showing import fail, ok
+from checks.lib.verdict import files_of, write_files
 
-Digests = dict[int, str]  # of the entries of a journal, by number
 # A name, places, the bytes that are put there (None cuts the log), and the number of the frame that the readers name.
 Row = tuple[str, int | tuple[int, ...], bytes | None, int | None]
 
@@ -63,6 +73,7 @@ def second() -> Second:
 
 COLUMNS = HEADER.rstrip().split(",")
 ENDLESS = "CREATE VIEW journal AS WITH RECURSIVE r(n) AS (SELECT 1 UNION ALL SELECT n + 1 FROM r) SELECT n AS number FROM r"
+HEAVIER = "UPDATE journal SET gross_kg = 18360 WHERE number ="
 PURGE = "INSERT INTO spent SELECT request_key, number FROM journal WHERE number < 4; DELETE FROM journal WHERE number < 4"
 # Tables that take a text as a number, as no service makes them.
 LOOSE = """ALTER TABLE journal RENAME TO strict_journal; DROP TABLE spent; CREATE TABLE spent (request_key TEXT, number INTEGER);
@@ -72,7 +83,7 @@ interval_kg INTEGER, max_kg INTEGER, serial TEXT, digest TEXT, previous TEXT); I
 FALSIFIED = [
     ("", ""),
     (PURGE, ""),
-    ("UPDATE journal SET gross_kg = 18360 WHERE number = 3", "number 3 doesn't fit its digest"),
+    (f"{HEAVIER} 3", "number 3 doesn't fit its digest"),
     ("DELETE FROM journal WHERE number = 3", "number 3 is missing"),
     ("DELETE FROM journal WHERE number BETWEEN 3 AND 6", "numbers 3 to 6 are missing"),
     (
@@ -144,6 +155,20 @@ def said_of(path: str, *words: str) -> str:
     return out if it.returncode else ""
 
 
+def bytes_below(folder: str) -> dict[str, str]:
+    files = sorted(Path(folder).iterdir())
+    return {it.name: hashlib.sha256(it.read_bytes()).hexdigest() for it in files}
+
+
+def said_without_change(path: str) -> str:
+    """Return what the reader says about a journal. Fail if it changes a file in the journal's folder."""
+    folder = os.path.dirname(path)
+    before, said, after = bytes_below(folder), said_of(path), bytes_below(folder)
+    if before != after:
+        differs("the reader changed the files", before, after)
+    return said
+
+
 def tells(what: str, wanted: str, found: str) -> None:
     """Fail if `found` doesn't begin with `wanted`, or isn't empty if `wanted` is."""
     if not (found.startswith(wanted) if wanted else found == ""):
@@ -151,146 +176,29 @@ def tells(what: str, wanted: str, found: str) -> None:
     ok(what or "nothing")
 
 
-def run(path: str, script: str) -> None:
-    database = sqlite3.connect(path)
-    database.executescript(script)
-    database.close()
-
-
-def bytes_below(folder: str) -> dict[str, str]:
-    return {
-        name: hashlib.sha256(open(f"{folder}/{name}", "rb").read()).hexdigest()
-        for name in sorted(os.listdir(folder))
-    }
+def known(digests: dict[int, str], *numbers: int) -> list[str]:
+    """Return the words that name the digests of these entries to the reader."""
+    return [word for it in numbers for word in ("--known", str(it), digests[it])]
 
 
 def chained_anew(path: str, since: int) -> None:
     """Change the plate of an entry, and compute its digest and those of all later entries again."""
-    database, previous = sqlite3.connect(path), ZEROS
-    for number, key, plate, moment, gross, preset, most, serial in database.execute(
-        "SELECT number, request_key, plate, moment, gross_kg, preset_kg, max_kg, serial FROM journal ORDER BY number"
-    ).fetchall():
-        plate = "OTHER" if number == since else plate
-        digest = digest_of(
-            number,
-            key,
-            "single",
-            plate,
-            moment,
-            gross,
-            preset,
-            most=most,
-            serial=serial,
-            previous=previous,
-        )
-        database.execute(
-            "UPDATE journal SET plate = ?, previous = ?, digest = ? WHERE number = ?",
-            (plate, previous, digest, number),
-        )
+    change(path, f"UPDATE journal SET plate = 'OTHER' WHERE number = {since}")
+    parts = "number, request_key, 'single', plate, moment, gross_kg, preset_kg, max_kg, serial"
+    previous = ZEROS
+    for row in rows_of(path, f"SELECT {parts} FROM journal ORDER BY number"):
+        digest = digest_of(*row, previous)
+        new = f"previous = '{previous}', digest = '{digest}'"
+        change(path, f"UPDATE journal SET {new} WHERE number = {row[0]}")
         previous = digest
-    database.commit()
-    database.close()
 
 
-def copy_journal(path: str, to: str) -> None:
-    for end in ("", "-wal", "-newest"):
-        if os.path.exists(path + end):
-            shutil.copy(path + end, to + end)
-
-
-def digest_in(path: str, number: int) -> str:
-    database = sqlite3.connect(path)
-    (found,) = database.execute("SELECT digest FROM journal WHERE number = ?", (number,)).fetchone()
-    database.close()
-    return str(found)
-
-
-def show_witnesses(folder: str, kept: str, digests: Digests) -> None:
-    """Show what the reader says about each kind of `-newest` file, the witness."""
-    path = f"{folder}/witness.db"
-    shutil.copy(kept, path)
-    whole, torn = newest_line(8, digests[8]), newest_line(8, digests[8]).replace(
-        "newest 0000000008", "newest 0000000009"
-    )
-    for what, letters, wanted in (
-        (
-            "a journal whose witness is missing",
-            None,
-            f"not examined: whether entries are missing at the end, because {path}-newest isn't there",
-        ),
-        (
-            "one whose witness is empty",
-            "",
-            f"not examined: whether entries are missing at the end, because {path}-newest is empty",
-        ),
-        (
-            "one whose witness is torn in both lines",
-            torn * 2,
-            f"not examined: whether entries are missing at the end, because {path}-newest has no whole line",
-        ),
-        (
-            "one whose witness is torn in its first line",
-            torn + whole,
-            f"not examined: whether entries are missing at the end, because {path}-newest has only one whole line",
-        ),
-        (
-            "one whose witness is torn in its second line",
-            whole + torn,
-            f"not examined: whether entries are missing at the end, because {path}-newest has only one whole line",
-        ),
-        (
-            "one whose witness is cut to a line",
-            whole,
-            f"not examined: whether entries are missing at the end, because {path}-newest has only one whole line",
-        ),
-        (
-            "one whose witness is torn in one line and behind",
-            newest_line(7, digests[7]) + torn,
-            f"not examined: whether entries are missing at the end, because {path}-newest names number 7",
-        ),
-        (
-            "one whose witness is behind",
-            2 * newest_line(3, digests[3]),
-            f"not examined: whether entries are missing at the end, because {path}-newest names number 3",
-        ),
-        (
-            "one whose witness is a new journal's",
-            2 * newest_line(0, ZEROS),
-            f"not examined: whether entries are missing at the end, because {path}-newest names number 0",
-        ),
-        (
-            "one whose witness names its last two entries",
-            newest_line(8, digests[8]) + newest_line(7, digests[7]),
-            "",
-        ),
-        ("one whose witness has a number without a digest", 2 * newest_line(8, ZEROS), ""),
-        (
-            "one whose witness is ahead",
-            whole + newest_line(9, digests[8]),
-            f"number 9 is the newest that {path}-newest recorded, but the greatest number is 8",
-        ),
-        (
-            "one whose witness is ahead by many",
-            2 * newest_line(60, digests[8]),
-            f"number 60 is the newest that {path}-newest recorded, but the greatest number is 8",
-        ),
-        (
-            "one whose witness has another entry",
-            2 * newest_line(8, digests[7]),
-            f"number 8 differs from the entry that {path}-newest recorded",
-        ),
-    ):
-        if letters is None:
-            for it in glob.glob(f"{path}-newest"):
-                os.remove(it)
-        else:
-            with open(f"{path}-newest", "w", encoding="ascii") as file:
-                file.write(letters)
-        tells(what, wanted, said_of(path))
-    with open(f"{path}-newest", "w", encoding="ascii") as file:
-        file.write(2 * whole)
-    os.symlink(path, f"{folder}/link.db")
-    tells("a symbolic link to a journal", "", said_of(f"{folder}/link.db"))
+def open_with_log(path: str) -> sqlite3.Connection:
+    """Open a journal whose log keeps all that is written, until it is closed."""
+    database = sqlite3.connect(path, isolation_level=None)
+    for it in ("journal_mode = WAL", "wal_autocheckpoint = 0"):
+        database.execute(f"PRAGMA {it}")
+    return database
 
 
 def with_log(
@@ -301,240 +209,29 @@ def with_log(
     Return the content of its files by their endings. If `is_restarted`, restart the log before its last two entries, so that older frames follow.
     """
     make_journal(f"{path}-made", entries, age)
-    source = sqlite3.connect(f"{path}-made")
-    rows = source.execute("SELECT * FROM journal ORDER BY number").fetchall()
-    source.close()
+    rows = rows_of(f"{path}-made")
     make_journal(path, 0)
-    database = sqlite3.connect(path, isolation_level=None)
-    for it in ("journal_mode = WAL", "wal_autocheckpoint = 0"):
-        database.execute(f"PRAGMA {it}")
+    database = open_with_log(path)
     for at, row in enumerate(rows):
         if is_restarted and at == entries - 2:
             database.execute("PRAGMA wal_checkpoint(RESTART)")
         database.execute(f"INSERT INTO journal VALUES ({','.join('?' * 12)})", row)
     write_newest(path, entries, rows[-1][10])
-    files = {end: open(path + end, "rb").read() for end in ("", "-wal", "-newest")}
+    files = files_of(path)
     database.close()
     return files
 
 
-def said_of_files(folder: str, files: Mapping[str, bytes | None]) -> str:
-    """Return what the reader says about these files. Fail if it changes them."""
-    path = f"{folder}/files.db"
-    for end in ("", "-wal", "-newest"):
-        if os.path.exists(path + end):
-            os.remove(path + end)
-        if files.get(end) is not None:
-            with open(path + end, "wb") as file:
-                file.write(files[end] or b"")
-    said = said_of(path)
-    for end, data in files.items():
-        if data is not None and open(path + end, "rb").read() != data:
-            differs("the reader changed the files", end, "")
-    return said.replace(path, "files.db")
-
-
-def show_logs(folder: str) -> None:
-    files = with_log(f"{folder}/logged.db", 6)
-    log = files["-wal"]
-    page = int.from_bytes(log[8:12], "big")
-    borders = range(32, len(log) + 1, 24 + page)
-    tells("a journal whose entries are only in the log", "", said_of_files(folder, files))
-    ends = [at for at in borders[1:] if any(log[at - page - 20 : at - page - 16])]
-    for at in borders[:-1]:
-        entries = sum(it <= at for it in ends)
-        tells(
-            f"its log cut at byte {at}, the end of a frame",
-            f"number 6 is the newest that files.db-newest recorded, but the greatest number is {entries}, so the last answered entries are gone\n",
-            said_of_files(folder, files | {"-wal": log[:at]}),
-        )
-    for at in (0, 20, 31, borders[0] + 10, borders[1] - 1, borders[-2] + 24, len(log) - 1):
-        tells(
-            f"its log cut at byte {at}, within a frame",
-            "number 6 is the newest that files.db-newest recorded",
-            said_of_files(folder, files | {"-wal": log[:at]}),
-        )
-    tells(
-        "its log is gone",
-        "number 6 is the newest that files.db-newest recorded, but the greatest number is 0, so "
-        "the last answered entries are gone; or they are in files.db-wal, which isn't there: copy "
-        "all files of the journal\n",
-        said_of_files(folder, files | {"-wal": None}),
-    )
-    bare = f"{folder}/bare.db"
-    sqlite3.connect(bare).close()
-    write_newest(bare, 6, ZEROS)
-    tells(
-        "no table, and no log",
-        f"number 6 is the newest that {bare}-newest recorded, but the greatest number is 0, so the last answered entries are gone; or they are in {bare}-wal, which isn't there: copy all files of the journal\nnot examined: whether this is a journal, because it has none of the tables; they may be in {bare}-wal, which isn't there: copy all files of the journal\n",
-        said_of(bare),
-    )
-    tells(
-        "only the file",
-        "not examined: whether entries are missing at the end, because files.db-newest isn't there",
-        said_of_files(folder, {"": files[""]}),
-    )
-    tells(
-        "only the file and its log",
-        "not examined: whether",
-        said_of_files(folder, files | {"-newest": None}),
-    )
-    for bit in (0, 7, 8 * 5, 8 * 9 + 4, 8 * 16, 8 * 20 + 3, 8 * 24, 8 * 31 + 7):
-        tells(
-            f"bit {bit} of the log's header is flipped",
-            "files.db-wal: its header is damaged",
-            said_of_files(folder, files | {"-wal": turned(log, bit)}),
-        )
-    for at in borders[:-1]:
-        for part, inside in (
-            ("page number", 3),
-            ("size", 7),
-            ("salt", 9),
-            ("second salt", 15),
-            ("checksum", 17),
-            ("page", 24),
-            ("page", 24 + 1500),
-            ("page", 24 + page - 1),
-        ):
-            wanted = f"files.db-wal: it is damaged, in the frame from byte {at}: no entry in it is read, nor in the {len(borders) - 2 - borders.index(at)} frames behind it"
-            tells(
-                f"a bit of the {part} of the frame from byte {at} is flipped",
-                wanted,
-                said_of_files(folder, files | {"-wal": turned(log, 8 * (at + inside) + 5)}),
-            )
-    stale = with_log(f"{folder}/restarted.db", 6, is_restarted=True)
-    same_salts = {
-        stale["-wal"][at + 8 : at + 16] == stale["-wal"][16:24]
-        for at in range(32, len(stale["-wal"]), 24 + page)
-    }
-    tells(
-        "the log has frames of its own and of an older one",
-        "",
-        "" if same_salts == {True, False} else "it has not",
-    )
-    tells("frames that an older log left are no damage", "", said_of_files(folder, stale))
-    emptied = files | {"": bytes(len(files[""]))}
-    tells(
-        "a damaged log without whose entries the file is no journal",
-        "REFUSED files.db-wal: its header is damaged",
-        said_of_files(folder, emptied | {"-wal": turned(log, 8 * 9)}),
-    )
-    first = turned(stale["-wal"], 8 * (32 + 24 + 700))
-    tells(
-        "but a flipped bit before them is",
-        "files.db-wal: it is damaged, in the frame from byte 32",
-        said_of_files(folder, stale | {"-wal": first}),
-    )
-    other = with_log(f"{folder}/other.db", 9, age=3600)
-    tells(
-        "the log of another journal",
-        "number 6 differs from the entry that files.db-newest recorded",
-        said_of_files(folder, files | {"-wal": other["-wal"]}),
-    )
-    tells(
-        "a journal that was cut to nothing, with its log",
-        "REFUSED",
-        said_of_files(folder, files | {"": b""}).replace(
-            "files.db-wal: the journal next to it is empty", "REFUSED"
-        ),
-    )
-
-
-def show_pages(folder: str) -> None:
-    """Show that a journal has the pages that its header and its log name, as the program wants it."""
-    make_journal(f"{folder}/paged.db", 6)
-    with open(f"{folder}/paged.db", "rb") as file:
-        data = file.read()
-    logged = with_log(f"{folder}/paged_log.db", 6)
-    whole, log = logged[""], logged["-wal"]
-    page = int.from_bytes(data[16:18], "big")
-    count, there = len(data) // page, len(whole) // page
-    # the version of a program is a number in the first page
-    database = sqlite3.connect(f"{folder}/paged.db", isolation_level=None)
-    for it in ("journal_mode = WAL", "wal_autocheckpoint = 0", "user_version = 7"):
-        database.execute(f"PRAGMA {it}")
-    with open(f"{folder}/paged.db-wal", "rb") as file:
-        first_page = file.read()
-    with open(f"{folder}/paged.db", "rb") as file:
-        beside = file.read()
-    database.close()
-    refused = "files.db: its header names {} pages, and it has {}, so the program refuses it"
-    changed = (
-        "files.db: bytes 92 to 95 of its header aren't bytes 24 to 27, so the program refuses it"
-    )
-    for what, main_file, wal, wanted in (
-        ("a page more", data + bytes(page), None, refused.format(count, count + 1)),
-        ("bytes behind the last page", data + b"x", None, ""),
-        ("a byte less", data[:-1], None, refused.format(count, count - 1)),
-        ("no number of pages", data[:28] + bytes(4) + data[32:], None, refused.format(0, count)),
-        ("another last change", data[:92] + b"abcd" + data[96:], None, changed),
-        ("its log", whole, log, ""),
-        ("a page more, and its log", whole + bytes(page), log, ""),
-        (
-            "a byte less, and its log",
-            whole[:-1],
-            log,
-            f"files.db: its page {there} isn't whole, so the program refuses it",
-        ),
-        (
-            "another last change, and a log that has the first page",
-            beside[:92] + b"abcd" + beside[96:],
-            first_page,
-            "",
-        ),
-        ("another last change, and its log", whole[:92] + b"abcd" + whole[96:], log, changed),
-        (
-            "a page more, and a log that was shut",
-            data + bytes(page),
-            bytes(60),
-            refused.format(count, count + 1),
-        ),
-    ):
-        found = said_of_files(folder, {"": main_file, "-wal": wal})
-        told = "".join(f"{it}\n" for it in found.splitlines() if "so the program refuses it" in it)
-        if told != (wanted and f"{wanted}\n"):
-            differs(f"a journal with {what}", wanted, found)
-        ok(f"a journal with {what}")
-
-
-def show_unmade(folder: str) -> None:
-    """Show what both readers say of a journal that a power cut left while the program made it, and of files that are nearly such."""
-    head = struct.pack(">4I", 0x377F0682, 3007000, 4096, 2**32 - 1) + bytes(range(1, 9))
-    begun = head + struct.pack(">2I", *checksum("<", (0, 0), head))
-    counted = begun[:12] + bytes(4) + begun[16:24]
-    counted += struct.pack(">2I", *checksum("<", (0, 0), counted))
-    whole = with_log(f"{folder}/made.db", 3)
-    for what, file, log, is_unmade in (
-        ("a page of zeros next to a log that was begun", bytes(4096), begun, True),
-        ("its log has zeros, too", bytes(4096), begun + bytes(9), True),
-        ("its log has room for a frame", bytes(4096), begun + bytes(9_000), True),
-        ("a part of the page", bytes(100), begun + bytes(9), True),
-        ("a byte of the page", b"\0", begun, True),
-        ("a byte, and no log", b"S", None, True),
-        ("all but the first byte", b"\0QLite format 3" + bytes(4081), begun, True),
-        ("zeros, and no log", bytes(4096), None, False),
-        ("zeros, and a log of zeros", bytes(4096), bytes(41), False),
-        ("zeros, and a cut header", bytes(4096), begun[:31], False),
-        ("zeros, and a header after a checkpoint", bytes(4096), counted, False),
-        ("more than a page of zeros", bytes(4097), begun, False),
-        ("a page with another first byte", b"x" + bytes(4095), begun, False),
-        (
-            "a part of the page, and a log with room for a frame",
-            bytes(100),
-            begun + bytes(9_000),
-            False,
-        ),
-        ("zeros, and a log with entries", bytes(4096), whole["-wal"], False),
-    ):
-        found = said_of_files(folder, {"": file, "-wal": log})
-        none = "not examined: whether this is a journal, because it has none of the tables"
-        if found.startswith(none) != is_unmade:
-            differs(f"a journal that was being made: {what}", is_unmade, found)
-        ok(f"a journal that was being made: {what}")
+def turned(data: bytes, bit: int) -> bytes:
+    """Return the data with one bit turned over."""
+    found = bytearray(data)
+    found[bit // 8] ^= 1 << bit % 8
+    return bytes(found)
 
 
 PAGE, FILE, SALTS = 512, 1024, bytes([7, 1, 2, 3, 4, 5, 6, 9])
-FRAMES = [32 + it * (24 + PAGE) for it in range(6)]
+FRAME = 24 + PAGE
+FRAMES = [32 + it * FRAME for it in range(6)]
 
 
 def service_log(is_spilled: bool = False) -> bytes:
@@ -555,530 +252,95 @@ def service_log(is_spilled: bool = False) -> bytes:
         front = struct.pack(">2I", number, size)
         total = checksum("<", total, front + content)
         log += front + SALTS + struct.pack(">2I", *total) + content
-    return log + bytes(2 * (24 + PAGE))
-
-
-def show_what_a_power_cut_leaves() -> None:
-    """Show that a power cut's changes to the last commit are no damage, and that other changes are.
-
-    A power cut takes bytes of the last commit, which are 0 then, because the service wrote it over zeros.
-
-    Each row has a name, the place, the new bytes (None cuts the log there), and the number of the frame that the reader names. -1 stands for the
-    header, and None for no damage.
-    """
-    whole, frame = service_log(), FRAMES
-    rows: list[Row] = [
-        ("nothing", 0, b"", None),
-        ("a byte of the header", 5, b"\x09", -1),
-        ("a salt of the header", 16, b"\x08", -1),
-        ("a header that a checkpoint shut", 0, b"\0", None),
-        ("a header's first byte", 0, b"\x01", -1),
-        ("a page behind which commits stand", frame[0] + 224, b"\x09", 0),
-        ("a checksum behind which commits stand", frame[1] + 20, b"\x09", 1),
-        ("bytes lost of a commit behind which another stands", frame[3] + 224, bytes(9), 3),
-        ("a gate that is shut before a commit that is open", frame[2] + 8, b"\0", 2),
-        ("a gate that is damaged", frame[2] + 8, b"\x06", 2),
-        ("a salt lost before a commit that is open", frame[2] + 8, bytes(8), 2),
-        ("a lost frame of a commit of two syncs", frame[0], bytes(24 + PAGE), 0),
-        ("another lost frame of it", frame[1], bytes(24 + PAGE), 1),
-        ("a lost frame that counts, before another commit", frame[2], bytes(24 + PAGE), 2),
-        ("a lost end of a commit before another", frame[3], bytes(24 + PAGE), 3),
-        ("a lost commit before another", frame[2], bytes(2 * (24 + PAGE)), 2),
-        ("a commit of two syncs, shut before others", frame[0] + 8, b"\0", 0),
-        ("the last frame shut", frame[5] + 8, b"\0", None),
-        ("one salt of the last frame is another", frame[5] + 9, b"\x09\x09\x09", 5),
-        ("the last commit shut", frame[4] + 8, b"\0", None),
-        ("the last commit lost", frame[4], bytes(2 * (24 + PAGE)), None),
-        ("its last frame lost", frame[5], bytes(24 + PAGE), None),
-        ("bytes of its page lost", frame[5] + 224, bytes(9), None),
-        ("a byte of its checksum lost", frame[5] + 16, b"\0", None),
-        ("its count lost", frame[4] + 24, bytes(8), None),
-        ("another byte in its page", frame[5] + 224, b"\x09", 5),
-        ("another byte in its salt", frame[5] + 9, b"\x09", 5),
-        ("another byte in its number", frame[4] + 3, b"\x01", 4),
-        ("another byte in its count", frame[4] + 24, b"\x01", 4),
-        ("the end of the file within a frame", frame[5] + 500, None, None),
-        ("a frame of a log before this one at the end", frame[4] + 8, b"\x07\x01\x02\x02abcd", 4),
-        (
-            "frames of a log before this one at the end",
-            (frame[4] + 8, frame[5] + 8),
-            b"\x07\x01\x02\x02abcd",
-            None,
-        ),
-    ]
-    spilled: list[Row] = [
-        ("nothing", 0, b"", None),
-        ("its shut gate", frame[2] + 8, b"\0", None),
-        ("its lost first frame", frame[2], bytes(24 + PAGE), None),
-        ("a shut frame within its first commit", frame[3] + 8, b"\0", 3),
-        ("a lost frame before it", frame[1], bytes(24 + PAGE), 1),
-        ("salts of a log before this one", frame[2] + 8, b"\x07\x01\x02\x02abcd", 2),
-    ]
-    # frames of a transaction that was never opened, behind the zeros of the last commit or within them
-    behind = service_log(True)[frame[2] : frame[4]] + service_log(True)[frame[2] : frame[4]]
-    unopened = [
-        (whole + bytes(length - len(whole) + frame[4]) + behind, what, at, new, wanted)
-        for length, what, at, new, wanted in (
-            (
-                600 * (24 + PAGE),
-                "a page lost before frames that weren't opened",
-                frame[5] + 224,
-                bytes(9),
-                None,
-            ),
-            (
-                600 * (24 + PAGE),
-                "a last commit lost before them",
-                frame[4],
-                bytes(2 * (24 + PAGE)),
-                None,
-            ),
-            (600 * (24 + PAGE), "another byte before them", frame[5] + 224, b"\x09", 5),
-            (
-                60 * (24 + PAGE),
-                "a page lost within its zeros before them",
-                frame[5] + 224,
-                bytes(9),
-                5,
-            ),
-        )
-    ]
-    for log, what, at, new, wanted in [
-        *unopened,
-        *((whole, *it) for it in rows),
-        *(
-            (service_log(True), f"a transaction that didn't fit, {it[0]},", *it[1:])
-            for it in spilled
-        ),
-    ]:
-        data = bytearray(log)
-        for place in at if isinstance(at, tuple) else (at,):
-            data[place : None if new is None else place + len(new)] = new or b""
-        found = Log(bytes(data)).damage(FILE)
-        is_so = (
-            found is None
-            if wanted is None
-            else "header is damaged" in (found or "")
-            if wanted < 0
-            else f"from byte {frame[wanted]}:" in (found or "")
-        )
-        if not is_so:
-            differs(f"{what} in a log of the service", wanted, found)
-        # next to a file that is no database, so that both say what they find in the log
-        with tempfile.TemporaryDirectory() as folder:
-            for end, content in (("", bytes(FILE)), ("-wal", bytes(data))):
-                with open(f"{folder}/service.db{end}", "wb") as file:
-                    file.write(content)
-            said_by_both(second(), [f"{folder}/service.db"])
-        ok(f"{what} in a log of the service")
-    for size, length, is_damaged in (
-        (0, len(whole), True),
-        (511, len(whole), True),
-        (0, 56, True),
-        (0, 55, True),
-        (0, 31, False),
-        (FILE, 55, False),
-    ):
-        if (Log(whole[:length]).damage(size) is not None) != is_damaged:
-            differs(f"a log of {length} bytes with a file of {size}", is_damaged, not is_damaged)
-    # a right header counts without a file, whatever length of a page it names
-    odd = struct.pack(">4I", 0x377F0682, 3007000, 100, 0) + SALTS
-    odd += struct.pack(">2I", *checksum("<", (0, 0), odd)) + bytes(9)
-    if Log(odd).damage(0) is None:
-        differs("a right header with an odd length of a page, without a file", True, False)
-    with tempfile.TemporaryDirectory() as folder:
-        for end, content in (("", b""), ("-wal", odd)):
-            with open(f"{folder}/odd.db{end}", "wb") as file:
-                file.write(content)
-        if said_by_both(second(), [f"{folder}/odd.db"]).returncode == 0:
-            differs("both verifiers, of a right header without a file", "refused", "accepted")
-    ok("a log with a file that was cut")
-
-
-def mended(
-    folder: str, files: Mapping[str, bytes | None], program: str | None = None
-) -> tuple[int, str, bytes | None]:
-    """Run inspect/mend_log.py. Return its status, what it prints, and the log that it makes, or None if it makes none."""
-    path, copy = f"{folder}/damaged.db", f"{folder}/repaired"
-    for end in ("", "-wal", "-newest"):
-        if os.path.exists(path + end):
-            os.remove(path + end)
-        if files.get(end) is not None:
-            with open(path + end, "wb") as file:
-                file.write(files[end] or b"")
-    words = [
-        sys.executable,
-        f"{TOP}/inspect/mend_log.py",
-        path,
-        copy,
-        *(["--program", program] if program else []),
-    ]
-    it = subprocess.run(
-        words, capture_output=True, text=True, timeout=300, env={**os.environ, "PATH": "/nowhere"}
-    )
-    for end, data in files.items():
-        if data is not None and open(path + end, "rb").read() != data:
-            differs("the files were changed in place", end, "")
-    log = None
-    if os.path.exists(copy):
-        with open(f"{copy}/damaged.db-wal", "rb") as file:
-            log = file.read()
-        shutil.rmtree(copy)
-    return it.returncode, it.stdout + it.stderr, log
-
-
-def show_mending(folder: str) -> None:
-    """Show which flipped bits inspect/mend_log.py finds, and what it says is still wrong."""
-    files = with_log(f"{folder}/mending.db", 6)
-    log = files["-wal"]
-    page = int.from_bytes(log[8:12], "big")
-    frame = [32 + it * (24 + page) for it in range((len(log) - 32) // (24 + page))]
-    bit_in = {it: 8 * (at + 24 + 1700) + it % 8 for it, at in enumerate(frame)}
-    for what, bits in (
-        ("a flipped bit", [bit_in[2]]),
-        ("one in the header", [8 * 9 + 4]),
-        ("one in the last frame", [bit_in[len(frame) - 1]]),
-        ("one in the salt", [8 * (frame[3] + 9) + 1]),
-        ("one in a checksum", [8 * (frame[3] + 18) + 1]),
-        ("two, in frames far from each other", [bit_in[1], bit_in[6]]),
-        ("two, in frames side by side", [bit_in[4], bit_in[5]]),
-        ("three, and one in the header", [8 * 5, bit_in[0], bit_in[1], bit_in[7]]),
-    ):
-        damaged = log
-        for bit in bits:
-            damaged = turned(damaged, bit)
-        status, said, found = mended(folder, files | {"-wal": damaged})
-        if (status, found) != (0, log) or said.count(" was flipped: ") != len(bits):
-            differs(f"{what} is repaired", 0, (status, said))
-        ok(f"repaired: {what}")
-    damaged = turned(log, bit_in[2])
-    refuses, takes = (played_program(folder, it) for it in ("refuses", "takes"))
-    ahead = newest_line(7, digest_in(f"{folder}/mending.db-made", 6)).encode() * 2
-    not_mended: list[tuple[str, dict[str, bytes], str | None, str, bool]] = [
-        (
-            "a copy that lacks an answered entry",
-            {"-newest": ahead},
-            None,
-            "still wrong: number 7 is the newest that the copy-newest recorded, but the greatest number is 6",
-            True,
-        ),
-        (
-            "a copy that the program refuses",
-            {},
-            refuses,
-            f"still wrong: {refuses} check --file {folder}/repaired/damaged.db: store 2 disk",
-            True,
-        ),
-        (
-            "a copy for which there is no such program",
-            {},
-            "/nowhere/weighbridge",
-            "still wrong: /nowhere/weighbridge can't be run",
-            True,
-        ),
-        (
-            "two bits in one frame",
-            {"-wal": turned(damaged, bit_in[2] + 800)},
-            None,
-            "nothing was written: in the frame from byte",
-            False,
-        ),
-        (
-            "two in one frame behind one that is repaired",
-            {"-wal": turned(turned(damaged, bit_in[5]), bit_in[5] + 800)},
-            None,
-            "nothing was written: in the frame from byte",
-            False,
-        ),
-        (
-            "a log that isn't damaged",
-            {"-wal": log},
-            None,
-            "nothing was written: no frame of the log is damaged",
-            False,
-        ),
-        (
-            "a log that was cut at the end of a frame",
-            {"-wal": log[: frame[4]]},
-            None,
-            "nothing was written: no frame of the log is damaged",
-            False,
-        ),
-        (
-            "a log that was cut within a frame",
-            {"-wal": log[: frame[4] + 99]},
-            None,
-            "nothing was written: no frame of the log is damaged",
-            False,
-        ),
-        (
-            "a file that was cut below a page",
-            {"": files[""][:99]},
-            None,
-            "nothing was written: 1 flipped bits are found, and the program still refuses the log: the journal next to it is empty or was cut",
-            False,
-        ),
-        (
-            "a file that was cut to nothing",
-            {"": b""},
-            None,
-            "nothing was written: the journal's file is missing or empty",
-            False,
-        ),
-    ]
-    for what, given, program, wanted, is_made in not_mended:
-        status, said, found = mended(folder, files | {"-wal": damaged} | given, program)
-        if status != 1 or wanted not in said or (found is not None) != is_made:
-            differs(
-                f"{what} isn't a repaired one",
-                (1, wanted, is_made),
-                (status, said, found is not None),
-            )
-        ok(f"not repaired: {what}")
-    status, said, found = mended(folder, files | {"-wal": damaged}, takes)
-    if (status, found) != (0, log):
-        differs("a copy that the program takes", 0, (status, said))
-    status, said, found = mended(folder, files | {"-wal": None})
-    if (status, found) != (2, None) or "damaged.db-wal: No such file" not in said:
-        differs("a log that is gone", 2, (status, said))
-    ok("a copy that the program takes, and a log that is gone")
+    return log + bytes(2 * FRAME)
 
 
 def played_program(folder: str, what: str) -> str:
     """Write a program that accepts each journal if `what` is `takes`, and refuses each if it is `refuses`."""
-    path = f"{folder}/{what}"
-    with open(path, "w", encoding="ascii") as file:
-        file.write(f"#!/bin/sh\n[ {what} = takes ] && exit 0\necho store 2 disk >&2\nexit 1\n")
-    os.chmod(path, 0o700)
-    return path
-
-
-def turned(data: bytes, bit: int) -> bytes:
-    """Return the data with one bit turned over."""
-    found = bytearray(data)
-    found[bit // 8] ^= 1 << bit % 8
-    return bytes(found)
-
-
-def show_papers(folder: str, kept: str, digests: Digests) -> None:
-    """Printouts of purged entries, and two digests of one number: an export, a second printout or neither must not hide the false one."""
-    purged, export = f"{folder}/purged.db", f"{folder}/export.csv"
-    copy_journal(kept, purged)
-    run(purged, PURGE)
-    for what, path, words, wanted in (
-        ("a paper of a purged entry, and an export that has it", purged, ("2", digests[2]), ""),
-        (
-            "a false paper of a purged entry, and an export that has it",
-            purged,
-            ("2", ZEROS),
-            f"number 2 has different digests in --known and {export}: one of them is false",
-        ),
-        (
-            "a false paper of a stored entry, and an export that has it",
-            kept,
-            ("7", ZEROS),
-            f"number 7 has different digests in --known and {export}: one of them is false",
-        ),
-    ):
-        tells(what, wanted, said_of(path, "--known", *words, "--against", export))
-    for both in ((digests[7], ZEROS), (ZEROS, digests[7])):
-        known = [word for digest in both for word in ("--known", "7", digest)]
-        tells(
-            "two papers of one number",
-            "number 7 has different digests in --known and --known: one of them is false",
-            said_of(kept, *known),
-        )
-    tells(
-        "a false paper, and no export",
-        "number 7 doesn't have the known digest",
-        said_of(kept, "--known", "7", ZEROS),
-    )
+    path = Path(folder, what)
+    script = f"#!/bin/sh\n[ {what} = takes ] && exit 0\necho store 2 disk >&2\nexit 1\n"
+    path.write_text(script, encoding="ascii")
+    path.chmod(0o700)
+    return str(path)
 
 
 FALSE = "the given digest was mistyped or isn't of this journal"
 AGAIN, PRINTED = "digests were computed again", "was printed or exported"
-# A script that changes a journal of eight entries, the numbers that are known with the right digest and with another one, and all that the reader prints.
-KNOWN: list[tuple[str, list[int], list[int], str]] = [
-    ("", [7], [], "number 7 has the known digest\nentries: 8, faults: 0"),
-    (
-        "",
-        [3, 8],
-        [7],
-        f"number 7 doesn't have the known digest: {AGAIN} after number 3, at the latest from number 7 on, and before number 8 {PRINTED}, or {FALSE}\n"
-        "number 3 has the known digest\nnumber 8 has the known digest\nentries: 8, faults: 1",
+OLDEST = ", perhaps from the oldest entry on"
+
+
+def other(number: int, since: str, before: int = 0, more: str = "") -> str:
+    """Return the reader's line about a known digest that isn't the entry's, where `before` is the number of a later printout that fits."""
+    again = f"{AGAIN}{since}, at the latest from number {number} on"
+    again += f", and before number {before} {PRINTED}" if before else ""
+    return f"number {number} doesn't have the known digest{more}: {again}, or {FALSE}\n"
+
+
+# All that the reader prints about a journal of eight entries, by a script that changes the journal, and the numbers that are known with the right digest and with
+# another one.
+KNOWN: dict[tuple[str, tuple[int, ...], tuple[int, ...]], str] = {
+    ("", (7,), ()): "number 7 has the known digest\nentries: 8, faults: 0",
+    ("", (3, 8), (7,)): (
+        other(7, " after number 3", before=8)
+        + "number 3 has the known digest\nnumber 8 has the known digest\nentries: 8, faults: 1"
     ),
-    (
-        "",
-        [8],
-        [5, 6],
-        f"number 5 doesn't have the known digest (and 1 more): {AGAIN}, perhaps from the oldest entry on, at the latest from number 5 on, and before number 8 {PRINTED}, or {FALSE}\n"
-        "number 8 has the known digest\nentries: 8, faults: 1",
+    ("", (8,), (5, 6)): (
+        other(5, OLDEST, before=8, more=" (and 1 more)")
+        + "number 8 has the known digest\nentries: 8, faults: 1"
     ),
-    (
-        "",
-        [],
-        [7],
-        f"number 7 doesn't have the known digest: {AGAIN}, perhaps from the oldest entry on, at the latest from number 7 on, or {FALSE}\n"
-        "entries: 8, faults: 1",
+    ("", (), (7,)): other(7, OLDEST) + "entries: 8, faults: 1",
+    ("", (2, 3), (6, 7)): (
+        other(6, " after number 3", more=" (and 1 more)")
+        + "number 2 has the known digest\nnumber 3 has the known digest\nentries: 8, faults: 1"
     ),
-    (
-        "",
-        [2, 3],
-        [6, 7],
-        f"number 6 doesn't have the known digest (and 1 more): {AGAIN} after number 3, at the latest from number 6 on, or {FALSE}\n"
-        "number 2 has the known digest\nnumber 3 has the known digest\nentries: 8, faults: 1",
+    ("", (6,), (4, 7)): (
+        other(4, OLDEST, before=6)
+        + other(7, " after number 6")
+        + "number 6 has the known digest\nentries: 8, faults: 2"
     ),
-    (
-        "",
-        [6],
-        [4, 7],
-        f"number 4 doesn't have the known digest: {AGAIN}, perhaps from the oldest entry on, at the latest from number 4 on, and before number 6 {PRINTED}, or {FALSE}\n"
-        f"number 7 doesn't have the known digest: {AGAIN} after number 6, at the latest from number 7 on, or {FALSE}\n"
-        "number 6 has the known digest\nentries: 8, faults: 2",
-    ),
-    (
-        "UPDATE journal SET gross_kg = 18360 WHERE number = 7",
-        [2, 7, 8],
-        [5],
+    (f"{HEAVIER} 7", (2, 7, 8), (5,)): (
         "number 7 doesn't fit its digest\n"
-        f"number 5 doesn't have the known digest: {AGAIN} after number 2 and before number 7, at the latest from number 5 on, or {FALSE}\n"
-        "number 2 has the known digest\nnumber 8 has the known digest\nentries: 8, faults: 2",
+        + other(5, " after number 2 and before number 7")
+        + "number 2 has the known digest\nnumber 8 has the known digest\nentries: 8, faults: 2"
     ),
-    (
-        "UPDATE journal SET gross_kg = 18360 WHERE number = 8",
-        [8],
-        [7],
+    (f"{HEAVIER} 8", (8,), (7,)): (
         "number 8 doesn't fit its digest\n"
-        f"number 7 doesn't have the known digest: {AGAIN} before number 8, perhaps from the oldest entry on, at the latest from number 7 on, or {FALSE}\n"
-        "entries: 8, faults: 2",
+        + other(7, f" before number 8{OLDEST}")
+        + "entries: 8, faults: 2"
     ),
-    (
-        "UPDATE journal SET gross_kg = 18360 WHERE number = 2",
-        [8],
-        [5],
+    (f"{HEAVIER} 2", (8,), (5,)): (
         "number 2 doesn't fit its digest\n"
-        f"number 5 doesn't have the known digest: {AGAIN}, perhaps from the oldest entry on, at the latest from number 5 on, and before number 8 {PRINTED}, or {FALSE}\n"
-        "number 8 has the known digest\nentries: 8, faults: 2",
+        + other(5, OLDEST, before=8)
+        + "number 8 has the known digest\nentries: 8, faults: 2"
     ),
-    (
-        "DELETE FROM journal WHERE number = 7",
-        [8],
-        [5],
+    ("DELETE FROM journal WHERE number = 7", (8,), (5,)): (
         "number 7 is missing\n"
-        f"number 5 doesn't have the known digest: {AGAIN} before number 8, perhaps from the oldest entry on, at the latest from number 5 on, or {FALSE}\n"
-        "number 8 has the known digest\nentries: 7, faults: 2",
+        + other(5, f" before number 8{OLDEST}")
+        + "number 8 has the known digest\nentries: 7, faults: 2"
     ),
-    (
-        "DELETE FROM journal WHERE number = 3",
-        [3],
-        [],
-        "number 3 is missing\nthe known number 3 is missing: it was removed, and not by a purge\nentries: 7, faults: 2",
+    ("DELETE FROM journal WHERE number = 3", (3,), ()): (
+        "number 3 is missing\n"
+        "the known number 3 is missing: it was removed, and not by a purge\nentries: 7, faults: 2"
     ),
-    (
-        "",
-        [],
-        [9, 12],
-        "the known number 9 is missing (and 1 more): it was removed, or was never in this journal, whose greatest number is 8\nentries: 8, faults: 1",
+    ("", (), (9, 12)): (
+        "the known number 9 is missing (and 1 more): it was removed, "
+        "or was never in this journal, whose greatest number is 8\nentries: 8, faults: 1"
     ),
-    (
-        PURGE,
-        [3],
-        [],
-        "number 3 was purged, and number 4 holds its known digest\nentries: 5, faults: 0",
+    (PURGE, (3,), ()): (
+        "number 3 was purged, and number 4 holds its known digest\nentries: 5, faults: 0"
     ),
-    (
-        PURGE,
-        [],
-        [3],
-        f"number 4 isn't chained to the known number 3: number 4 was changed or replaced, or {FALSE}\nentries: 5, faults: 1",
+    (PURGE, (), (3,)): (
+        "number 4 isn't chained to the known number 3: number 4 was changed or replaced, "
+        f"or {FALSE}\nentries: 5, faults: 1"
     ),
-    (
-        PURGE,
-        [4],
-        [3],
-        f"number 4 isn't chained to the known number 3: {AGAIN} before number 4 {PRINTED}, or {FALSE}\n"
-        "number 4 has the known digest\nentries: 5, faults: 1",
+    (PURGE, (4,), (3,)): (
+        f"number 4 isn't chained to the known number 3: {AGAIN} before number 4 {PRINTED}, "
+        f"or {FALSE}\nnumber 4 has the known digest\nentries: 5, faults: 1"
     ),
-    (
-        f"{PURGE}; UPDATE journal SET gross_kg = 18360 WHERE number = 4",
-        [3, 8],
-        [],
-        "number 4 doesn't fit its digest\nnumber 8 has the known digest\nentries: 5, faults: 1",
+    (f"{PURGE}; {HEAVIER} 4", (3, 8), ()): (
+        "number 4 doesn't fit its digest\nnumber 8 has the known digest\nentries: 5, faults: 1"
     ),
-]
-
-
-def show_known(folder: str, kept: str, digests: Digests) -> None:
-    """Show all that the readers print about printouts and exports, even if each of them is genuine."""
-    path, export = f"{folder}/known.db", f"{folder}/export.csv"
-
-    def is_said(what: str, wanted: str, *words: str) -> None:
-        it = said_by_both(second(), [path, *words])
-        found = (it.stdout or it.stderr).decode().replace(folder, "")
-        if found != f"{wanted}\n":
-            differs(what, wanted, found)
-        ok(what)
-
-    def words_of(right: list[int], other: list[int]) -> list[str]:
-        known = [(number, digests.get(number, ZEROS)) for number in right]
-        known += [(number, ZEROS) for number in other]
-        return [word for number, digest in known for word in ("--known", str(number), digest)]
-
-    for script, right, other, wanted in KNOWN:
-        copy_journal(kept, path)
-        run(path, script)
-        is_said(f"known: {right} right, {other} not; {script}f", wanted, *words_of(right, other))
-    # digests were computed again after 7 was printed and before 8 was: the printout of 7 is genuine, and must not be called false
-    copy_journal(kept, path)
-    chained_anew(path, 5)
-    write_newest(path, 8, digest_in(path, 8))
-    is_said(
-        "a printout from before a change, and one that the service made after it",
-        f"number 7 doesn't have the known digest: {AGAIN} after number 4, at the latest from number 7 on, and before number 8 {PRINTED}, or {FALSE}\n"
-        "number 4 has the known digest\nnumber 8 has the known digest\nentries: 8, faults: 1",
-        *("--known", "4", digests[4], "--known", "7", digests[7]),
-        *("--known", "8", digest_in(path, 8)),
-    )
-    copy_journal(kept, path)
-    is_said(
-        "an export that fits, named twice",
-        "/export.csv: 8 of 8 digests are those of stored entries\nentries: 8, faults: 0",
-        *("--against", export) * 2,
-    )
-    run(path, PURGE)
-    is_said(
-        "a printout of a purged entry, and an export that has it",
-        "number 2 was purged, and /export.csv has its known digest\n"
-        "/export.csv: 5 of 8 digests are those of stored entries\nentries: 5, faults: 0",
-        *("--known", "2", digests[2], "--against", export),
-    )
-    run(path, "UPDATE journal SET gross_kg = 18360 WHERE number = 5")
-    is_said(
-        "an export of an entry that was changed, and kept its digest",
-        "number 5 doesn't fit its digest\n/export.csv: 4 of 8 digests are those of stored entries\nentries: 5, faults: 1",
-        *("--against", export),
-    )
-    os.remove(path)
-    make_journal(path, 8, version=1)
-    write_newest(path, 8, ZEROS)
-    is_said(
-        "a journal of version 1, whose entries aren't chained",
-        f"number 7 doesn't have the known digest: {AGAIN} before number 8, perhaps from the oldest entry on, at the latest from number 7 on, or {FALSE}\n"
-        "number 8 has the known digest\nentries: 8, faults: 1",
-        *("--known", "8", digest_in(path, 8), "--known", "7", ZEROS),
-    )
-    wanted = "type all 64 of 0 to 9 and a to f, in small letters and without blanks"
-    for digest, what in (
-        (digests[3].upper(), "a character that no digest has"),
-        (digests[3][:4] + " " + digests[3][4:], "65 characters"),
-        (digests[3][:62] + "é", "63 characters"),
-        (digests[3][:63] + "é", "a character that no digest has"),
-    ):
-        is_said(
-            f"a digest with {what}",
-            f"verify.py: /known.db: --known: the digest of number 3 has {what}: {wanted}",
-            *("--known", "3", digest),
-        )
+}
 
 
 class Verify(Check):
@@ -1089,66 +351,59 @@ class Verify(Check):
 
     def setUp(self) -> None:
         self.box = self.folder()
-        self.kept = f"{self.box}/kept.db"
+        os.mkdir(f"{self.box}/only")  # a folder that has nothing but the files of one journal
+        self.kept, self.export = f"{self.box}/kept.db", f"{self.box}/export.csv"
         make_journal(self.kept, 8)
-        database = sqlite3.connect(self.kept)
-        rows = database.execute("SELECT * FROM journal ORDER BY number").fetchall()
-        database.close()
-        self.digests: Digests = {row[0]: row[10] for row in rows}
+        rows = rows_of(self.kept)
+        self.digests: dict[int, str] = {row[0]: row[10] for row in rows}
         write_newest(self.kept, 8, self.digests[8])
-        with open(f"{self.box}/export.csv", "w", newline="", encoding="utf-8") as file:
+        with open(self.export, "w", newline="", encoding="utf-8") as file:
             csv.writer(file).writerows([COLUMNS, *rows])
 
+    def copy(self, name: str) -> str:
+        """Copy the journal of eight entries, and return the path of the copy."""
+        path = f"{self.box}/{name}"
+        write_files(path, files_of(self.kept))
+        return path
+
+    def said_of_files(self, files: Mapping[str, bytes | None]) -> str:
+        """Return what the reader says about these files. Fail if it changes them."""
+        path = f"{self.box}/only/files.db"
+        write_files(path, files)
+        return said_without_change(path).replace(path, "files.db")
+
     def test_scripts(self) -> None:
-        folder, kept = self.box, self.kept
-        for at, (script, wanted) in enumerate(FALSIFIED):
-            path = f"{folder}/{at}/journal.db"
-            os.mkdir(f"{folder}/{at}")
-            copy_journal(kept, path)
-            run(path, script)
-            before = bytes_below(f"{folder}/{at}")
-            tells(script, wanted, said_of(path))
-            if before != bytes_below(f"{folder}/{at}"):
-                differs(
-                    f"{script}: the reader changed the files", before, bytes_below(f"{folder}/{at}")
-                )
+        for script, wanted in FALSIFIED:
+            path = self.copy("only/journal.db")
+            run_script(path, script)
+            tells(script, wanted, said_without_change(path))
 
     def test_version_1_and_no_file(self) -> None:
-        folder = self.box
-        old = f"{folder}/old.db"
+        old = f"{self.box}/old.db"
         make_journal(old, 8, version=1)
         write_newest(old, 8, ZEROS)
         tells("a journal of version 1", "", said_of(old))
-        tells("no file", "REFUSED it isn't there", said_of(f"{folder}/none.db"))
+        tells("no file", "REFUSED it isn't there", said_of(f"{self.box}/none.db"))
 
     def test_change_in_the_log(self) -> None:
-        folder, kept = self.box, self.kept
-        os.mkdir(f"{folder}/log")
-        path = f"{folder}/log/journal.db"
-        copy_journal(kept, path)
-        database = sqlite3.connect(path)
-        database.execute("PRAGMA journal_mode = WAL")
-        database.execute("UPDATE journal SET gross_kg = 18360 WHERE number = 8")
-        database.commit()
-        before = bytes_below(f"{folder}/log")
-        tells("a change that is only in the log", "number 8 doesn't fit its digest", said_of(path))
-        if before != bytes_below(f"{folder}/log"):
-            differs("a log: the reader changed the files", before, bytes_below(f"{folder}/log"))
+        path = self.copy("only/journal.db")
+        database = open_with_log(path)
+        database.execute(f"{HEAVIER} 8")
+        said = said_without_change(path)
+        tells("a change that is only in the log", "number 8 doesn't fit its digest", said)
         database.close()
 
     def test_chain_that_was_made_again(self) -> None:
-        folder, kept, digests = self.box, self.kept, self.digests
-        anew = f"{folder}/anew.db"
-        copy_journal(kept, anew)
+        digests, anew = self.digests, self.copy("anew.db")
         chained_anew(anew, 4)
         tells(
             "a chain that was made again, with its witness from before",
             f"number 8 differs from the entry that {anew}-newest recorded",
             said_of(anew),
         )
-        write_newest(anew, 8, digest_in(anew, 8))
+        write_whole_witness(anew)
         tells("a new chain, with a new witness and without a printout", "", said_of(anew))
-        tells("with a paper from before it", "", said_of(anew, "--known", "3", digests[3]))
+        tells("with a paper from before it", "", said_of(anew, *known(digests, 3)))
         for what, number, digest, wanted in (
             ("a digest that was shortened", "3", digests[3][:8], "the digest of number 3 has 8 "),
             ("a digest with points", "3", f"{digests[3][:4]}..", "the digest of number 3 has "),
@@ -1157,74 +412,490 @@ class Verify(Check):
             ("a number past the last", "4294967296", digests[3], "4294967296 is no number"),
         ):
             tells(what, f"REFUSED --known: {wanted}", said_of(anew, "--known", number, digest))
-        known = ["--known", "2", digests[2], "--known", "7", digests[7]]
-        tells(
-            "with papers of both sides",
-            "number 7 doesn't have the known digest: digests were computed again after number 2, at the latest from number 7 on",
-            said_of(anew, *known),
-        )
+        wanted = other(7, " after number 2")
+        tells("with papers of both sides", wanted, said_of(anew, *known(digests, 2, 7)))
         tells(
             "with an older export",
-            "number 4 doesn't have the known digest (and 4 more): digests were computed again after number 3,",
-            said_of(anew, "--against", f"{folder}/export.csv"),
+            f"number 4 doesn't have the known digest (and 4 more): {AGAIN} after number 3,",
+            said_of(anew, "--against", self.export),
         )
-        run(anew, PURGE)
+        run_script(anew, PURGE)
         tells("the oldest moved among the spent, without a printout", "", said_of(anew))
-        unknown = "not examined: whether the printout of number 2 is genuine, because its entry was purged"
-        tells("with a paper of one of them", unknown, said_of(anew, "--known", "2", digests[2]))
+        unknown = "not examined: whether the printout of number 2 is genuine, "
+        unknown += "because its entry was purged"
+        tells("with a paper of one of them", unknown, said_of(anew, *known(digests, 2)))
         tells("with a false paper of one of them", unknown, said_of(anew, "--known", "2", ZEROS))
         chained_anew(anew, 5)
-        write_newest(anew, 8, digest_in(anew, 8))
+        write_whole_witness(anew)
         tells(
             "with the last of them, to which what stands isn't chained",
             "number 4 isn't chained to the known number 3",
-            said_of(anew, "--known", "3", digests[3]),
+            said_of(anew, *known(digests, 3)),
         )
 
     def test_newest_entries_removed(self) -> None:
-        folder, kept, digests = self.box, self.kept, self.digests
-        newest = f"{folder}/newest.db"
-        copy_journal(kept, newest)
-        run(newest, "DELETE FROM journal WHERE number > 6")
+        newest = self.copy("newest.db")
+        change(newest, "DELETE FROM journal WHERE number > 6")
         tells(
             "the newest entries removed, with their witness",
             f"number 8 is the newest that {newest}-newest recorded, but the greatest number is 6",
             said_of(newest),
         )
-        write_newest(newest, 6, digests[6])
+        write_newest(newest, 6, self.digests[6])
         tells("the newest entries removed, with a new witness", "", said_of(newest))
         tells(
             "with an older export that has them",
             "the known number 7 is missing (and 1 more): it was removed",
-            said_of(newest, "--against", f"{folder}/export.csv"),
+            said_of(newest, "--against", self.export),
         )
-        tells(
-            "no export",
-            "REFUSED",
-            said_of(kept, "--against", kept).replace(f"verify.py: {kept}: ", "REFUSED "),
-        )
+        tells("no export", "REFUSED", said_of(self.kept, "--against", self.kept))
 
     def test_printouts(self) -> None:
-        show_papers(self.box, self.kept, self.digests)
-        show_known(self.box, self.kept, self.digests)
+        """Printouts of purged entries, and two digests of one number: an export, a second printout or neither must not hide the false one."""
+        kept, digests, purged = self.kept, self.digests, self.copy("purged.db")
+        run_script(purged, PURGE)
+        both = f"has different digests in --known and {self.export}: one of them is false"
+        for what, path, number, digest, wanted in (
+            ("a paper of a purged entry", purged, "2", digests[2], ""),
+            ("a false paper of a purged entry", purged, "2", ZEROS, f"number 2 {both}"),
+            ("a false paper of a stored entry", kept, "7", ZEROS, f"number 7 {both}"),
+        ):
+            said = said_of(path, "--known", number, digest, "--against", self.export)
+            tells(f"{what}, and an export that has it", wanted, said)
+        right, false = known(digests, 7), ["--known", "7", ZEROS]
+        wanted = "number 7 has different digests in --known and --known: one of them is false"
+        tells("two papers of one number", wanted, said_of(kept, *right, *false))
+        tells("two papers of one number", wanted, said_of(kept, *false, *right))
+        wanted = "number 7 doesn't have the known digest"
+        tells("a false paper, and no export", wanted, said_of(kept, *false))
+        self.show_known()
+
+    def show_known(self) -> None:
+        """Show all that the readers print about printouts and exports, even if each of them is genuine."""
+        digests, against = self.digests, ["--against", self.export]
+
+        def is_said(what: str, wanted: str, *words: str) -> None:
+            it = said_by_both(second(), [path, *words])
+            found = (it.stdout or it.stderr).decode().replace(self.box, "")
+            if found != f"{wanted}\n":
+                differs(what, wanted, found)
+            ok(what)
+
+        for (script, right, false), wanted in KNOWN.items():
+            path = self.copy("known.db")
+            run_script(path, script)
+            words = known(digests | dict.fromkeys(false, ZEROS), *right, *false)
+            is_said(f"known: {[*right]} right, {[*false]} not; {script}f", wanted, *words)
+        # digests were computed again after 7 was printed and before 8 was: the printout of 7 is genuine, and must not be called false
+        path = self.copy("known.db")
+        chained_anew(path, 5)
+        is_said(
+            "a printout from before a change, and one that the service made after it",
+            other(7, " after number 4", before=8)
+            + "number 4 has the known digest\nnumber 8 has the known digest\nentries: 8, faults: 1",
+            *known(digests | {8: write_whole_witness(path)}, 4, 7, 8),
+        )
+        path, stored = self.copy("known.db"), "digests are those of stored entries"
+        wanted = f"/export.csv: 8 of 8 {stored}\nentries: 8, faults: 0"
+        is_said("an export that fits, named twice", wanted, *against, *against)
+        run_script(path, PURGE)
+        is_said(
+            "a printout of a purged entry, and an export that has it",
+            "number 2 was purged, and /export.csv has its known digest\n"
+            f"/export.csv: 5 of 8 {stored}\nentries: 5, faults: 0",
+            *known(digests, 2),
+            *against,
+        )
+        change(path, f"{HEAVIER} 5")
+        is_said(
+            "an export of an entry that was changed, and kept its digest",
+            f"number 5 doesn't fit its digest\n/export.csv: 4 of 8 {stored}\nentries: 5, faults: 1",
+            *against,
+        )
+        os.remove(path)
+        make_journal(path, 8, version=1)
+        write_newest(path, 8, ZEROS)
+        is_said(
+            "a journal of version 1, whose entries aren't chained",
+            other(7, f" before number 8{OLDEST}")
+            + "number 8 has the known digest\nentries: 8, faults: 1",
+            *known({8: rows_of(path)[-1][10], 7: ZEROS}, 8, 7),
+        )
+        wanted = "type all 64 of 0 to 9 and a to f, in small letters and without blanks"
+        for digest, what in (
+            (digests[3].upper(), "a character that no digest has"),
+            (digests[3][:4] + " " + digests[3][4:], "65 characters"),
+            (digests[3][:62] + "é", "63 characters"),
+            (digests[3][:63] + "é", "a character that no digest has"),
+        ):
+            said = f"verify.py: /known.db: --known: the digest of number 3 has {what}: {wanted}"
+            is_said(f"a digest with {what}", said, "--known", "3", digest)
 
     def test_witnesses(self) -> None:
-        show_witnesses(self.box, self.kept, self.digests)
+        """Show what the reader says about each kind of `-newest` file, the witness."""
+        path, digests = self.copy("witness.db"), self.digests
+        whole, seventh = newest_line(8, digests[8]), newest_line(7, digests[7])
+        torn = whole.replace("newest 0000000008", "newest 0000000009")
+        unknown = f"not examined: whether entries are missing at the end, because {path}-newest"
+        one_line, behind = f"{unknown} has only one whole line", f"{unknown} names number"
+        ahead = f"is the newest that {path}-newest recorded, but the greatest number is 8"
+        changed = f"number 8 differs from the entry that {path}-newest recorded"
+        os.remove(f"{path}-newest")
+        tells("a journal whose witness is missing", f"{unknown} isn't there", said_of(path))
+        for what, letters, wanted in (
+            ("is empty", "", f"{unknown} is empty"),
+            ("is torn in both lines", torn * 2, f"{unknown} has no whole line"),
+            ("is torn in its first line", torn + whole, one_line),
+            ("is torn in its second line", whole + torn, one_line),
+            ("is cut to a line", whole, one_line),
+            ("is torn in one line and behind", seventh + torn, f"{behind} 7"),
+            ("is behind", 2 * newest_line(3, digests[3]), f"{behind} 3"),
+            ("is a new journal's", 2 * newest_line(0, ZEROS), f"{behind} 0"),
+            ("names its last two entries", whole + seventh, ""),
+            ("has a number without a digest", 2 * newest_line(8, ZEROS), ""),
+            ("is ahead", whole + newest_line(9, digests[8]), f"number 9 {ahead}"),
+            ("is ahead by many", 2 * newest_line(60, digests[8]), f"number 60 {ahead}"),
+            ("has another entry", 2 * newest_line(8, digests[7]), changed),
+        ):
+            Path(f"{path}-newest").write_text(letters, encoding="ascii")
+            tells(f"one whose witness {what}", wanted, said_of(path))
+        write_newest(path, 8, digests[8])
+        os.symlink(path, f"{self.box}/link.db")
+        tells("a symbolic link to a journal", "", said_of(f"{self.box}/link.db"))
 
     def test_logs(self) -> None:
-        show_logs(self.box)
+        files = with_log(f"{self.box}/logged.db", 6)
+        log = files["-wal"]
+        page = int.from_bytes(log[8:12], "big")
+        borders = range(32, len(log) + 1, 24 + page)
 
-    def test_journal_that_was_being_made(self) -> None:
-        show_unmade(self.box)
+        def said(log: bytes | None) -> str:
+            return self.said_of_files(files | {"-wal": log})
+
+        tells("a journal whose entries are only in the log", "", said(log))
+        ends = [at for at in borders[1:] if any(log[at - page - 20 : at - page - 16])]
+        newest = "number 6 is the newest that files.db-newest recorded"
+        lost = f"{newest}, but the greatest number is {{}}, so the last answered entries are gone"
+        for at in borders[:-1]:
+            wanted = lost.format(sum(it <= at for it in ends)) + "\n"
+            tells(f"its log cut at byte {at}, the end of a frame", wanted, said(log[:at]))
+        for at in (0, 20, 31, borders[0] + 10, borders[1] - 1, borders[-2] + 24, len(log) - 1):
+            tells(f"its log cut at byte {at}, within a frame", newest, said(log[:at]))
+        elsewhere = "in files.db-wal, which isn't there: copy all files of the journal\n"
+        gone = f"{lost.format(0)}; or they are {elsewhere}"
+        tells("its log is gone", gone, said(None))
+        bare = f"{self.box}/bare.db"
+        sqlite3.connect(bare).close()
+        write_newest(bare, 6, ZEROS)
+        no_table = "not examined: whether this is a journal, because it has none of the tables"
+        wanted = f"{gone}{no_table}; they may be {elsewhere}"
+        tells("no table, and no log", wanted, said_of(bare).replace(bare, "files.db"))
+        unknown = "not examined: whether entries are missing at the end, because files.db-newest"
+        tells("only the file", f"{unknown} isn't there", self.said_of_files({"": files[""]}))
+        found = self.said_of_files(files | {"-newest": None})
+        tells("only the file and its log", "not examined: whether", found)
+        for bit in (0, 7, 8 * 5, 8 * 9 + 4, 8 * 16, 8 * 20 + 3, 8 * 24, 8 * 31 + 7):
+            found = said(turned(log, bit))
+            wanted = "files.db-wal: its header is damaged"
+            tells(f"bit {bit} of the log's header is flipped", wanted, found)
+        for number, at in enumerate(borders[:-1]):
+            wanted = f"files.db-wal: it is damaged, in the frame from byte {at}: no entry in it "
+            wanted += f"is read, nor in the {len(borders) - 2 - number} frames behind it"
+            for part, inside in (
+                ("page number", 3),
+                ("size", 7),
+                ("salt", 9),
+                ("second salt", 15),
+                ("checksum", 17),
+                ("page", 24),
+                ("page", 24 + 1500),
+                ("page", 24 + page - 1),
+            ):
+                found = said(turned(log, 8 * (at + inside) + 5))
+                tells(f"a bit of the {part} of the frame from byte {at} is flipped", wanted, found)
+        stale = with_log(f"{self.box}/restarted.db", 6, is_restarted=True)
+        older = stale["-wal"]
+        same_salts = {
+            older[at + 8 : at + 16] == older[16:24] for at in range(32, len(older), 24 + page)
+        }
+        found = "" if same_salts == {True, False} else "it has not"
+        tells("the log has frames of its own and of an older one", "", found)
+        found = self.said_of_files(stale)
+        tells("frames that an older log left are no damage", "", found)
+        emptied = files | {"": bytes(len(files[""])), "-wal": turned(log, 8 * 9)}
+        tells(
+            "a damaged log without whose entries the file is no journal",
+            "REFUSED files.db-wal: its header is damaged",
+            self.said_of_files(emptied),
+        )
+        found = self.said_of_files(stale | {"-wal": turned(older, 8 * (32 + 24 + 700))})
+        wanted = "files.db-wal: it is damaged, in the frame from byte 32"
+        tells("but a flipped bit before them is", wanted, found)
+        another = with_log(f"{self.box}/other.db", 9, age=3600)["-wal"]
+        wanted = "number 6 differs from the entry that files.db-newest recorded"
+        tells("the log of another journal", wanted, said(another))
+        found = self.said_of_files(files | {"": b""})
+        wanted = "files.db-wal: the journal next to it is empty"
+        tells("a journal that was cut to nothing, with its log", wanted, found)
 
     def test_pages(self) -> None:
-        show_pages(self.box)
+        """Show that a journal has the pages that its header and its log name, as the program wants it."""
+        path = f"{self.box}/paged.db"
+        make_journal(path, 6)
+        data = Path(path).read_bytes()
+        logged = with_log(f"{self.box}/paged_log.db", 6)
+        whole, log = logged[""], logged["-wal"]
+        page = int.from_bytes(data[16:18], "big")
+        count, there = len(data) // page, len(whole) // page
+        # the version of a program is a number in the first page
+        database = open_with_log(path)
+        database.execute("PRAGMA user_version = 7")
+        beside, first_page = Path(path).read_bytes(), Path(f"{path}-wal").read_bytes()
+        database.close()
+        other_data, other_beside, other_whole = (
+            it[:92] + b"abcd" + it[96:] for it in (data, beside, whole)
+        )
+        refuses = "so the program refuses it"
+        pages = f"files.db: its header names {{}} pages, and it has {{}}, {refuses}"
+        one_more = pages.format(count, count + 1)
+        torn = f"files.db: its page {there} isn't whole, {refuses}"
+        changed = f"files.db: bytes 92 to 95 of its header aren't bytes 24 to 27, {refuses}"
+        for what, main_file, wal, wanted in (
+            ("a page more", data + bytes(page), None, one_more),
+            ("bytes behind the last page", data + b"x", None, ""),
+            ("a byte less", data[:-1], None, pages.format(count, count - 1)),
+            ("no number of pages", data[:28] + bytes(4) + data[32:], None, pages.format(0, count)),
+            ("another last change", other_data, None, changed),
+            ("its log", whole, log, ""),
+            ("a page more, and its log", whole + bytes(page), log, ""),
+            ("a byte less, and its log", whole[:-1], log, torn),
+            (
+                "another last change, and a log that has the first page",
+                other_beside,
+                first_page,
+                "",
+            ),
+            ("another last change, and its log", other_whole, log, changed),
+            ("a page more, and a log that was shut", data + bytes(page), bytes(60), one_more),
+        ):
+            found = self.said_of_files({"": main_file, "-wal": wal})
+            told = "".join(f"{it}\n" for it in found.splitlines() if refuses in it)
+            if told != (wanted and f"{wanted}\n"):
+                differs(f"a journal with {what}", wanted, found)
+            ok(f"a journal with {what}")
+
+    def test_journal_that_was_being_made(self) -> None:
+        """Show what both readers say of a journal that a power cut left while the program made it, and of files that are nearly such."""
+        head = struct.pack(">4I", 0x377F0682, 3007000, 4096, 2**32 - 1) + bytes(range(1, 9))
+        begun = head + struct.pack(">2I", *checksum("<", (0, 0), head))
+        counted = begun[:12] + bytes(4) + begun[16:24]
+        counted += struct.pack(">2I", *checksum("<", (0, 0), counted))
+        with_room, entries = begun + bytes(9_000), with_log(f"{self.box}/made.db", 3)["-wal"]
+        for what, file, log, is_unmade in (
+            ("a page of zeros next to a log that was begun", bytes(4096), begun, True),
+            ("its log has zeros, too", bytes(4096), begun + bytes(9), True),
+            ("its log has room for a frame", bytes(4096), with_room, True),
+            ("a part of the page", bytes(100), begun + bytes(9), True),
+            ("a byte of the page", b"\0", begun, True),
+            ("a byte, and no log", b"S", None, True),
+            ("all but the first byte", b"\0QLite format 3" + bytes(4081), begun, True),
+            ("zeros, and no log", bytes(4096), None, False),
+            ("zeros, and a log of zeros", bytes(4096), bytes(41), False),
+            ("zeros, and a cut header", bytes(4096), begun[:31], False),
+            ("zeros, and a header after a checkpoint", bytes(4096), counted, False),
+            ("more than a page of zeros", bytes(4097), begun, False),
+            ("a page with another first byte", b"x" + bytes(4095), begun, False),
+            ("a part of the page, and a log with room for a frame", bytes(100), with_room, False),
+            ("zeros, and a log with entries", bytes(4096), entries, False),
+        ):
+            found = self.said_of_files({"": file, "-wal": log})
+            none = "not examined: whether this is a journal, because it has none of the tables"
+            if found.startswith(none) != is_unmade:
+                differs(f"a journal that was being made: {what}", is_unmade, found)
+            ok(f"a journal that was being made: {what}")
 
     def test_what_a_power_cut_leaves(self) -> None:
-        show_what_a_power_cut_leaves()
+        """Show that a power cut's changes to the last commit are no damage, and that other changes are.
+
+        A power cut takes bytes of the last commit, which are 0 then, because the service wrote it over zeros.
+
+        Each row has a name, the place, the new bytes (None cuts the log there), and the number of the frame that the reader names. -1 stands for the
+        header, and None for no damage.
+        """
+        whole, frame = service_log(), FRAMES
+        older, gates = b"\x07\x01\x02\x02abcd", (frame[4] + 8, frame[5] + 8)
+        rows: list[Row] = [
+            ("nothing", 0, b"", None),
+            ("a byte of the header", 5, b"\x09", -1),
+            ("a salt of the header", 16, b"\x08", -1),
+            ("a header that a checkpoint shut", 0, b"\0", None),
+            ("a header's first byte", 0, b"\x01", -1),
+            ("a page behind which commits stand", frame[0] + 224, b"\x09", 0),
+            ("a checksum behind which commits stand", frame[1] + 20, b"\x09", 1),
+            ("bytes lost of a commit behind which another stands", frame[3] + 224, bytes(9), 3),
+            ("a gate that is shut before a commit that is open", frame[2] + 8, b"\0", 2),
+            ("a gate that is damaged", frame[2] + 8, b"\x06", 2),
+            ("a salt lost before a commit that is open", frame[2] + 8, bytes(8), 2),
+            ("a lost frame of a commit of two syncs", frame[0], bytes(FRAME), 0),
+            ("another lost frame of it", frame[1], bytes(FRAME), 1),
+            ("a lost frame that counts, before another commit", frame[2], bytes(FRAME), 2),
+            ("a lost end of a commit before another", frame[3], bytes(FRAME), 3),
+            ("a lost commit before another", frame[2], bytes(2 * FRAME), 2),
+            ("a commit of two syncs, shut before others", frame[0] + 8, b"\0", 0),
+            ("the last frame shut", frame[5] + 8, b"\0", None),
+            ("one salt of the last frame is another", frame[5] + 9, b"\x09\x09\x09", 5),
+            ("the last commit shut", frame[4] + 8, b"\0", None),
+            ("the last commit lost", frame[4], bytes(2 * FRAME), None),
+            ("its last frame lost", frame[5], bytes(FRAME), None),
+            ("bytes of its page lost", frame[5] + 224, bytes(9), None),
+            ("a byte of its checksum lost", frame[5] + 16, b"\0", None),
+            ("its count lost", frame[4] + 24, bytes(8), None),
+            ("another byte in its page", frame[5] + 224, b"\x09", 5),
+            ("another byte in its salt", frame[5] + 9, b"\x09", 5),
+            ("another byte in its number", frame[4] + 3, b"\x01", 4),
+            ("another byte in its count", frame[4] + 24, b"\x01", 4),
+            ("the end of the file within a frame", frame[5] + 500, None, None),
+            ("a frame of a log before this one at the end", frame[4] + 8, older, 4),
+            ("frames of a log before this one at the end", gates, older, None),
+        ]
+        in_spilled: list[Row] = [
+            ("nothing", 0, b"", None),
+            ("its shut gate", frame[2] + 8, b"\0", None),
+            ("its lost first frame", frame[2], bytes(FRAME), None),
+            ("a shut frame within its first commit", frame[3] + 8, b"\0", 3),
+            ("a lost frame before it", frame[1], bytes(FRAME), 1),
+            ("salts of a log before this one", frame[2] + 8, older, 2),
+        ]
+        # frames of a transaction that was never opened, behind the zeros of the last commit or within them
+        spilled = service_log(True)
+        behind = 2 * spilled[frame[2] : frame[4]]
+        far, near = (whole + bytes(frame[4] + it * FRAME - len(whole)) + behind for it in (600, 60))
+        page = frame[5] + 224
+        places = {None: "", -1: "header is damaged"}
+        places |= {number: f"from byte {it}:" for number, it in enumerate(frame)}
+        for log, what, at, new, wanted in [
+            (far, "a page lost before frames that weren't opened", page, bytes(9), None),
+            (far, "a last commit lost before them", frame[4], bytes(2 * FRAME), None),
+            (far, "another byte before them", page, b"\x09", 5),
+            (near, "a page lost within its zeros before them", page, bytes(9), 5),
+            *((whole, *it) for it in rows),
+            *((spilled, f"a transaction that didn't fit, {it[0]},", *it[1:]) for it in in_spilled),
+        ]:
+            data = bytearray(log)
+            for place in at if isinstance(at, tuple) else (at,):
+                data[place : None if new is None else place + len(new)] = new or b""
+            found = Log(bytes(data)).damage(FILE)
+            if (found is None) != (wanted is None) or places[wanted] not in (found or ""):
+                differs(f"{what} in a log of the service", wanted, found)
+            # next to a file that is no database, so that both say what they find in the log
+            write_files(f"{self.box}/service.db", {"": bytes(FILE), "-wal": bytes(data)})
+            said_by_both(second(), [f"{self.box}/service.db"])
+            ok(f"{what} in a log of the service")
+        for size, length, is_damaged in (
+            (0, len(whole), True),
+            (511, len(whole), True),
+            (0, 56, True),
+            (0, 55, True),
+            (0, 31, False),
+            (FILE, 55, False),
+        ):
+            if (Log(whole[:length]).damage(size) is not None) != is_damaged:
+                what = f"a log of {length} bytes with a file of {size}"
+                differs(what, is_damaged, not is_damaged)
+        # a right header counts without a file, whatever length of a page it names
+        odd = struct.pack(">4I", 0x377F0682, 3007000, 100, 0) + SALTS
+        odd += struct.pack(">2I", *checksum("<", (0, 0), odd)) + bytes(9)
+        if Log(odd).damage(0) is None:
+            differs("a right header with an odd length of a page, without a file", True, False)
+        write_files(f"{self.box}/odd.db", {"": b"", "-wal": odd})
+        if said_by_both(second(), [f"{self.box}/odd.db"]).returncode == 0:
+            differs("both verifiers, of a right header without a file", "refused", "accepted")
+        ok("a log with a file that was cut")
+
+    def mended(
+        self, files: Mapping[str, bytes | None], program: str | None = None
+    ) -> tuple[int, str, bytes | None]:
+        """Run inspect/mend_log.py. Return its status, what it prints, and the log that it makes, or None if it makes none."""
+        path, copy = f"{self.box}/only/damaged.db", f"{self.box}/repaired"
+        write_files(path, files)
+        before = bytes_below(f"{self.box}/only")
+        words = [sys.executable, f"{TOP}/inspect/mend_log.py", path, copy]
+        words += ["--program", program] if program else []
+        env = {**os.environ, "PATH": "/nowhere"}
+        it = subprocess.run(words, capture_output=True, text=True, timeout=300, env=env)
+        if before != (after := bytes_below(f"{self.box}/only")):
+            differs("the files were changed in place", before, after)
+        log = None
+        if os.path.exists(copy):
+            log = Path(copy, "damaged.db-wal").read_bytes()
+            shutil.rmtree(copy)
+        return it.returncode, it.stdout + it.stderr, log
 
     def test_mending(self) -> None:
-        show_mending(self.box)
+        """Show which flipped bits inspect/mend_log.py finds, and what it says is still wrong."""
+        files = with_log(f"{self.box}/mending.db", 6)
+        log = files["-wal"]
+        page = int.from_bytes(log[8:12], "big")
+        frame = [32 + it * (24 + page) for it in range((len(log) - 32) // (24 + page))]
+        bit_in = {it: 8 * (at + 24 + 1700) + it % 8 for it, at in enumerate(frame)}
+        for what, bits in (
+            ("a flipped bit", [bit_in[2]]),
+            ("one in the header", [8 * 9 + 4]),
+            ("one in the last frame", [bit_in[len(frame) - 1]]),
+            ("one in the salt", [8 * (frame[3] + 9) + 1]),
+            ("one in a checksum", [8 * (frame[3] + 18) + 1]),
+            ("two, in frames far from each other", [bit_in[1], bit_in[6]]),
+            ("two, in frames side by side", [bit_in[4], bit_in[5]]),
+            ("three, and one in the header", [8 * 5, bit_in[0], bit_in[1], bit_in[7]]),
+        ):
+            damaged = functools.reduce(turned, bits, log)
+            status, said, found = self.mended(files | {"-wal": damaged})
+            if (status, found) != (0, log) or said.count(" was flipped: ") != len(bits):
+                differs(f"{what} is repaired", 0, (status, said))
+            ok(f"repaired: {what}")
+        damaged = turned(log, bit_in[2])
+        refuses, takes = (played_program(self.box, it) for it in ("refuses", "takes"))
+        missing = "/nowhere/weighbridge"
+        ahead = newest_line(7, rows_of(f"{self.box}/mending.db-made")[-1][10]).encode() * 2
+        twice = turned(damaged, bit_in[2] + 800)
+        behind = turned(turned(damaged, bit_in[5]), bit_in[5] + 800)
+        wrong, nothing = "still wrong:", "nothing was written:"
+        lacks = f"{wrong} number 7 is the newest that the copy-newest recorded"
+        lacks += ", but the greatest number is 6"
+        refused = f"{wrong} {refuses} check --file {self.box}/repaired/damaged.db: store 2 disk"
+        not_run = f"{wrong} {missing} can't be run"
+        in_frame = f"{nothing} in the frame from byte"
+        whole = f"{nothing} no frame of the log is damaged"
+        cut = f"{nothing} 1 flipped bits are found, and the program still refuses the log: "
+        cut += "the journal next to it is empty or was cut"
+        empty = f"{nothing} the journal's file is missing or empty"
+        not_mended: list[tuple[str, dict[str, bytes], str | None, str]] = [
+            ("a copy that lacks an answered entry", {"-newest": ahead}, None, lacks),
+            ("a copy that the program refuses", {}, refuses, refused),
+            ("a copy for which there is no such program", {}, missing, not_run),
+            ("two bits in one frame", {"-wal": twice}, None, in_frame),
+            ("two in one frame behind one that is repaired", {"-wal": behind}, None, in_frame),
+            ("a log that isn't damaged", {"-wal": log}, None, whole),
+            ("a log that was cut at the end of a frame", {"-wal": log[: frame[4]]}, None, whole),
+            ("a log that was cut within a frame", {"-wal": log[: frame[4] + 99]}, None, whole),
+            ("a file that was cut below a page", {"": files[""][:99]}, None, cut),
+            ("a file that was cut to nothing", {"": b""}, None, empty),
+        ]
+        for what, given, program, wanted in not_mended:
+            status, said, found = self.mended(files | {"-wal": damaged} | given, program)
+            # a copy is made although something is still wrong with it
+            is_made = wanted.startswith(wrong)
+            if status != 1 or wanted not in said or (found is not None) != is_made:
+                seen = (status, said, found is not None)
+                differs(f"{what} isn't a repaired one", (1, wanted, is_made), seen)
+            ok(f"not repaired: {what}")
+        status, said, found = self.mended(files | {"-wal": damaged}, takes)
+        if (status, found) != (0, log):
+            differs("a copy that the program takes", 0, (status, said))
+        status, said, found = self.mended(files | {"-wal": None})
+        if (status, found) != (2, None) or "damaged.db-wal: No such file" not in said:
+            differs("a log that is gone", 2, (status, said))
+        ok("a copy that the program takes, and a log that is gone")
 
     def test_odd_exports_numbers_and_fields(self) -> None:
         show_odd_exports(second(), self.box, self.kept, self.digests[3])

@@ -14,9 +14,19 @@ from collections.abc import Callable
 from pathlib import Path
 
 import verify
-from checks.lib.journal import TABLES, ZEROS, digest_of, newest_line, write_newest
+from checks.lib.journal import (
+    TABLES,
+    ZEROS,
+    change,
+    digest_of,
+    newest_line,
+    rows_of,
+    run_script,
+    write_newest,
+    write_rows,
+)
 from checks.lib.showing import NAME, fail, same
-from checks.lib.verdict import ENDINGS, files_of, verdict_of
+from checks.lib.verdict import files_of, verdict_of, write_files
 
 TOP = Path(__file__).resolve().parent.parent.parent
 SOURCE = TOP / "inspect" / "verify.c"
@@ -34,12 +44,8 @@ def lacking() -> str:
     if shutil.which("cc") is None:
         return "cc is not installed"
     for header, package in (("sqlite3.h", "libsqlite3-dev"), ("openssl/evp.h", "libssl-dev")):
-        it = subprocess.run(
-            ["cc", "-E", "-x", "c", "-"],
-            input=f"#include <{header}>",
-            capture_output=True,
-            text=True,
-        )
+        words, included = ["cc", "-E", "-x", "c", "-"], f"#include <{header}>"
+        it = subprocess.run(words, input=included, capture_output=True, text=True)
         if it.returncode != 0:
             return f"{package} is not installed"
     return ""
@@ -120,25 +126,18 @@ def make_mixed_journal(path: str, spent: int) -> None:
     rows += [("void", "CD-34", None, None), ("first", "CD-34", 9000, None)]
     rows += [("second", "CD-34", 12000, None), ("first", "EF-56", 20000, None)]
     previous = ZEROS
-    database = sqlite3.connect(path)
-    database.executescript(TABLES)
+    made: list[tuple[object, ...]] = []
     for number, (kind, plate, gross, preset) in enumerate(rows, 1):
         key, moment = f"K{number}", 1741593600 + 60 * number
         shown = ["-" if it is None else it for it in (gross, preset)]
         digest = digest_of(number, key, kind, plate, moment, *shown, previous=previous)
         row = (number, key, KINDS.index(kind) + 1, plate, moment, gross, preset, 20, 60000)
-        if number <= spent:
-            database.execute("INSERT INTO spent VALUES (?, ?)", (key, number))
-        else:
-            database.execute(
-                f"INSERT INTO journal VALUES ({','.join('?' * 12)})",
-                (*row, "WB01", digest, previous),
-            )
+        made.append((*row, "WB01", digest, previous))
         previous = digest
-    database.commit()
-    database.close()
-    with open(f"{path}-newest", "w", encoding="ascii") as file:
-        file.write(newest_line(len(rows), previous) + newest_line(len(rows) - 1, ZEROS))
+    write_rows(path, made[spent:])
+    change(path, *(f"INSERT INTO spent VALUES ('{it[1]}', {it[0]})" for it in made[:spent]))
+    witness = newest_line(len(rows), previous) + newest_line(len(rows) - 1, ZEROS)
+    Path(f"{path}-newest").write_text(witness, encoding="ascii")
 
 
 def export_to(journal: str, path: str) -> None:
@@ -195,10 +194,9 @@ def show_damage_by_chance(
     for _ in range(ROUNDS):
         files = dict(chance.choice(bases))
         hit = chance.choice([*files, *files, "export", "export"])
-        for end in ENDINGS:
-            Path(path + end).unlink(missing_ok=True)
-        for end, data in files.items():
-            Path(path + end).write_bytes(changed(data, chance) if end == hit else data)
+        if hit in files:
+            files[hit] = changed(files[hit], chance)
+        write_files(path, files)
         Path(spoilt).write_bytes(changed(whole, chance) if hit == "export" else whole)
         words = [path, "--against", spoilt] if chance.random() < 0.6 or hit == "export" else [path]
         for number in chance.sample(range(1, 10), chance.randint(0, 3)):
@@ -213,6 +211,7 @@ def show_damage_by_chance(
 def show_odd_exports(second: Second, folder: str, journal: str, digest: str) -> None:
     """Show that both verifiers read exports alike: quotes, line ends, columns in another order, and what is no export."""
     path = f"{folder}/odd.csv"
+    two_digests = f"number,digest\n3,{digest}\n3,{ZEROS}\n"
     for what, data, status in (
         ("an empty export", b"", 2),
         ("an empty first line", b"\nnumber,digest\n", 2),
@@ -244,18 +243,11 @@ def show_odd_exports(second: Second, folder: str, journal: str, digest: str) -> 
         ("a field of 131,072 letters", f"number,digest,a\n3,{digest},{'é' * 131072}".encode(), 0),
         ("a field of 131,073 letters", f"number,digest,a\n3,{digest},{'é' * 131073}".encode(), 2),
         ("one entry twice", f"number,digest\n3,{digest}\n3,{digest}\n".encode(), 0),
-        (
-            "one entry twice, with two digests",
-            f"number,digest\n3,{digest}\n3,{ZEROS}\n".encode(),
-            1,
-        ),
+        ("one entry twice, with two digests", two_digests.encode(), 1),
     ):
         Path(path).write_bytes(data)
-        same(
-            f"an export: {what}",
-            status,
-            said_by_both(second, [journal, "--against", path]).returncode,
-        )
+        found = said_by_both(second, [journal, "--against", path]).returncode
+        same(f"an export: {what}", status, found)
 
 
 def show_odd_numbers(second: Second, journal: str, digest: str) -> None:
@@ -269,6 +261,7 @@ def show_odd_fields(second: Second, folder: str) -> None:
     """Show that both verifiers judge odd fields alike: bytes that aren't UTF-8, zero bytes, the limits of numbers, and numbers that are texts."""
     path = f"{folder}/odd.db"
     long = "cast(x'" + "c3a9" * 32 + "' AS TEXT)"
+    letters = "replace(hex(zeroblob(17)), '0', 'a')"
     for script, status in (
         ("UPDATE journal SET plate = cast(x'4142ff' AS TEXT) WHERE number = 2", 1),
         ("UPDATE journal SET plate = 'AB' || char(0) WHERE number = 2", 1),
@@ -290,10 +283,7 @@ def show_odd_fields(second: Second, folder: str) -> None:
         ("UPDATE journal SET serial = '12345678901234567' WHERE number = 1", 1),
         ("UPDATE journal SET plate = 'ABCDEFGHIJKLM' WHERE number = 1", 1),
         ("UPDATE journal SET plate = '' WHERE number = 1", 1),
-        (
-            "UPDATE journal SET request_key = replace(hex(zeroblob(17)), '0', 'a') WHERE number = 1",
-            1,
-        ),
+        (f"UPDATE journal SET request_key = {letters} WHERE number = 1", 1),
         ("UPDATE journal SET number = 9223372036854775807 WHERE number = 8", 1),
         ("UPDATE journal SET number = -9223372036854775808 WHERE number = 1", 1),
         ("UPDATE journal SET number = 4294967296 WHERE number = 8", 1),
@@ -312,13 +302,10 @@ def show_odd_fields(second: Second, folder: str) -> None:
         ("DROP TABLE journal; DROP TABLE spent; ALTER TABLE about RENAME TO open_weighing", 2),
         ("PRAGMA page_size = 512; VACUUM", 0),
     ):
-        for end in ("", "-newest"):
-            Path(path + end).unlink(missing_ok=True)
+        write_files(path, {})
         make_mixed_journal(path, 0)
         digest = write_whole_witness(path)
-        database = sqlite3.connect(path)
-        database.executescript(script.replace("'a' || char(27)", '"a\x1b"'))
-        database.close()
+        run_script(path, script.replace("'a' || char(27)", '"a\x1b"'))
         same(script, status, said_by_both(second, [path, "--known", "8", digest]).returncode)
     for encoding in ("UTF-16le", "UTF-16be"):
         Path(path).unlink()
@@ -328,14 +315,9 @@ def show_odd_fields(second: Second, folder: str) -> None:
 
 def write_whole_witness(path: str) -> str:
     """Write the witness as a start does, and return the newest digest."""
-    database = sqlite3.connect(path)
-    ((number, digest),) = database.execute(
-        "SELECT number, digest FROM journal ORDER BY number DESC LIMIT 1"
-    ).fetchall()
-    database.close()
+    number, digest = rows_of(path, "SELECT number, digest FROM journal ORDER BY number")[-1]
     write_newest(path, number, digest)
-    assert isinstance(digest, str)
-    return digest
+    return str(digest)
 
 
 def make_encoded(path: str, encoding: str) -> None:
@@ -343,14 +325,6 @@ def make_encoded(path: str, encoding: str) -> None:
     made = f"{path}-made"
     make_mixed_journal(made, 0)
     write_whole_witness(made)
-    rows = sqlite3.connect(made)
-    content = rows.execute("SELECT * FROM journal").fetchall()
-    rows.close()
-    database = sqlite3.connect(path)
-    database.execute(f"PRAGMA encoding = '{encoding}'")
-    database.executescript(TABLES)
-    database.executemany(f"INSERT INTO journal VALUES ({','.join('?' * 12)})", content)
-    database.commit()
-    database.close()
+    write_rows(path, rows_of(made), f"PRAGMA encoding = '{encoding}'; {TABLES}")
     os.replace(f"{made}-newest", f"{path}-newest")
     os.remove(made)

@@ -4,6 +4,7 @@ import os
 import re
 import sqlite3
 import tempfile
+from collections.abc import Mapping
 from pathlib import Path
 
 # The endings of the files that a verifier needs.
@@ -20,6 +21,14 @@ REFUSED = re.compile(
 
 def files_of(path: str) -> dict[str, bytes]:
     return {it: Path(path + it).read_bytes() for it in ENDINGS if os.path.exists(path + it)}
+
+
+def write_files(path: str, files: Mapping[str, bytes | None]) -> None:
+    """Write the files of a journal by their endings, and remove those that aren't given or are None."""
+    for it in ENDINGS:
+        Path(path + it).unlink(missing_ok=True)
+        if (data := files.get(it)) is not None:
+            Path(path + it).write_bytes(data)
 
 
 def verdict_of(path: str, said: str) -> str | None:
