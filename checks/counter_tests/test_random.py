@@ -216,7 +216,7 @@ class Random(AtTheCounter):
         self.holds("enough was asked", is_enough, said)
 
         def is_left() -> bool:
-            return self.bridge.state()["tare"] % 40 != 0
+            return bool(self.bridge.state()["tare"] % 40)
 
         # the counter may still work on a weighing whose client has given up
         self.becomes("no tare of a weighing is left", False, is_left, 30)
