@@ -332,7 +332,7 @@ class Metrics(OfficeCheck):
         office.told(
             "INSERT INTO head_office.acknowledgement (finding, note) SELECT finding, 'looked at' FROM head_office.open_finding"
         )
-        self.comes("  and its end, once somebody did", lambda: of_finding("RESOLVED"), 400)
+        self.comes("  and its end, once somebody did", lambda: of_finding("RESOLVED"), 100)
 
     def alerts(self, port: int) -> str:
         try:
